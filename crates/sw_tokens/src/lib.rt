@@ -1,6 +1,10 @@
 //! The text of a sheet as its one list of tokens, which every reader reads. Text flows in from `sw_text`; tokens, or the first string or `#{` that isn't closed, flow out.
 #![tactic(auto)]
 
+mod bytes;
+mod pieces;
+mod runs;
+mod scan;
 mod token;
 
 pub use token::{Fault10, Token, TokenKind};
