@@ -5,7 +5,7 @@ use Rattle.std.proofs.lemmas.Bool.Decides.{nat_tests}
 use Rattle.std.proofs.lemmas.Option.{slice_get_past}
 use Rattle.sw_tokens.specs.declared.runs.Class.{Class}
 use Rattle.sw_tokens.specs.declared.runs.Class.TheVariants as classes
-use Rattle.sw_tokens.specs.Bytes.{byte, byte_in, is_break, is_white, is_digit, is_letter, is_hex_digit, is_wide, starts_plainly, is_name_byte, is_url_byte, is_range_byte, opens_at}
+use Rattle.sw_tokens.specs.Bytes.{byte, byte_in, is_break, is_white, is_digit, is_letter, is_hex_digit, starts_plainly, is_name_byte, is_url_byte, is_range_byte, opens_at}
 use Rattle.sw_tokens.specs.Names.{hex_from, hex_end, white_end, escape_end, text_next, next, run_from, run_end, fraction_end, is_exponent, is_plus_or_minus, exponent_end, unit_end}
 
 lt_or_le : (a b : ℕ) → (a < b) ⊎ (b ≤ a)

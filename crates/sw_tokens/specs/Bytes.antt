@@ -1,5 +1,5 @@
 -- The bytes of a text, and the characters that matter to tokens.
-use Rattle.std.specs.Prelude.{ℕ, ◌+◌, List, Option, Some, None, slice_get, Bool, not, ◌&&◌, ◌||◌, ◌==◌, nat_lt, nat_le, if◌then◌else◌}
+use Rattle.std.specs.Prelude.{ℕ, ◌+◌, List, Option, Some, None, slice_get, Bool, not, ◌&&◌, ◌||◌, ◌==◌, nat_lt, nat_le}
 
 -- 256 stands for the end of the text
 abbrev pub byte_in : Option ℕ → ℕ

@@ -2,7 +2,7 @@
 use Rattle.std.specs.Prelude.{ℕ, zero, suc, ◌+◌, ◌-◌, List, length, Bool, not, ◌&&◌, ◌||◌, ◌==◌, nat_lt, if◌then◌else◌}
 use Rattle.sw_tokens.specs.declared.runs.Class.{Class}
 use Rattle.sw_tokens.specs.declared.runs.Class.TheVariants as classes
-use Rattle.sw_tokens.specs.Bytes.{byte, is_break, is_white, is_digit, is_letter, is_hex_digit, is_wide, starts_plainly, is_name_byte, is_url_byte, is_range_byte, opens_at}
+use Rattle.sw_tokens.specs.Bytes.{byte, is_break, is_white, is_digit, is_letter, is_hex_digit, starts_plainly, is_name_byte, is_url_byte, is_range_byte, opens_at}
 
 -- behind the hexadecimal digits from i on, of which n at most are taken
 abbrev pub hex_from : List ℕ → ℕ → ℕ → ℕ

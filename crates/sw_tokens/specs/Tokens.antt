@@ -1,5 +1,5 @@
 -- The tokens of a text.
-use Rattle.std.specs.Prelude.{ℕ, zero, suc, ◌+◌, ◌-◌, List, [], ◌∷◌, ◌++◌, Option, Some, None, slice_get, length, take, Bool, true, false, nat_lt, if◌then◌else◌, Result, Ok, Err}
+use Rattle.std.specs.Prelude.{◌≡◌, ℕ, zero, suc, ◌-◌, List, [], ◌∷◌, ◌++◌, Option, Some, None, slice_get, length, take, Bool, true, false, nat_lt, if◌then◌else◌, Result, Ok, Err}
 use Rattle.sw_text.specs.Places.{mark_length}
 use Rattle.sw_tokens.specs.declared.token.TokenKind.{TokenKind}
 use Rattle.sw_tokens.specs.declared.token.TokenKind.TheVariants as kinds
@@ -12,6 +12,8 @@ use Rattle.sw_tokens.specs.declared.pieces.Change.{Change}
 use Rattle.sw_tokens.specs.declared.pieces.Change.TheVariants as changes
 use Rattle.sw_tokens.specs.declared.pieces.Piece.{Piece}
 use Rattle.sw_tokens.specs.declared.scan.Opened.{Opened}
+use Rattle.sw_tokens.specs.declared.scan.ScanEnd.{ScanEnd}
+use Rattle.sw_tokens.specs.declared.scan.ScanEnd.TheVariants as ends
 use Rattle.sw_tokens.specs.Pieces.{piece}
 
 -- what is open, the innermost last
@@ -58,10 +60,18 @@ abbrev pub behind : List Token → Result (List Token) ℕ → Result (List Toke
 behind ts (Ok us) = Ok (ts ++ us)
 behind ts (Err k) = Err k
 
+-- where the outermost begins
+abbrev pub first_start : List Opened → Option ℕ
+first_start [] = None
+first_start (o ∷ os) = Some o.start
+
 -- at the end of the text nothing may be open
+abbrev pub finished_by : Option ℕ → Result (List Token) ℕ
+finished_by None = Ok []
+finished_by (Some start) = Err start
+
 abbrev pub finished : List Opened → Result (List Token) ℕ
-finished [] = Ok []
-finished (o ∷ os) = Err o.start
+finished os = finished_by (first_start os)
 
 -- one piece after another
 abbrev pub walk : List ℕ → ℕ → List Opened → Before → ℕ → Result (List Token) ℕ
@@ -80,3 +90,9 @@ rest bs os before at = walk bs (suc (length bs - at)) os before at
 -- the tokens in their order; one that a later token closes ends where it begins, as far as this tells
 unfoldable pub pieces_of : List ℕ → Result (List Token) ℕ
 pieces_of bs = rest bs [] befores.Other (mark_length bs)
+
+-- what a scan answers
+abbrev pub Scanned : Result (List Token) ScanEnd → Result (List Token) ℕ → Type 0
+Scanned (Ok ts) tokens = tokens ≡ Ok ts
+Scanned (Err ends.Memory) tokens = Unit {0}
+Scanned (Err (ends.Unclosed k)) tokens = tokens ≡ Err k

@@ -1,6 +1,6 @@
 // One piece after another.
-ghost use Rattle.std.specs.Prelude.{◌≡◌, ◌++◌, ◌<◌, ◌≤◌, ◌^◌, length, IfOk, Result, Ok, Err};
-ghost use Rattle.sw_tokens.specs.Tokens.{top, changed, last_start, before_of, is_spaced, kept, pieces_of};
+ghost use Rattle.std.specs.Prelude.{◌≡◌, ◌++◌, ◌<◌, ◌≤◌, ◌^◌, [], length, IfOk};
+ghost use Rattle.sw_tokens.specs.Tokens.{top, changed, last_start, first_start, before_of, is_spaced, kept, rest, Scanned};
 
 use crate::pieces::{Before, Change, Inside, Piece, piece_at};
 use crate::token::{Token, TokenKind};
@@ -45,6 +45,15 @@ fn last_start(opened: &[Opened], at: usize) -> usize
     match opened.get(opened.len() - 1) {
         None => at,
         Some(last) => last.start,
+    }
+}
+
+fn first_start(opened: &[Opened]) -> Option<usize>
+    ensures { result ≡ first_start opened.now }
+{
+    match opened.first() {
+        None => None,
+        Some(first) => Some(first.start),
     }
 }
 
@@ -108,6 +117,8 @@ fn added(
 /// The pieces of a text from an offset on, each with its own end alone.
 pub fn scan(alloc: Global, bytes: &[u8], start: usize) -> Result<List<Token>, ScanEnd>
     requires short { length bytes.now < 2 ^ 32 }
+    requires start { start ≤ length bytes.now }
+    ensures { Scanned result (rest bytes.now [] Before.Other start) }
 {
     let mut list = List::new(alloc);
     let mut opened = Vec::new(alloc);
@@ -123,9 +134,9 @@ pub fn scan(alloc: Global, bytes: &[u8], start: usize) -> Result<List<Token>, Sc
         before = before_of(piece.token);
         at = piece.to;
     }
-    match opened.first() {
+    match first_start(&opened) {
         None => Ok(list),
-        Some(first) => Err(ScanEnd::Unclosed(first.start)),
+        Some(start) => Err(ScanEnd::Unclosed(start)),
     }
 }
 
