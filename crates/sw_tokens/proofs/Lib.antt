@@ -1,3 +1,5 @@
 pub mod Bounds
 pub mod Forward
 pub mod Walks
+pub mod Seams
+pub mod EndLemmas

@@ -2,6 +2,7 @@
 #![tactic(auto)]
 
 mod bytes;
+mod ends;
 mod pieces;
 mod runs;
 mod scan;
