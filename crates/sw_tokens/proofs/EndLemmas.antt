@@ -20,10 +20,10 @@ reached_suc raw list ends i t done got =
     let seam = drop_at_seam raw i t here in
     record {
       list =
-        ap (λ (xs : List Token). slice_set xs i (reaching t ends)) done.list
-        ∙ set_at_seam raw (reached (drop (suc i) raw)).list i (reaching t ends) lt
-        ∙ ap (λ (es : List ℕ). take i raw ++ reaching t es ∷ (reached (drop (suc i) raw)).list) done.ends
-        ∙ ap (λ (xs : List Token). take i raw ++ (reached xs).list) (sym seam);
+          ap (λ (xs : List Token). slice_set xs i (reaching t ends)) done.list
+          ∙ set_at_seam raw (reached (drop (suc i) raw)).list i (reaching t ends) lt
+          ∙ ap (λ (es : List ℕ). take i raw ++ reaching t es ∷ (reached (drop (suc i) raw)).list) done.ends
+          ∙ ap (λ (xs : List Token). take i raw ++ (reached xs).list) (sym seam);
       ends = ap (ends_before t) done.ends ∙ ap (λ (xs : List Token). (reached xs).ends) (sym seam);
       within = omega arith;
     }

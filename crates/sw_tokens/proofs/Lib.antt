@@ -3,3 +3,5 @@ pub mod Forward
 pub mod Walks
 pub mod Seams
 pub mod EndLemmas
+pub mod Cuts
+pub mod Ordered

@@ -3,3 +3,4 @@ pub mod Names
 pub mod Pieces
 pub mod Tokens
 pub mod Ends
+pub mod Order
