@@ -1,6 +1,6 @@
 -- Runs and pieces end where a character ends.
-use Rattle.std.proofs.Common.{◌≡◌, ℕ, zero, suc, ◌+◌, ◌-◌, ◌≤◌, ◌<◌, Bool, true, false, not, ◌&&◌, ◌||◌, ◌⊎◌, List, [], ◌∷◌, inl, inr, refl, sym, ◌∙◌, ap, subst, arith, length, Option, Some, None}
-use Rattle.std.specs.Prelude.{◌==◌, nat_lt, nat_le, if◌then◌else◌, slice_index}
+use Rattle.std.proofs.Common.{◌≡◌, ℕ, zero, suc, ◌+◌, ◌-◌, ◌≤◌, ◌<◌, Bool, true, false, not, ◌&&◌, ◌||◌, List, [], ◌∷◌, refl, sym, ◌∙◌, ap, subst, arith, length, Option, Some, None}
+use Rattle.std.specs.Prelude.{◌==◌, nat_lt, if◌then◌else◌, slice_index}
 use Rattle.std.specs.Str.{IsUtf8, IsCharBoundary}
 use Rattle.std.proofs.lemmas.Bool.Decides.{nat_tests}
 use Rattle.std.proofs.lemmas.Str.{IsCharBoundary-after_ascii}
@@ -15,9 +15,9 @@ use Rattle.sw_tokens.specs.declared.pieces.Change.TheVariants as changes
 use Rattle.sw_tokens.specs.declared.pieces.Piece.{Piece}
 use Rattle.sw_tokens.specs.Bytes.{byte, is_break, is_white, is_digit, is_letter, is_hex_digit, is_wide, starts_plainly, is_name_byte, is_url_byte, is_range_byte, opens_at}
 use Rattle.sw_tokens.specs.Names.{next, run_from, run_end, text_next, escape_end, starts_at, begins_name, fraction_end, is_exponent, is_plus_or_minus, exponent_end, unit_end}
-use Rattle.sw_tokens.specs.Pieces.{made, text_piece, quote_piece, sign_of, sign_piece, name_piece, is_hex_form, number_piece, begins_range, begins_url, url_class, url_close, after_dollar, after_hash, word_piece, in_interpolation, code_piece, piece}
-use Rattle.sw_tokens.proofs.Bounds.{Onward, in_text, byte_past, and_left, and_right, or_left, or_right, if_true, run_onward, next_onward, fraction_onward, exponent_onward}
-use Rattle.sw_tokens.proofs.Forward.{either, at_quote, url_onward}
+use Rattle.sw_tokens.specs.Pieces.{made, text_piece, quote_piece, sign_piece, name_piece, is_hex_form, number_piece, begins_range, begins_url, url_close, after_dollar, after_hash, word_piece, in_interpolation, code_piece, piece}
+use Rattle.sw_tokens.proofs.Bounds.{in_text, and_left, and_right, or_left, or_right, run_onward, next_onward, fraction_onward, exponent_onward}
+use Rattle.sw_tokens.proofs.Forward.{either, at_quote}
 
 -- what is known of a text's bytes
 pub record IsText (bs : List ℕ) : Type 0 where

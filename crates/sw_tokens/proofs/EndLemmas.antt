@@ -1,8 +1,8 @@
 -- One token more to the left.
-use Rattle.std.proofs.Common.{◌≡◌, ℕ, zero, suc, ◌-◌, ◌<◌, ◌≤◌, List, [], ◌∷◌, ◌++◌, refl, sym, ◌∙◌, ap, subst, arith, length, take, drop, Option, Some, None}
+use Rattle.std.proofs.Common.{◌≡◌, ℕ, zero, suc, ◌-◌, ◌<◌, ◌≤◌, List, ◌∷◌, ◌++◌, sym, ◌∙◌, ap, arith, length, take, drop, Some}
 use Rattle.std.specs.Prelude.{slice_get, slice_set}
 use Rattle.sw_tokens.specs.declared.token.Token.{Token}
-use Rattle.sw_tokens.specs.Ends.{Reached, reached, reaching, ends_before}
+use Rattle.sw_tokens.specs.Ends.{reached, reaching, ends_before}
 use Rattle.sw_tokens.proofs.Seams.{get_at_seam, set_at_seam, drop_at_seam}
 
 -- what is done of `raw` from i on

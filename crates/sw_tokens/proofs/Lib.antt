@@ -5,3 +5,4 @@ pub mod Seams
 pub mod EndLemmas
 pub mod Cuts
 pub mod Ordered
+pub mod Lists

@@ -1,6 +1,6 @@
 -- The tokens of a text stand in it in order, and what isn't closed begins with an ASCII character.
-use Rattle.std.proofs.Common.{◌≡◌, ℕ, zero, suc, ◌+◌, ◌-◌, ◌≤◌, ◌<◌, Bool, true, false, List, [], ◌∷◌, ◌++◌, refl, sym, ◌∙◌, ap, subst, arith, length, take, drop, Option, Some, None, Result, Ok, Err}
-use Rattle.std.specs.Prelude.{◌==◌, nat_lt, if◌then◌else◌, slice_get, slice_index, unwrap_or, ◌&&◌}
+use Rattle.std.proofs.Common.{◌≡◌, ℕ, zero, suc, ◌+◌, ◌-◌, ◌≤◌, ◌<◌, Bool, true, false, List, [], ◌∷◌, ◌++◌, refl, sym, subst, arith, length, take, Option, Some, None, Result, Ok, Err}
+use Rattle.std.specs.Prelude.{◌==◌, if◌then◌else◌, slice_get, unwrap_or, ◌&&◌}
 use Rattle.std.specs.Str.{IsUtf8, IsCharBoundary}
 use Rattle.std.proofs.lemmas.Bool.Decides.{nat_tests}
 use Rattle.std.proofs.lemmas.Str.{IsCharBoundary-start, IsCharBoundary-past_char}
@@ -8,7 +8,6 @@ use lib.Utf8.{encode}
 use Rattle.sw_text.specs.Places.{mark_length}
 use Rattle.sw_tokens.specs.declared.token.TokenKind.{TokenKind}
 use Rattle.sw_tokens.specs.declared.token.Token.{Token}
-use Rattle.sw_tokens.specs.declared.pieces.Inside.{Inside}
 use Rattle.sw_tokens.specs.declared.pieces.Inside.TheVariants as insides
 use Rattle.sw_tokens.specs.declared.pieces.Before.{Before}
 use Rattle.sw_tokens.specs.declared.pieces.Before.TheVariants as befores
@@ -18,9 +17,9 @@ use Rattle.sw_tokens.specs.declared.pieces.Piece.{Piece}
 use Rattle.sw_tokens.specs.declared.scan.Opened.{Opened}
 use Rattle.sw_tokens.specs.Bytes.{byte}
 use Rattle.sw_tokens.specs.Pieces.{piece}
-use Rattle.sw_tokens.specs.Tokens.{inside_of, top, changed, start_in, last_start, before_of, is_spaced, kept_by, kept, behind, first_start, finished, walk, rest, pieces_of}
-use Rattle.sw_tokens.specs.Ends.{opens, closes, last_end, reaching, ends_before, reached, tokens_by, tokens_of}
-use Rattle.sw_tokens.specs.Order.{StandsIn, InOrder, Apart}
+use Rattle.sw_tokens.specs.Tokens.{inside_of, top, changed, start_in, last_start, before_of, kept_by, behind, finished, walk, rest, pieces_of}
+use Rattle.sw_tokens.specs.Ends.{opens, closes, last_end, reaching, reached}
+use Rattle.sw_tokens.specs.Order.{InOrder, Apart}
 use Rattle.sw_tokens.proofs.Forward.{piece_onward}
 use Rattle.sw_tokens.proofs.Cuts.{IsText, IsPlain, OpensPlainly, Cut, cut_to, cut_opens, piece_cut, code_stands}
 use Rattle.sw_tokens.proofs.Walks.{taken, walk_more, walk_past, lt_or_past}
@@ -173,11 +172,11 @@ module _ (bs : List ℕ) where
   ends_step i false true es to f l cut = ends_more i es to f l cut
   ends_step i false false es to f l cut = f
 
-  order_from : (i j : ℕ) (ts : List Token) → i ≤ j → InOrder bs j ts → InOrder bs i ts
+  pub order_from : (i j : ℕ) (ts : List Token) → i ≤ j → InOrder bs j ts → InOrder bs i ts
   order_from i j [] l f = tt
   order_from i j (t ∷ ts) l f = (let m = f.0 in omega arith, f.1, f.2)
 
-  apart_from : (i j : ℕ) (ts : List Token) → i ≤ j → Apart j ts → Apart i ts
+  pub apart_from : (i j : ℕ) (ts : List Token) → i ≤ j → Apart j ts → Apart i ts
   apart_from i j [] l f = tt
   apart_from i j (t ∷ ts) l f = (let m = f.0 in omega arith, f.1, f.2)
 

@@ -1,5 +1,5 @@
 -- The first token of a string or a `url(..)` with `#{}` reaches to behind the token that closes it.
-use Rattle.std.specs.Prelude.{◌≡◌, ℕ, ◌-◌, List, [], ◌∷◌, ◌++◌, slice_get, length, take, Bool, true, false, if◌then◌else◌, Result, Ok, Err, unwrap_or}
+use Rattle.std.specs.Prelude.{ℕ, ◌-◌, List, [], ◌∷◌, ◌++◌, slice_get, length, take, Bool, true, false, if◌then◌else◌, Result, Ok, Err, unwrap_or}
 use Rattle.sw_tokens.specs.declared.token.TokenKind.{TokenKind}
 use Rattle.sw_tokens.specs.declared.token.TokenKind.TheVariants as kinds
 use Rattle.sw_tokens.specs.declared.token.Token.{Token}

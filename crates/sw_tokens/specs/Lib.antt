@@ -4,3 +4,5 @@ pub mod Pieces
 pub mod Tokens
 pub mod Ends
 pub mod Order
+pub mod Faults
+pub mod Listed

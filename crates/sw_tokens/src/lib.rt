@@ -7,5 +7,7 @@ mod pieces;
 mod runs;
 mod scan;
 mod token;
+mod tokens;
 
 pub use token::{Fault10, Token, TokenKind};
+pub use tokens::Tokens;

@@ -1,4 +1,4 @@
-use Rattle.std.proofs.Common.{sym, ap, ◌∙◌}
+use Rattle.std.proofs.Common.{ap, ◌∙◌}
 use Rattle.std.specs.Prelude.{slice_set}
 use Rattle.sw_tokens.specs.Ends.{reaching}
 use Rattle.sw_tokens.proofs.EndLemmas.{reached_step}
