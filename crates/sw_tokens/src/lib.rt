@@ -1,0 +1,13 @@
+//! The text of a sheet as its one list of tokens, which every reader reads. Text flows in from `sw_text`; tokens, or the first string or `#{` that isn't closed, flow out.
+#![tactic(auto)]
+
+mod bytes;
+mod ends;
+mod pieces;
+mod runs;
+mod scan;
+mod token;
+mod tokens;
+
+pub use token::{Fault10, Token, TokenKind};
+pub use tokens::Tokens;
