@@ -1,5 +1,5 @@
 -- What a path of a folder is. This project's own rule.
-use Rattle.std.specs.Prelude.{ℕ, Bool, not, ◌&&◌, ◌||◌, ◌==◌, nat_le, List, codes, length, bytes_eq}
+use Rattle.std.specs.Prelude.{ℕ, Bool, not, ◌&&◌, ◌||◌, ◌==◌, nat_le, List, codes, length, bytes_eq, [], Option, None, Some}
 use Rattle.std.specs.List.{list_all, slice_split}
 
 abbrev pub is_slash : ℕ → Bool
@@ -8,6 +8,11 @@ is_slash byte = byte == 47
 -- the parts of a text between its slashes
 abbrev pub segments : List ℕ → List (List ℕ)
 segments text = slice_split is_slash text
+
+-- the parts of what stands behind a slash, if there is one
+abbrev pub rest_segments : Option (List ℕ) → List (List ℕ)
+rest_segments None = []
+rest_segments (Some rest) = segments rest
 
 abbrev pub is_dot : List ℕ → Bool
 is_dot segment = bytes_eq segment (codes ".")

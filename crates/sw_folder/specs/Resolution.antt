@@ -71,6 +71,12 @@ choice [] = Ok None
 choice (path ∷ []) = Ok (Some path)
 choice (path ∷ other ∷ more) = Err Ambiguous
 
+-- what two parts of one group choose together
+abbrev pub both_choices : Option (List ℕ) → Option (List ℕ) → Result (Option (List ℕ)) ResolveFault
+both_choices None other = Ok other
+both_choices (Some path) None = Ok (Some path)
+both_choices (Some path) (Some other) = Err Ambiguous
+
 abbrev pub or_next : Result (Option (List ℕ)) ResolveFault → Result (Option (List ℕ)) ResolveFault → Result (Option (List ℕ)) ResolveFault
 or_next (Ok None) next = next
 or_next (Ok (Some path)) next = Ok (Some path)
@@ -91,7 +97,7 @@ unfoldable pub resolved : Files → List ℕ → List ℕ → List (List ℕ) �
 resolved files from url paths = or_not_found (first_choice files (all_groups from url paths))
 
 -- an answer is the right one, or want of memory
-abbrev pub IsResolution : Result (List ℕ) ResolveFault → Result (List ℕ) ResolveFault → Type 0
-IsResolution (Ok path) right = right ≡ Ok path
+abbrev pub IsResolution : {X : Type 0} → Result X ResolveFault → Result X ResolveFault → Type 0
+IsResolution (Ok found) right = right ≡ Ok found
 IsResolution (Err Memory) right = Unit {0}
 IsResolution (Err fault) right = right ≡ Err fault

@@ -5,6 +5,7 @@ ghost use Rattle.sw_folder.specs.Files.{Files};
 
 use crate::path::is_path;
 use std::alloc::{AllocError, AllocFailed};
+use sw_text::Memory;
 use thiserror::Error;
 
 /// What a put or a removal is refused for, in the order in which these are looked for, and want of memory.
@@ -42,6 +43,17 @@ impl<T: Drop> From<AllocFailed<T>> for EditFault {
     ghost from_gives = { λ _ fault. fault ≡ Memory };
 
     fn from(_: AllocFailed<T>) -> Self {
+        EditFault::Memory
+    }
+}
+
+impl From<Memory> for EditFault {
+    ghost use Rattle.std.specs.Prelude.{◌≡◌};
+    ghost use Rattle.sw_folder.specs.declared.edit.EditFault.TheVariants as variant;
+
+    ghost from_gives = { λ _ fault. fault ≡ variant.Memory };
+
+    fn from(_: Memory) -> Self {
         EditFault::Memory
     }
 }

@@ -1,9 +1,11 @@
 // The table of files, and the edits.
-ghost use Rattle.std.specs.Prelude.{◌≡◌, ◌≤◌, Ok, None, Some, IsTrue, length, IfOk, IfErr, IfSome, OnOk, OnErr, MatchResult};
+ghost use Rattle.std.specs.Prelude.{◌≡◌, ◌≤◌, not, ◌&&◌, nat_le, true, false, Ok, None, Some, IsTrue, length, IfOk, IfErr, IfSome, OnOk, OnErr, MatchResult};
+ghost use Rattle.std.specs.Bool.{OnFalse};
 ghost use Rattle.std.specs.Option.{option_copied};
+ghost use Rattle.std.specs.Str.{is_utf8};
 ghost use Rattle.std.specs.FinMap as files;
 ghost use Rattle.sw_folder.specs.Edits.{after_put, after_removal, put_fault, IsFaultOf};
-ghost use Rattle.sw_folder.specs.Files.{IsFolder, most_bytes};
+ghost use Rattle.sw_folder.specs.Files.{IsFolder, most_bytes, most_files};
 ghost use Rattle.sw_folder.specs.Paths.{is_path};
 
 use crate::edit::{EditFault, unread_fault};
@@ -60,6 +62,7 @@ impl Folder {
     }
 
     /// Takes a file out. Refused with `BadPath`, then `NoSuchFile`; it takes no memory, so `Memory` is never the answer. After a fault the folder is as before.
+    #[tactic(auto, unfolding(crate::specs::Edits::removal_fault))]
     pub fn remove(&mut self, path: &str) -> Result<(), EditFault>
         ensures ok { OnOk result (after_removal path.now self.old ≡ Ok self.new) }
         ensures refused { IfErr result (λ fault. after_removal path.now self.old ≡ Err fault) }
@@ -68,9 +71,10 @@ impl Folder {
         if !is_path(path) {
             return Err(EditFault::BadPath);
         }
-        match self.table.swap_remove(path) {
-            Some(_) => Ok(()),
-            None => Err(EditFault::NoSuchFile),
+        if self.take_out(path) {
+            Ok(())
+        } else {
+            Err(EditFault::NoSuchFile)
         }
     }
 
@@ -90,7 +94,19 @@ impl Folder {
         let _ = &self.table;
     }
 
-    // the text of a put that isn't refused
+    /// Whether there is a file with this path.
+    pub(crate) fn holds(&self, path: &str) -> bool
+        ensures { result ≡ files.contains_key self.now path.now }
+    {
+        self.table.contains_key(path)
+    }
+
+    pub(crate) fn allocator(&self) -> Global {
+        self.alloc
+    }
+
+    /// The text of a put that isn't refused.
+    #[tactic(auto, unfolding(crate::specs::Edits::put_fault))]
     fn admit<'b>(&self, path: &str, bytes: &'b [u8]) -> Result<&'b str, EditFault>
         ensures ok { IfOk result (λ text. text.now ≡ bytes.now) }
         ensures fault { MatchResult result (λ _. put_fault self.now path.now bytes.now ≡ None) (λ fault. put_fault self.now path.now bytes.now ≡ Some fault) }
@@ -98,13 +114,30 @@ impl Folder {
         if let Some(fault) = unread_fault(path, bytes.len()) {
             return Err(fault);
         }
-        if !self.table.contains_key(path) && self.table.len() >= MOST_FILES {
+        if self.is_full_beside(path) {
             return Err(EditFault::TooManyFiles);
         }
-        match str::from_utf8(bytes) {
-            Ok(text) => Ok(text),
-            Err(_) => Err(EditFault::NotText),
-        }
+        text_of(bytes)
+    }
+
+    fn is_full_beside(&self, path: &str) -> bool
+        ensures { result ≡ (not (files.contains_key self.now path.now) && nat_le most_files (files.len self.now)) }
+    {
+        !self.holds(path) && self.is_full()
+    }
+
+    fn is_full(&self) -> bool
+        ensures { result ≡ nat_le most_files (files.len self.now) }
+    {
+        self.table.len() >= MOST_FILES
+    }
+
+    fn take_out(&mut self, path: &str) -> bool
+        ensures found { result ≡ files.contains_key self.old path.now }
+        ensures after { self.new ≡ files.remove self.old path.now }
+        ensures absent { OnFalse result (self.new ≡ self.old) }
+    {
+        self.table.swap_remove(path).is_some()
     }
 
     fn insert(&mut self, path: &str, text: &str) -> Result<(), EditFault>
@@ -114,8 +147,18 @@ impl Folder {
         ensures unchanged { OnErr result (self.new ≡ self.old) }
     {
         let key = RcStr::from_str(self.alloc, path)?;
-        let text = Name::new(self.alloc, text).map_err(|_| EditFault::Memory)?;
+        let text = Name::new(self.alloc, text)?;
         self.table.insert(key, text)?;
         Ok(())
+    }
+}
+
+fn text_of(bytes: &[u8]) -> Result<&str, EditFault>
+    ensures ok { IfOk result (λ text. text.now ≡ bytes.now) }
+    ensures fault { MatchResult result (λ _. is_utf8 bytes.now ≡ true) (λ fault. (fault ≡ EditFault.NotText) × (is_utf8 bytes.now ≡ false)) }
+{
+    match str::from_utf8(bytes) {
+        Ok(text) => Ok(text),
+        Err(_) => Err(EditFault::NotText),
     }
 }

@@ -1,0 +1,4 @@
+pub mod Segments
+pub mod Walks
+pub mod Tables
+pub mod Folders
