@@ -1,12 +1,12 @@
 -- That an edit which isn't refused leaves a folder a folder.
-use Rattle.std.proofs.Common.{◌≡◌, ℕ, ◌+◌, ◌-◌, ◌<◌, ◌≤◌, Bool, true, false, not, ◌&&◌, cond, List, [], length, Option, None, Some, is_some, IfSome, Bor, refl, sym, ap, subst, ◌∙◌, ◌⊎◌, inl, inr, arith, nat_lt, nat_le, if◌then◌else◌, IsTrue, nat_eq}
+use Rattle.std.proofs.Common.{◌≡◌, ℕ, ◌+◌, ◌-◌, ◌<◌, ◌≤◌, Bool, true, false, not, ◌&&◌, cond, List, [], length, Option, None, Some, IfSome, Bor, refl, sym, ap, subst, ◌∙◌, ◌⊎◌, inl, inr, arith, nat_lt, nat_le, if◌then◌else◌, IsTrue}
 use Rattle.std.proofs.lemmas.Bool.{ltb-false, leb-false, lt-ltb}
 use Rattle.std.specs.Option.{option_copied}
 use Rattle.std.specs.Str.{is_utf8, bytes_eq}
 use Rattle.std.specs.Ordering.{is_eq, nat_cmp}
 use Rattle.std.specs.Cmp.Lexicographic.{slice_cmp, nat_list_cmp_total}
 use Rattle.std.specs.FinMap.{get, contains_key, insert, remove, len, get-empty, get-insert, get-remove, len-empty, len-insert, len-remove}
-use Rattle.sw_folder.specs.Table.{Entry, files_of, IsTable}
+use Rattle.sw_folder.specs.Table.{files_of, IsTable}
 use Rattle.std.proofs.lemmas.Map.Text.{is_eq-slice_cmp}
 use Rattle.std.proofs.lemmas.Slice.Eq.{bytes_eq-Decides}
 use Rattle.sw_folder.specs.declared.edit.EditFault.{EditFault}

@@ -1,6 +1,6 @@
 -- The first part of a text that is cut at its slashes.
 use Rattle.std.proofs.Common.{◌≡◌, ℕ, ◌+◌, Bool, true, false, cond, not, List, [], ◌∷◌, ◌<◌, length, ◌∙◌, ap, sym, refl, arith}
-use Rattle.std.proofs.lemmas.List.Splits.{slice_split_none, slice_split_first}
+use Rattle.std.proofs.lemmas.List.Splits.{slice_split_first}
 use Rattle.std.specs.List.{position_or_len, before_first, after_first, onto_first}
 use Rattle.sw_folder.specs.Paths.{is_slash, segments}
 

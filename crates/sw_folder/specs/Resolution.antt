@@ -41,12 +41,15 @@ has_extension name = ends_with nat_eq name (codes ".sass") || (ends_with nat_eq 
 abbrev pub inside : List ℕ → List ℕ → List ℕ
 inside folder name = folder ++ (name ++ codes "/")
 
--- the groups of files that a name may mean, the first that counts first
+-- the groups of a name without an extension
+abbrev pub name_groups : List ℕ → List ℕ → List (List (List ℕ))
+name_groups folder name = sheets folder name ∷ both folder name (codes ".css") ∷ []
+
+-- the groups of files that a name may mean, the one that counts first in front: with an extension that file, else a sheet or plain CSS, beside or as the index of a folder of that name
 abbrev pub groups : List ℕ → List ℕ → List (List (List ℕ))
 groups folder name =
     if has_extension name then both folder name [] ∷ []
-    else sheets folder name ∷ both folder name (codes ".css")
-      ∷ sheets (inside folder name) (codes "index") ∷ both (inside folder name) (codes "index") (codes ".css") ∷ []
+    else name_groups folder name ++ name_groups (inside folder name) (codes "index")
 
 abbrev pub folder_text : List (List ℕ) → List ℕ
 folder_text segments = flat_map (λ segment. segment ++ codes "/") segments
@@ -57,9 +60,9 @@ groups_at None = []
 groups_at (Some []) = []
 groups_at (Some (first ∷ more)) = groups (folder_text (take (length more) (first ∷ more))) (slice_index_or (first ∷ more) (length more) first)
 
--- all groups of all bases
-abbrev pub all_groups : List ℕ → List ℕ → List (List ℕ) → List (List (List ℕ))
-all_groups from url paths = flat_map (λ base. groups_at (walk [] (base ++ segments url))) (bases from paths)
+-- the groups of a URL at each base
+abbrev pub groups_from : List ℕ → List (List (List ℕ)) → List (List (List ℕ))
+groups_from url bases = flat_map (λ base. groups_at (walk [] (base ++ segments url))) bases
 
 -- those of a group that are files
 abbrev pub present : Files → List (List ℕ) → List (List ℕ)
@@ -94,7 +97,7 @@ or_not_found (Err fault) = Err fault
 
 -- the file that a URL means in the sheet `from`
 unfoldable pub resolved : Files → List ℕ → List ℕ → List (List ℕ) → Result (List ℕ) ResolveFault
-resolved files from url paths = or_not_found (first_choice files (all_groups from url paths))
+resolved files from url paths = or_not_found (first_choice files (groups_from url (bases from paths)))
 
 -- an answer is the right one, or want of memory
 abbrev pub IsResolution : {X : Type 0} → Result X ResolveFault → Result X ResolveFault → Type 0

@@ -1,8 +1,8 @@
 // Which file a URL means.
 ghost use Rattle.std.specs.Prelude.{◌≡◌, ◌∷◌, ◌++◌, [], None, Some, Ok, nat_eq, if◌then◌else◌, IfOk, IfErr, map, codes, string_bytes};
-ghost use Rattle.std.specs.List.{flat_map};
+ghost use Rattle.std.specs.List.{ends_with};
 ghost use Rattle.sw_folder.specs.Paths.{segments};
-ghost use Rattle.sw_folder.specs.Resolution.{IsResolution, all_groups, both, both_choices, choice, first_choice, folder_text, groups, groups_at, has_extension, present, resolved, sheets, step, up, walk};
+ghost use Rattle.sw_folder.specs.Resolution.{IsResolution, bases, both, both_choices, choice, first_choice, folder_text, groups, groups_at, groups_from, has_extension, name_groups, or_not_found, present, resolved, sheets, step, up, walk};
 
 use crate::folder::Folder;
 use crate::path::{first_segment, is_dot, is_dot_dot};
@@ -63,12 +63,16 @@ impl Folder {
     pub fn resolve(&self, from: &str, url: &str, paths: &[Name]) -> Result<Name, ResolveFault>
         ensures { IsResolution result (resolved self.now from.now url.now paths.now) }
     {
-        if let Some(path) = self.beside(from, url)? {
-            return Ok(path);
-        }
-        match self.on_paths(url, paths)? {
-            Some(path) => Ok(path),
-            None => Err(ResolveFault::NotFound),
+        or_not_found(self.on_bases(from, url, paths))
+    }
+
+    fn on_bases(&self, from: &str, url: &str, paths: &[Name]) -> Result<Option<Name>, ResolveFault>
+        ensures { IsResolution result (first_choice self.now (groups_from url.now (bases from.now paths.now))) }
+    {
+        match self.beside(from, url) {
+            Ok(None) => self.on_paths(url, paths),
+            Ok(Some(found)) => Ok(Some(found)),
+            Err(fault) => Err(fault),
         }
     }
 
@@ -76,30 +80,42 @@ impl Folder {
         ensures { IsResolution result (first_choice self.now (groups_at (walk [] ((segments from.now ++ codes ".." ∷ []) ++ segments url.now)))) }
     {
         let mut place = Place::new(self.allocator());
-        if walk(&mut place, from)? && go_up(&mut place) && walk(&mut place, url)? {
-            self.at(place.as_slice())
-        } else {
-            Ok(None)
+        if !walk(&mut place, from)? {
+            return Ok(None);
         }
+        if !go_up(&mut place) {
+            return Ok(None);
+        }
+        self.further(place, url)
+    }
+
+    fn further<'a>(&self, mut place: Place<'a>, url: &'a str) -> Result<Option<Name>, ResolveFault>
+        ensures { IsResolution result (first_choice self.now (groups_at (walk (map (λ segment. segment.now) place.entry.items) (segments url.now)))) }
+    {
+        if !walk(&mut place, url)? {
+            return Ok(None);
+        }
+        self.at(place.as_slice())
     }
 
     fn on_path(&self, base: &str, url: &str) -> Result<Option<Name>, ResolveFault>
         ensures { IsResolution result (first_choice self.now (groups_at (walk [] (segments base.now ++ segments url.now)))) }
     {
         let mut place = Place::new(self.allocator());
-        if walk(&mut place, base)? && walk(&mut place, url)? {
-            self.at(place.as_slice())
-        } else {
-            Ok(None)
+        if !walk(&mut place, base)? {
+            return Ok(None);
         }
+        self.further(place, url)
     }
 
     fn on_paths(&self, url: &str, paths: &[Name]) -> Result<Option<Name>, ResolveFault>
-        ensures { IsResolution result (first_choice self.now (flat_map (λ base. groups_at (walk [] (segments base ++ segments url.now))) paths.now)) }
+        ensures { IsResolution result (first_choice self.now (groups_from url.now (map segments paths.now))) }
     {
         for path in paths {
-            if let Some(found) = self.on_path(path.as_str(), url)? {
-                return Ok(Some(found));
+            match self.on_path(path.as_str(), url) {
+                Ok(None) => {}
+                Ok(Some(found)) => return Ok(Some(found)),
+                Err(fault) => return Err(fault),
             }
         }
         Ok(None)
@@ -135,21 +151,38 @@ impl Folder {
         if has_extension(name) {
             return self.both(&mut path, folder.as_str(), name, "");
         }
-        if let Some(found) = self.sheets(&mut path, folder.as_str(), name)? {
-            return Ok(Some(found));
+        match self.without_extension(&mut path, folder.as_str(), name) {
+            Ok(None) => {
+                folder.push_str(name)?;
+                folder.push_str("/")?;
+                self.without_extension(&mut path, folder.as_str(), "index")
+            }
+            Ok(Some(found)) => Ok(Some(found)),
+            Err(fault) => Err(fault),
         }
-        if let Some(found) = self.both(&mut path, folder.as_str(), name, ".css")? {
-            return Ok(Some(found));
-        }
-        folder.push_str(name)?;
-        folder.push_str("/")?;
-        if let Some(found) = self.sheets(&mut path, folder.as_str(), "index")? {
-            return Ok(Some(found));
-        }
-        self.both(&mut path, folder.as_str(), "index", ".css")
     }
 
-    fn sheets(&self, path: &mut String, folder: &str, name: &str) -> Result<Option<Name>, ResolveFault>
+    fn without_extension(
+        &self,
+        path: &mut String,
+        folder: &str,
+        name: &str,
+    ) -> Result<Option<Name>, ResolveFault>
+        ensures { IsResolution result (first_choice self.now (name_groups folder.now name.now)) }
+    {
+        match self.sheets(path, folder, name) {
+            Ok(None) => self.both(path, folder, name, ".css"),
+            Ok(Some(found)) => Ok(Some(found)),
+            Err(fault) => Err(fault),
+        }
+    }
+
+    fn sheets(
+        &self,
+        path: &mut String,
+        folder: &str,
+        name: &str,
+    ) -> Result<Option<Name>, ResolveFault>
         ensures { IsResolution result (choice (present self.now (sheets folder.now name.now))) }
     {
         let sass = self.both(path, folder, name, ".sass")?;
@@ -194,6 +227,16 @@ impl Folder {
     }
 }
 
+fn or_not_found(found: Result<Option<Name>, ResolveFault>) -> Result<Name, ResolveFault>
+    ensures { result ≡ or_not_found found }
+{
+    match found {
+        Ok(Some(path)) => Ok(path),
+        Ok(None) => Err(ResolveFault::NotFound),
+        Err(fault) => Err(fault),
+    }
+}
+
 fn one_of(first: Option<Name>, second: Option<Name>) -> Result<Option<Name>, ResolveFault>
     ensures { result ≡ both_choices first second }
 {
@@ -207,7 +250,13 @@ fn one_of(first: Option<Name>, second: Option<Name>) -> Result<Option<Name>, Res
 fn has_extension(name: &str) -> bool
     ensures { result ≡ has_extension name.now }
 {
-    name.ends_with(".sass") || name.ends_with(".scss") || name.ends_with(".css")
+    ends_with(name, ".sass") || (ends_with(name, ".scss") || ends_with(name, ".css"))
+}
+
+fn ends_with(name: &str, ending: &str) -> bool
+    ensures { result ≡ ends_with nat_eq name.now ending.now }
+{
+    name.ends_with(ending)
 }
 
 /// Goes on from a place by the segments of a text. False where that leaves the folder, and then the place isn't used any more.

@@ -1,5 +1,4 @@
-use Rattle.std.proofs.Common.{◌≡◌, Some, sym, ◌∙◌}
-use Rattle.std.proofs.lemmas.Bool.{lt-ltb}
+use Rattle.std.proofs.Common.{sym}
 use Rattle.sw_folder.specs.declared.edit.EditFault.TheVariants.{BadPath, TooLong}
 use Rattle.sw_folder.proofs.Folders.{unread_first, bad_path, too_long}
 use Rattle.sw_folder.proofs.edit.unread_fault.Goals as goal

@@ -1,4 +1,4 @@
-use Rattle.std.proofs.Common.{◌≡◌, ap, map, ◌∙◌}
+use Rattle.std.proofs.Common.{ap, map, ◌∙◌}
 use Rattle.std.specs.Option.{option_copied}
 use Rattle.sw_folder.specs.Paths.{rest_segments}
 use Rattle.sw_folder.specs.Resolution.{walk}

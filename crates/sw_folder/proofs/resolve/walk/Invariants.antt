@@ -1,4 +1,4 @@
-use Rattle.std.proofs.Common.{◌≡◌, ◌+◌, ℕ, List, length, map}
+use Rattle.std.proofs.Common.{◌≡◌, ◌+◌, length, map}
 use Rattle.std.specs.Option.{option_copied, option_map_or}
 use Rattle.sw_folder.specs.Paths.{segments, rest_segments}
 use Rattle.sw_folder.specs.Resolution.{walk}

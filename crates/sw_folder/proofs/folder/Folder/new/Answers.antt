@@ -1,4 +1,4 @@
-use Rattle.std.proofs.Common.{◌≡◌, sym, subst, [], refl}
+use Rattle.std.proofs.Common.{sym, subst}
 use Rattle.sw_folder.specs.Table.{IsTable}
 use Rattle.sw_folder.proofs.Folders.{IsTable-empty}
 use Rattle.sw_folder.proofs.folder.Folder.new.Goals as goal
