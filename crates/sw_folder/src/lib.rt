@@ -5,6 +5,8 @@ mod edit;
 mod folder;
 mod path;
 mod resolve;
+#[cfg(test)]
+mod tests;
 
 pub use edit::{EditFault, unread_fault};
 pub use folder::Folder;
