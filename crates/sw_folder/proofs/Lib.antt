@@ -1,0 +1,5 @@
+pub mod Segments
+pub mod Walks
+pub mod Tables
+pub mod Folders
+pub mod Choices

@@ -1,0 +1,5 @@
+pub mod Paths
+pub mod Files
+pub mod Table
+pub mod Edits
+pub mod Resolution
