@@ -1,0 +1,4 @@
+pub mod Numbers
+pub mod Signs
+pub mod Loops
+pub mod Trees

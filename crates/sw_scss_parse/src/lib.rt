@@ -1,0 +1,10 @@
+//! The reader of sheets: tokens come in, and the tree goes out, or the place where the sheet can't go on.
+#![tactic(auto)]
+
+mod end;
+mod flat;
+mod mark;
+mod tree;
+
+pub use end::ReadEnd;
+pub use tree::{Declaration, Piece, Rule, Sheet};
