@@ -2,3 +2,6 @@ pub mod Numbers
 pub mod Signs
 pub mod Loops
 pub mod Trees
+pub mod Whole
+pub mod Lying
+pub mod Returned

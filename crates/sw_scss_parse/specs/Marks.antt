@@ -1,6 +1,6 @@
 -- The roles of the tokens of a flat sheet. A token's role follows from its kind, its text and the token before it: a `.` or `#` of a
 -- selector stands directly before its word.
-use Rattle.std.specs.Prelude.{ℕ, Bool, true, false, ◌||◌, ◌&&◌, ◌==◌, nat_le, nat_lt, if◌then◌else◌, List, [], ◌∷◌, Option, None, Some, bytes_eq, slice_range, codes}
+use Rattle.std.specs.Prelude.{ℕ, Bool, true, false, ◌||◌, ◌&&◌, ◌==◌, nat_le, List, [], ◌∷◌, Option, None, Some, bytes_eq, slice_range, codes}
 use Rattle.sw_tokens.specs.declared.token.Token.{Token}
 use Rattle.sw_tokens.specs.declared.token.TokenKind.{TokenKind}
 use Rattle.sw_tokens.specs.declared.token.TokenKind.TheVariants as kinds

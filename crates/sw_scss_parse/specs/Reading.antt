@@ -101,3 +101,9 @@ RuleLies bytes rule = IsPiece bytes rule.selector × All (DeclarationLies bytes)
 
 abbrev pub Lies : List ℕ → Sheet → Type 0
 Lies bytes sheet = All (RuleLies bytes) sheet.rules
+
+-- what a call that reads returned is what the grammar says, unless memory ran out
+abbrev pub Obeys : List ℕ → List ℕ → Result Sheet ReadEnd → Type 0
+Obeys path bytes (Ok sheet) = IsReading path bytes (Ok sheet)
+Obeys path bytes (Err (ends.Fault fault)) = IsReading path bytes (Err fault)
+Obeys path bytes (Err ends.Memory) = Unit {0}

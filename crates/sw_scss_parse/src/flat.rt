@@ -106,7 +106,12 @@ fn begins_declaration(marks: &[Mark], at: usize) -> bool
     is_at(marks, at, Role::Word) || is_at(marks, at, Role::Reserved)
 }
 
-fn declarations_at(alloc: Global, marks: &[Mark], levels: u8, at: usize) -> Result<(List<Declaration>, usize), ReadError>
+fn declarations_at(
+    alloc: Global,
+    marks: &[Mark],
+    levels: u8,
+    at: usize,
+) -> Result<(List<Declaration>, usize), ReadError>
     ensures { Answers (λ x. map Declares x.0) (λ x. x.1) result (reader marks.now levels (many declaration) at) }
 {
     let mut list = Vec::new(alloc);
@@ -131,7 +136,12 @@ fn selector_at(marks: &[Mark], levels: u8, at: usize) -> Result<(Piece, usize), 
 }
 
 #[tactic(auto, unfolding(sw_grammar::specs::Readers::parse))]
-fn block_at(alloc: Global, marks: &[Mark], levels: u8, at: usize) -> Result<(List<Declaration>, usize), ReadError>
+fn block_at(
+    alloc: Global,
+    marks: &[Mark],
+    levels: u8,
+    at: usize,
+) -> Result<(List<Declaration>, usize), ReadError>
     ensures { Answers (λ x. map Declares x.0) (λ x. x.1) result (reader marks.now levels (group (3 ∷ []) Block (4 ∷ [])) at) }
 {
     if !is_at(marks, at, Role::Open) {
@@ -153,7 +163,13 @@ fn rule_at(alloc: Global, marks: &[Mark], levels: u8, at: usize) -> Result<(Rule
 {
     let (selector, at) = selector_at(marks, levels, at)?;
     let (declarations, at) = block_at(alloc, marks, levels, at)?;
-    Ok((Rule { selector, declarations }, at))
+    Ok((
+        Rule {
+            selector,
+            declarations,
+        },
+        at,
+    ))
 }
 
 fn begins_rule(marks: &[Mark], at: usize) -> bool
@@ -163,7 +179,12 @@ fn begins_rule(marks: &[Mark], at: usize) -> bool
     is_at(marks, at, Role::Dot) || is_at(marks, at, Role::Hash) || begins_declaration(marks, at)
 }
 
-fn rules_at(alloc: Global, marks: &[Mark], levels: u8, at: usize) -> Result<(List<Rule>, usize), ReadError>
+fn rules_at(
+    alloc: Global,
+    marks: &[Mark],
+    levels: u8,
+    at: usize,
+) -> Result<(List<Rule>, usize), ReadError>
     ensures { Answers (λ x. map Rules x.0) (λ x. x.1) result (reader marks.now levels (many rule) at) }
 {
     let mut list = Vec::new(alloc);
@@ -178,7 +199,11 @@ fn rules_at(alloc: Global, marks: &[Mark], levels: u8, at: usize) -> Result<(Lis
 
 // The rules of a whole sheet.
 #[tactic(auto, unfolding(sw_grammar::specs::Readers::parse))]
-pub(crate) fn whole(alloc: Global, marks: &[Mark], levels: u8) -> Result<(List<Rule>, usize), ReadError>
+pub(crate) fn whole(
+    alloc: Global,
+    marks: &[Mark],
+    levels: u8,
+) -> Result<(List<Rule>, usize), ReadError>
     ensures { Answers (λ x. map Rules x.0) (λ x. x.1) result (reader marks.now levels (forms Whole) 0) }
 {
     let (list, place) = rules_at(alloc, marks, levels, 0)?;

@@ -4,7 +4,9 @@
 mod end;
 mod flat;
 mod mark;
+mod reading;
 mod tree;
 
 pub use end::ReadEnd;
+pub use reading::read;
 pub use tree::{Declaration, Piece, Rule, Sheet};

@@ -1,12 +1,12 @@
 // What the grammar of flat sheets sees of a token.
-ghost use Rattle.std.specs.Prelude.{◌≡◌, IfOk, IfErr, All};
+ghost use Rattle.std.specs.Prelude.{◌≡◌, IfOk, All};
 ghost use Rattle.sw_tokens.specs.Listed.{LiesIn as TokenLiesIn};
 ghost use Rattle.sw_scss_parse.specs.Pieces.{IsSign, LiesIn};
 ghost use Rattle.sw_scss_parse.specs.Marks.{is_reserved, begins_with_letter, word_role, hex_role, role_of, is_word, is_sign, alone, with_sign, behind_sign, marked, mark_of, sign_of, marks_of};
 
-use std::alloc::Global;
-use sw_grammar::ReadError;
 use crate::Piece;
+use std::alloc::Global;
+use sw_text::Memory;
 use sw_tokens::{Token, TokenKind, Tokens};
 
 /// The role of a token in a flat sheet.
@@ -167,10 +167,9 @@ fn mark_of(text: &str, sign: Option<Piece>, token: Token) -> Mark
 }
 
 /// What the grammar sees of each token, in one pass.
-pub(crate) fn marks_of(alloc: Global, tokens: &Tokens) -> Result<Vec<Mark>, ReadError>
+pub(crate) fn marks_of(alloc: Global, tokens: &Tokens) -> Result<Vec<Mark>, Memory>
     ensures marks { IfOk result (λ marks. marks.items ≡ marks_of tokens.now.sheet.bytes tokens.now.list) }
     ensures lie { IfOk result (λ marks. All (LiesIn tokens.now.sheet.bytes) marks.items) }
-    ensures memory { IfErr result (λ error. error ≡ ReadError.Memory) }
 {
     let text = tokens.sheet().text();
     let mut marks = Vec::with_capacity(alloc, tokens.len())?;

@@ -1,4 +1,4 @@
-use Rattle.std.proofs.Common.{◌<◌, ◌+◌, length, sym, ap, ◌∙◌, arith}
+use Rattle.std.proofs.Common.{◌<◌, length, sym, ap, ◌∙◌, arith}
 use Rattle.std.proofs.lemmas.List.Elements.{All-push}
 use Rattle.std.proofs.lemmas.Option.{slice_get_within}
 use Rattle.sw_text.specs.Places.{Text}
@@ -27,7 +27,7 @@ tokens-smaller c =
 pub tokens-preserved : goal.tokens-preserved
 tokens-preserved c = record {
   marks = rw (c.in_ok-push.ensures.items, c.sign_of-sign.ensures.sign, c.mark_of-mark.ensures.mark, c.tokens.invariant.text)
-    (marks_next _ _ _ _ _ _ c.in-Some.ensures.value c.tokens.invariant.marks);
+      (marks_next _ _ _ _ _ _ c.in-Some.ensures.value c.tokens.invariant.marks);
   lie = rw c.in_ok-push.ensures.items (All-push (LiesIn c.args.tokens.now.sheet.bytes) _ _ c.tokens.invariant.lie (rw c.tokens.invariant.text at c.mark_of-mark.ensures.lies));
   sign = rw c.tokens.invariant.text at c.sign_of-sign.ensures.lies;
   text = c.tokens.invariant.text;
