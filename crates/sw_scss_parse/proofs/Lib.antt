@@ -1,4 +1,5 @@
 pub mod Numbers
+pub mod Texts
 pub mod Signs
 pub mod Loops
 pub mod Trees

@@ -1,4 +1,6 @@
 pub mod Roles
+pub mod Words
+pub mod Urls
 pub mod Marks
 pub mod Pieces
 pub mod FlatGrammar

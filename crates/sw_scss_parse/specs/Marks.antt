@@ -1,21 +1,14 @@
 -- The roles of the tokens of a flat sheet. A token's role follows from its kind, its text and the token before it: a `.` or `#` of a
 -- selector stands directly before its word.
-use Rattle.std.specs.Prelude.{ℕ, Bool, true, false, ◌||◌, ◌&&◌, ◌==◌, nat_le, List, [], ◌∷◌, Option, None, Some, bytes_eq, slice_range, codes}
+use Rattle.std.specs.Prelude.{ℕ, Bool, true, false, ◌==◌, List, [], ◌∷◌, Option, None, Some, slice_range}
 use Rattle.sw_tokens.specs.declared.token.Token.{Token}
 use Rattle.sw_tokens.specs.declared.token.TokenKind.{TokenKind}
 use Rattle.sw_tokens.specs.declared.token.TokenKind.TheVariants as kinds
+use Rattle.sw_scss_parse.specs.Words.{is_reserved, begins_with_letter}
 use Rattle.sw_scss_parse.specs.declared.mark.Mark.{Mark}
 use Rattle.sw_scss_parse.specs.declared.tree.Piece.{Piece}
 use Rattle.sw_scss_parse.specs.declared.mark.Role.{Role}
 use Rattle.sw_scss_parse.specs.declared.mark.Role.TheVariants.{Word, Reserved, Open, Close, Colon, Semicolon, Dot, Hash, Other}
-
--- words that are values of another kind, or operators
-abbrev pub is_reserved : List ℕ → Bool
-is_reserved word = bytes_eq word (codes "true") || bytes_eq word (codes "false") || bytes_eq word (codes "null") || bytes_eq word (codes "and") || bytes_eq word (codes "or") || bytes_eq word (codes "not")
-
-abbrev pub begins_with_letter : List ℕ → Bool
-begins_with_letter [] = false
-begins_with_letter (b ∷ bs) = (nat_le 65 b && nat_le b 90) || (nat_le 97 b && nat_le b 122)
 
 abbrev pub word_role : Bool → Role
 word_role true = Reserved

@@ -6,6 +6,8 @@ mod flat;
 mod mark;
 mod reading;
 mod tree;
+mod url;
+mod word;
 
 pub use end::ReadEnd;
 pub use reading::read;

@@ -2,9 +2,10 @@
 ghost use Rattle.std.specs.Prelude.{◌≡◌, IfOk, All};
 ghost use Rattle.sw_tokens.specs.Listed.{LiesIn as TokenLiesIn};
 ghost use Rattle.sw_scss_parse.specs.Pieces.{IsSign, LiesIn};
-ghost use Rattle.sw_scss_parse.specs.Marks.{is_reserved, begins_with_letter, word_role, hex_role, role_of, is_word, is_sign, alone, with_sign, behind_sign, marked, mark_of, sign_of, marks_of};
+ghost use Rattle.sw_scss_parse.specs.Marks.{word_role, hex_role, role_of, is_word, is_sign, alone, with_sign, behind_sign, marked, mark_of, sign_of, marks_of};
 
 use crate::Piece;
+use crate::word::{begins_with_letter, is_reserved};
 use std::alloc::Global;
 use sw_text::Memory;
 use sw_tokens::{Token, TokenKind, Tokens};
@@ -37,27 +38,6 @@ pub struct Mark {
     pub to: u32,
     /// The `.` or `#` directly before a word, else the token itself.
     pub start: u32,
-}
-
-// Whether a plain word is a value that is no word, or an operator.
-fn is_reserved(word: &str) -> bool
-    ensures { result ≡ is_reserved word.now }
-{
-    word == "true"
-        || word == "false"
-        || word == "null"
-        || word == "and"
-        || word == "or"
-        || word == "not"
-}
-
-fn begins_with_letter(text: &str) -> bool
-    ensures { result ≡ begins_with_letter text.now }
-{
-    match text.as_bytes() {
-        [first, ..] => first.is_ascii_alphabetic(),
-        [] => false,
-    }
 }
 
 fn word_role(reserved: bool) -> Role
