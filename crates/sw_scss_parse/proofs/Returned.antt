@@ -6,7 +6,8 @@ use Rattle.sw_text.specs.declared.fault.Fault.{Fault}
 use Rattle.sw_tokens.specs.declared.token.Token.{Token}
 use Rattle.sw_tokens.specs.declared.token.Fault10.{Fault10}
 use Rattle.sw_tokens.specs.declared.token.Fault10.TheVariants as tokens
-use Rattle.sw_tokens.specs.Listed.{tokens_of, Lexed}
+use Rattle.sw_tokens.specs.Ends.{tokens_of}
+use Rattle.sw_tokens.specs.Faults.{TellsFault, IsFaultBy}
 use Rattle.sw_scss_parse.proofs.Trees.{rules_of_map}
 use Rattle.sw_scss_parse.proofs.Whole.{sheet_is_read}
 use Rattle.sw_scss_parse.specs.declared.mark.Mark.{Mark}
@@ -32,11 +33,14 @@ tokens_returned sheet text list r e is x =
     let y = subst (λ (s : Text). Returns r (marks_read s.path s.bytes (marks_of s.bytes list))) e x in
     subst (λ (t : Result (List Token) ℕ). Returns r (tokens_read text.path text.bytes t)) (sym is) y
 
-pub unclosed_returned : (sheet : Text) (fault : Fault10) → Lexed sheet (Err fault) → Returns (Err (end_of fault)) (sheet_of sheet.path sheet.bytes)
+pub unclosed_returned : (sheet : Text) (fault : Fault10) → TellsFault sheet (tokens_of sheet.bytes) fault → Returns (Err (end_of fault)) (sheet_of sheet.path sheet.bytes)
 unfolding sheet_of
 unclosed_returned sheet tokens.Memory l = tt
-unclosed_returned sheet (tokens.Fault fault) (at, e, is) =
-    ap (tokens_read sheet.path sheet.bytes) e ∙ ap (λ (x : Fault). let r : Result Sheet Fault = Err x in r) (sym is)
+unclosed_returned sheet (tokens.Fault fault) l = go (tokens_of sheet.bytes) l
+  where
+    go : (r : Result (List Token) ℕ) → IsFaultBy sheet r fault → tokens_read sheet.path sheet.bytes r ≡ Err fault
+    go (Ok ts) x = absurd x
+    go (Err k) x = ap (λ (f : Fault). let r : Result Sheet Fault = Err f in r) (sym x)
 
 -- what is returned obeys the grammar
 pub obeys : (path bytes : List ℕ) (r : Result Sheet ReadEnd) → Returns r (sheet_of path bytes) → Obeys path bytes r

@@ -5,7 +5,7 @@ use Rattle.std.proofs.lemmas.Option.{slice_get_within, slice_get_cases, get_or_f
 use Rattle.std.specs.List.{slice_get}
 use Rattle.std.proofs.lemmas.Bool.Decides.{nat_tests}
 use Rattle.sw_tokens.specs.declared.token.Token.{Token}
-use Rattle.sw_tokens.specs.Listed.{LiesIn as TokenLiesIn}
+use Rattle.sw_tokens.specs.Order.{StandsIn}
 use Rattle.sw_scss_parse.specs.declared.tree.Piece.{Piece}
 use Rattle.sw_scss_parse.specs.declared.mark.Mark.{Mark}
 use Rattle.sw_scss_parse.specs.declared.mark.Role.{Role}
@@ -13,12 +13,12 @@ use Rattle.sw_scss_parse.specs.declared.mark.Role.TheVariants.{Other}
 use Rattle.sw_scss_parse.specs.Marks.{alone, with_sign, behind_sign, marked, mark_of, sign_when, sign_of, is_word, marks_behind, marks_of}
 use Rattle.sw_scss_parse.specs.Pieces.{IsPiece, IsSign, LiesIn}
 
-alone_lies : (bytes : List ℕ) (role : Role) (token : Token) → TokenLiesIn bytes token → LiesIn bytes (alone role token)
+alone_lies : (bytes : List ℕ) (role : Role) (token : Token) → StandsIn bytes token → LiesIn bytes (alone role token)
 alone_lies bytes role token t =
     let p : IsPiece bytes (record { from = token.from; to = token.to }) = record { from = t.from; to = t.to; order = t.order } in
     record { own = p; whole = p }
 
-with_sign_lies : (bytes : List ℕ) (b : Bool) (role : Role) (sign : Piece) (token : Token) → TokenLiesIn bytes token → IsPiece bytes sign → (sign.from ≤ token.to) ⊎ (b ≡ false) → LiesIn bytes (with_sign b role sign token)
+with_sign_lies : (bytes : List ℕ) (b : Bool) (role : Role) (sign : Piece) (token : Token) → StandsIn bytes token → IsPiece bytes sign → (sign.from ≤ token.to) ⊎ (b ≡ false) → LiesIn bytes (with_sign b role sign token)
 with_sign_lies bytes false role sign token t s l = alone_lies bytes Other token t
 with_sign_lies bytes true role sign token t s (inl l) =
     record { own = record { from = t.from; to = t.to; order = t.order }; whole = record { from = s.from; to = t.to; order = l } }
@@ -31,11 +31,11 @@ directly a b from to ab ft = go (b == from) refl
     go false e = inr refl
     go true e = inl (grind (arith, nat_tests))
 
-behind_sign_lies : (bytes : List ℕ) (b : Bool) (role : Role) (sign : Piece) (token : Token) → TokenLiesIn bytes token → IsPiece bytes sign → LiesIn bytes (behind_sign b role sign token)
+behind_sign_lies : (bytes : List ℕ) (b : Bool) (role : Role) (sign : Piece) (token : Token) → StandsIn bytes token → IsPiece bytes sign → LiesIn bytes (behind_sign b role sign token)
 behind_sign_lies bytes false role sign token t s = alone_lies bytes role token t
 behind_sign_lies bytes true role sign token t s = with_sign_lies bytes (sign.to == token.from) role sign token t s (directly sign.from sign.to token.from token.to s.order t.order)
 
-pub marked_lies : (bytes : List ℕ) (sign : Option Piece) (role : Role) (token : Token) → TokenLiesIn bytes token → IsSign bytes sign → LiesIn bytes (marked sign role token)
+pub marked_lies : (bytes : List ℕ) (sign : Option Piece) (role : Role) (token : Token) → StandsIn bytes token → IsSign bytes sign → LiesIn bytes (marked sign role token)
 marked_lies bytes None role token t s = alone_lies bytes role token t
 marked_lies bytes (Some sign) role token t s = behind_sign_lies bytes (is_word role) role sign token t s
 

@@ -7,7 +7,7 @@ use Rattle.std.specs.List.{slice_get}
 use Rattle.sw_grammar.specs.Grammar.{many, member, Answer, Got, Unexpected, TooDeep, Reads, Derives, DerivesAny, DerivesIn, Row, done, then}
 use Rattle.sw_grammar.proofs.Whole.{parse_reads, parse_reads_deep}
 use Rattle.sw_grammar.proofs.Ends.{derives_end}
-use Rattle.sw_tokens.specs.Listed.{tokens_of}
+use Rattle.sw_tokens.specs.Ends.{tokens_of}
 use Rattle.sw_tokens.specs.declared.token.Token.{Token}
 use Rattle.sw_scss_parse.proofs.Loops.{fit, forms_nested}
 use Rattle.sw_scss_parse.proofs.Numbers.{positive}

@@ -9,7 +9,7 @@ use Rattle.sw_text.specs.declared.fault.FaultCode.{FaultCode}
 use Rattle.sw_text.specs.declared.fault.FaultCode.TheVariants.{Syntax, Depth}
 use Rattle.sw_text.specs.declared.place.Span.{Span}
 use Rattle.sw_tokens.specs.declared.token.Token.{Token}
-use Rattle.sw_tokens.specs.Listed.{tokens_of}
+use Rattle.sw_tokens.specs.Ends.{tokens_of}
 use Rattle.sw_scss_parse.specs.declared.mark.Mark.{Mark}
 use Rattle.sw_scss_parse.specs.declared.tree.Rule.{Rule}
 use Rattle.sw_scss_parse.specs.declared.tree.Declaration.{Declaration}

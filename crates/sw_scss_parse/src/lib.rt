@@ -12,3 +12,6 @@ mod word;
 pub use end::ReadEnd;
 pub use reading::read;
 pub use tree::{Declaration, Piece, Rule, Sheet};
+
+#[cfg(test)]
+mod tests;

@@ -1,6 +1,6 @@
 // What the grammar of flat sheets sees of a token.
 ghost use Rattle.std.specs.Prelude.{◌≡◌, IfOk, All};
-ghost use Rattle.sw_tokens.specs.Listed.{LiesIn as TokenLiesIn};
+ghost use Rattle.sw_tokens.specs.Order.{StandsIn};
 ghost use Rattle.sw_scss_parse.specs.Pieces.{IsSign, LiesIn};
 ghost use Rattle.sw_scss_parse.specs.Marks.{word_role, hex_role, role_of, is_word, is_sign, alone, with_sign, behind_sign, marked, mark_of, sign_of, marks_of};
 
@@ -137,7 +137,7 @@ fn sign_of(text: &str, mark: Mark) -> Option<Piece>
 
 #[tactic(auto, unfolding(crate::specs::Marks::mark_of))]
 fn mark_of(text: &str, sign: Option<Piece>, token: Token) -> Mark
-    requires token { TokenLiesIn text.now token }
+    requires token { StandsIn text.now token }
     requires sign { IsSign text.now sign }
     ensures mark { result ≡ mark_of text.now sign token }
     ensures lies { LiesIn text.now result }

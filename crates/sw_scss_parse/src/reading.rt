@@ -18,7 +18,7 @@ const LEVELS: u8 = 128;
 
 /// The sheet of a text: a list of rules, each of a selector and declarations. A fault stands at the first token with which no sheet can
 /// begin, or at the end of the text. This project's own first grammar.
-pub fn read(alloc: Global, text: &SheetText) -> Result<Shared<Sheet>, ReadEnd>
+pub fn read(alloc: Global, text: &Shared<SheetText>) -> Result<Shared<Sheet>, ReadEnd>
     ensures result { Returns result (sheet_of text.now.path text.now.bytes) }
     ensures grammar { Obeys text.now.path text.now.bytes result }
     ensures lies { IfOk result (Lies text.now.bytes) }

@@ -36,3 +36,6 @@ tokens-preserved c = record {
 pub returns-clause-marks : goal.returns-clause-marks
 returns-clause-marks c =
     marks_all _ _ _ _ _ c.in_default.ensures.value c.tokens.invariant.marks
+
+pub mark_of-mark-requires-clause-token : goal.mark_of-mark-requires-clause-token
+mark_of-mark-requires-clause-token c = rw c.tokens.invariant.text (c.in-Some.ensures.stands c.in-Some.token.now (sym c.in-Some.ensures.value))
