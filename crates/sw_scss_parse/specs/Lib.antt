@@ -1,0 +1,9 @@
+pub mod Roles
+pub mod Words
+pub mod Urls
+pub mod Marks
+pub mod Pieces
+pub mod FlatGrammar
+pub mod FlatReader
+pub mod Ends
+pub mod Reading
