@@ -4,3 +4,6 @@
 mod page;
 
 pub use page::print;
+
+#[cfg(test)]
+mod tests;

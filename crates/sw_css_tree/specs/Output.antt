@@ -1,5 +1,5 @@
 -- The output of a module, as it grows (this project's own rule on the order of rules).
-use Rattle.std.specs.Prelude.{ℕ, zero, suc, ◌+◌, ◌-◌, ◌<◌, List, [], ◌∷◌, ◌++◌, length, take, slice_index}
+use Rattle.std.specs.Prelude.{ℕ, zero, suc, Bool, nat_lt, ◌+◌, ◌-◌, ◌<◌, List, [], ◌∷◌, ◌++◌, length, take, slice_index}
 use Rattle.sw_css_tree.specs.declared.block.Block.{Block}
 use Rattle.sw_css_tree.specs.declared.block.Line.{Line}
 
@@ -18,6 +18,10 @@ AreBelow end (at ∷ places) = (at < end) × AreBelow end places
 
 abbrev pub nothing : Output
 nothing = record { blocks = []; open_places = []; number = 0; bytes = 0 }
+
+-- a rule is open
+abbrev pub is_open : Output → Bool
+is_open out = nat_lt 0 (length out.open_places)
 
 -- a rule with these selectors is opened: it is the last block, and the innermost open one
 abbrev pub opened : Output → List ℕ → Output

@@ -1,6 +1,6 @@
 // The tree and what may be added to it.
 ghost use Rattle.std.specs.Prelude.{◌≡◌, ◌+◌, ◌<◌, ◌≤◌, ◌↔◌, [], length, OnOk, OnErr, IsErrOf, IfErr, MatchResult};
-ghost use Rattle.sw_css_tree.specs.Output.{nothing, opened, declared, closed, line_added, most};
+ghost use Rattle.sw_css_tree.specs.Output.{nothing, is_open, opened, declared, closed, line_added, most};
 ghost use Rattle.sw_css_tree.specs.declared.block.Line.TheVariants.{Declaration};
 ghost use Rattle.sw_css_tree.specs.declared.fault.TreeFault.TheVariants as F;
 
@@ -51,6 +51,13 @@ impl CssTree {
         ensures { result.now ≡ self.now.blocks }
     {
         self.blocks.as_slice()
+    }
+
+    /// Whether a rule is open.
+    pub fn is_open(&self) -> bool
+        ensures { result ≡ is_open self.now }
+    {
+        !self.places.is_empty()
     }
 
     /// What follows belongs to the top-level statement of this number. Takes no memory.

@@ -8,3 +8,6 @@ mod fault;
 pub use block::{Block, Line};
 pub use css_tree::CssTree;
 pub use fault::TreeFault;
+
+#[cfg(test)]
+mod tests;
