@@ -4,3 +4,4 @@ pub mod Turning
 pub mod Serving
 pub mod Growing
 pub mod Whole
+pub mod RuleByRule

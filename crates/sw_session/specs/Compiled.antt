@@ -1,14 +1,18 @@
 -- What a compile of a folder gives. This project's own rule.
-use Rattle.std.specs.Prelude.{ℕ, Bool, ◌||◌, nat_eq, if◌then◌else◌, List, [], Option, None, Some, codes}
+use Rattle.std.specs.Prelude.{ℕ, Bool, ◌||◌, nat_eq, if◌then◌else◌, List, Option, None, Some, Result, Ok, Err, codes}
 use Rattle.std.specs.List.{ends_with}
 use Rattle.std.specs.FinMap.{get}
 use Rattle.sw_text.specs.declared.fault.FaultCode.{FaultCode}
 use Rattle.sw_text.specs.declared.fault.FaultCode.TheVariants.{Syntax, NotFound}
+use Rattle.sw_text.specs.declared.fault.Fault.{Fault}
 use Rattle.sw_folder.specs.Files.{Files}
 use Rattle.sw_folder.specs.Paths.{is_path}
+use Rattle.sw_scss_parse.specs.declared.tree.Sheet.{Sheet}
+use Rattle.sw_scss_parse.specs.Reading.{sheet_of}
 use Rattle.sw_wire.specs.declared.reply.Outcome.{Outcome}
 use Rattle.sw_wire.specs.declared.reply.Outcome.TheVariants.{Css, Error}
 use Rattle.sw_wire.specs.declared.reply.Reply.{Reply}
+use Rattle.sw_session.specs.Printed.{printed}
 
 abbrev pub has_ending : List ℕ → List ℕ → Bool
 has_ending path ending = ends_with nat_eq path ending
@@ -17,9 +21,13 @@ has_ending path ending = ends_with nat_eq path ending
 abbrev pub fault_at_start : FaultCode → List ℕ → Outcome
 fault_at_start code path = Error (record { code = code; span = record { file = path; from = record { line = 1; column = 1 }; to = record { line = 1; column = 1 } } })
 
--- what the text of a sheet gives
+abbrev pub read_outcome : List ℕ → Result Sheet Fault → Outcome
+read_outcome text (Ok sheet) = Css (printed text sheet)
+read_outcome text (Err fault) = Error fault
+
+-- what the text of a sheet gives: its CSS, or the fault of reading it
 abbrev pub sheet_outcome : List ℕ → List ℕ → Outcome
-sheet_outcome path text = Css []
+sheet_outcome path text = read_outcome text (sheet_of path text)
 
 -- what a file gives, by the ending of its path: an indented sheet and a plain CSS sheet aren't read yet
 abbrev pub file_outcome : List ℕ → List ℕ → Outcome

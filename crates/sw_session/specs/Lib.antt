@@ -1,3 +1,4 @@
+pub mod Printed
 pub mod Compiled
 pub mod Script
 pub mod Transcript

@@ -1,11 +1,14 @@
 // A compile of a file of the folder.
-ghost use Rattle.std.specs.Prelude.{◌≡◌, codes, IfOk};
-ghost use Rattle.sw_session.specs.Compiled.{answer, found_outcome, file_outcome, has_ending, fault_at_start};
+ghost use Rattle.std.specs.Prelude.{◌≡◌, ◌≤◌, length, IfOk};
+ghost use Rattle.sw_session.specs.Compiled.{answer, file_outcome, sheet_outcome, has_ending, fault_at_start};
+ghost use Rattle.sw_folder.specs.Files.{most_bytes};
 ghost use Rattle.sw_wire.specs.Replies.{reply_text};
 
+use crate::printing::print;
 use std::alloc::Global;
 use sw_folder::Folder;
-use sw_text::{Fault, FaultCode, List, Memory, Name, Pos, Span};
+use sw_scss_parse::{ReadEnd, read};
+use sw_text::{Fault, FaultCode, List, Memory, Name, Pos, Shared, SheetText, Span};
 use sw_wire::{Outcome, Reply, write_reply};
 
 /// The reply to a compile of this file: the CSS of its text, or the first fault. A file that the folder doesn't hold, or whose
@@ -28,15 +31,31 @@ pub fn compile(
 }
 
 fn compile_file(alloc: Global, path: &Name, text: &Name) -> Result<Outcome, Memory>
+    requires { length text.now ≤ most_bytes }
     ensures { IfOk result (λ outcome. outcome ≡ file_outcome path.now text.now) }
 {
     if has_ending(path, ".scss") {
-        let _ = text;
-        Ok(Outcome::Css(List::new(alloc)))
+        compile_sheet(alloc, path, text)
     } else if has_ending(path, ".sass") || has_ending(path, ".css") {
         fault_at_start(FaultCode::Syntax, path)
     } else {
         fault_at_start(FaultCode::NotFound, path)
+    }
+}
+
+fn compile_sheet(alloc: Global, path: &Name, text: &Name) -> Result<Outcome, Memory>
+    requires { length text.now ≤ most_bytes }
+    ensures { IfOk result (λ outcome. outcome ≡ sheet_outcome path.now text.now) }
+{
+    let sheet_text = SheetText::new(alloc, path.share()?, text.share()?)?;
+    let sheet_text = Shared::new(alloc, sheet_text)?;
+    match read(alloc, &sheet_text) {
+        Ok(sheet) => {
+            let css = print(alloc, text.as_str().as_bytes(), sheet.get())?;
+            Ok(Outcome::Css(css))
+        }
+        Err(ReadEnd::Fault(fault)) => Ok(Outcome::Error(fault)),
+        Err(ReadEnd::Memory) => Err(Memory),
     }
 }
 

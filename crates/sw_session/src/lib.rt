@@ -8,6 +8,7 @@ mod command;
 mod compiling;
 mod edits;
 mod laws;
+mod printing;
 mod sending;
 mod service;
 mod stop;
