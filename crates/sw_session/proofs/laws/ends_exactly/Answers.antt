@@ -1,0 +1,5 @@
+use Rattle.sw_session.proofs.Whole.{exactly}
+use Rattle.sw_session.proofs.laws.ends_exactly.Goals as goal
+
+pub returns : goal.returns
+returns c = exactly

@@ -1,0 +1,9 @@
+pub mod Printed
+pub mod Compiled
+pub mod Script
+pub mod Transcript
+pub mod Status
+pub mod Turns
+pub mod Served
+pub mod Exactly
+pub mod Commands

@@ -1,0 +1,168 @@
+-- What one turn of the session's loop does, by how it ends.
+use Rattle.std.specs.Prelude.{◌≡◌, ◌≢◌, ℕ, ◌≤◌, List, [], ◌∷◌, ◌++◌, length, ⊤, Option, Result, IsErrOf}
+use Rattle.std.specs.Io.KnownBytes.{Appends, IsAtEnd}
+use Rattle.sw_io.specs.Reads.{Reads}
+use Rattle.sw_io.specs.Causes.{Rose}
+use Rattle.sw_folder.specs.Files.{Files}
+use Rattle.sw_folder.specs.Edits.{after_put, folder_after}
+use Rattle.sw_wire.specs.Replies.{edit_text}
+use Rattle.sw_session.specs.declared.stop.Stop.{Stop}
+use Rattle.sw_session.specs.declared.stop.Stop.TheVariants.{Ended, Wrong, CutOff, SourceFailed, SinkFailed, Memory, Over as Over_stop}
+use Rattle.sw_session.specs.Script.{Event, Whole, Closing, NoRequest, Short, next, End, Bad, Over, Cut, last}
+use Rattle.sw_session.specs.Transcript.{Mark, replies}
+
+-- where a session stands: the bytes taken ahead, those left in the source, and those written
+pub record Place : Type 0 where
+  pub ahead : List ℕ
+  pub left : Option (List ℕ)
+  pub written : Option (List ℕ)
+
+abbrev pub place : List ℕ → Option (List ℕ) → Option (List ℕ) → Place
+place ahead left written = record { ahead = ahead; left = left; written = written }
+
+-- the bytes used between two places
+abbrev pub Uses : Place → List ℕ → Place → Type 0
+Uses old used new = Reads old.ahead old.left used new.ahead new.left
+
+-- over the first folder this is the reply to the request, and the second folder is left
+abbrev pub Replies : Files → Event → List Mark → List ℕ → Files → Type 0
+Replies old event marks reply new =
+    (events : List Event) (later : List Mark) → replies old (event ∷ events) (marks ++ later) ≡ reply ∷ replies new events later
+
+-- the reply to a request was written
+pub record Says (event : Event) (before after : Files) (written written_now : Option (List ℕ)) : Type 0 where
+  pub marks : List Mark
+  pub reply : List ℕ
+  pub replies : Replies before event marks reply after
+  pub sends : Appends written written_now reply
+
+-- a front of the reply to a request was written
+pub record SaysSome (event : Event) (before : Files) (written written_now : Option (List ℕ)) : Type 0 where
+  pub marks : List Mark
+  pub reply : List ℕ
+  pub after : Files
+  pub front : List ℕ
+  pub back : List ℕ
+  pub replies : Replies before event marks reply after
+  pub parts : reply ≡ front ++ back
+  pub sends : Appends written written_now front
+
+-- a request was read and answered
+pub record Answers (old : Place) (before : Files) (new : Place) (after : Files) : Type 0 where
+  pub used : List ℕ
+  pub event : Event
+  pub uses : Uses old used new
+  pub whole : (rest : List ℕ) → next (used ++ rest) ≡ Whole event rest
+  pub says : Says event before after old.written new.written
+
+-- a request was read, and a front of its reply was written
+pub record Breaks (old : Place) (before : Files) (new : Place) : Type 0 where
+  pub used : List ℕ
+  pub event : Event
+  pub uses : Uses old used new
+  pub whole : (rest : List ℕ) → next (used ++ rest) ≡ Whole event rest
+  pub says : SaysSome event before old.written new.written
+  pub near : length new.ahead ≤ 4096
+
+-- bytes were used that begin as the definition says, however they go on, and nothing was written
+abbrev pub Finds : {T : Type 0} → (List ℕ → T) → T → Place → Place → Type 0
+Finds meaning is old new = (used : List ℕ) × Uses old used new × ((rest : List ℕ) → meaning (used ++ rest) ≡ is) × Appends old.written new.written []
+
+-- all that the source gave was used, it means this, and nothing was written
+abbrev pub Drains : {T : Type 0} → (List ℕ → T) → T → Place → Place → Type 0
+Drains meaning is old new = (used : List ℕ) × Uses old used new × (meaning used ≡ is) × (new.ahead ≡ []) × Appends old.written new.written []
+
+-- some bytes were used, and nothing was written
+abbrev pub Forgets : Place → Place → Type 0
+Forgets old new = (used : List ℕ) × Uses old used new × Appends old.written new.written []
+
+-- how a turn ends that doesn't answer its request whole
+abbrev pub TurnEnds : Stop → Place → Files → Place → Type 0
+TurnEnds Ended old files new = Finds next Closing old new
+TurnEnds Wrong old files new = Finds next NoRequest old new
+TurnEnds CutOff old files new = Drains next Short old new × IsAtEnd new.left
+TurnEnds SourceFailed old files new = Drains next Short old new
+TurnEnds SinkFailed old files new = Breaks old files new
+TurnEnds Memory old files new = Forgets old new
+TurnEnds Over_stop old files new = ⊥
+
+-- how the session ends where no more requests are answered
+abbrev pub LastEnds : Stop → Place → Place → Type 0
+LastEnds Ended old new = Finds last End old new
+LastEnds Wrong old new = Finds last Bad old new
+LastEnds CutOff old new = Drains last Cut old new × IsAtEnd new.left
+LastEnds SourceFailed old new = Drains last Cut old new
+LastEnds SinkFailed old new = ⊥
+LastEnds Memory old new = Forgets old new
+LastEnds Over_stop old new = Finds last Over old new
+
+-- how the reading of a put's bytes ends, without the line feed behind them
+abbrev pub BodyEnds : Stop → ℕ → List ℕ → List ℕ → Option (List ℕ) → Type 0
+BodyEnds Ended count used ahead left = ⊥
+BodyEnds Wrong count used ahead left = (bytes : List ℕ) × (byte : ℕ) × (used ≡ bytes ++ byte ∷ []) × (length bytes ≡ count) × (byte ≢ 10)
+BodyEnds CutOff count used ahead left = (length used ≤ count) × (ahead ≡ []) × IsAtEnd left
+BodyEnds SourceFailed count used ahead left = (length used ≤ count) × (ahead ≡ [])
+BodyEnds SinkFailed count used ahead left = ⊥
+BodyEnds Memory count used ahead left = ⊤
+BodyEnds Over_stop count used ahead left = ⊥
+
+-- a put's bytes were read, and judged over the folder
+pub record Puts (path : List ℕ) (count : ℕ) (ahead : List ℕ) (left : Option (List ℕ)) (before : Files)
+    (ahead_now : List ℕ) (left_now : Option (List ℕ)) (after : Files) (said : List ℕ) : Type 0 where
+  pub bytes : List ℕ
+  pub uses : Reads ahead left (bytes ++ 10 ∷ []) ahead_now left_now
+  pub long : length bytes ≡ count
+  pub reply : said ≡ edit_text (after_put path bytes before)
+  pub folder : after ≡ folder_after (after_put path bytes before) before
+
+-- how a put ends that has no reply
+abbrev pub PutEnds : Stop → ℕ → List ℕ → Option (List ℕ) → List ℕ → Option (List ℕ) → Type 0
+PutEnds stop count ahead left ahead_now left_now =
+    (used : List ℕ) × Reads ahead left used ahead_now left_now × BodyEnds stop count used ahead_now left_now
+
+-- a put was answered
+pub record PutAnswers (path : List ℕ) (count : ℕ) (old : Place) (before : Files) (new : Place) (after : Files) : Type 0 where
+  pub bytes : List ℕ
+  pub uses : Uses old (bytes ++ 10 ∷ []) new
+  pub long : length bytes ≡ count
+  pub reply : List ℕ
+  pub is : reply ≡ edit_text (after_put path bytes before)
+  pub folder : after ≡ folder_after (after_put path bytes before) before
+  pub sends : Appends old.written new.written reply
+
+-- a put was judged, and a front of its reply was written
+pub record PutBreaks (path : List ℕ) (count : ℕ) (old : Place) (before : Files) (new : Place) : Type 0 where
+  pub bytes : List ℕ
+  pub uses : Uses old (bytes ++ 10 ∷ []) new
+  pub long : length bytes ≡ count
+  pub reply : List ℕ
+  pub is : reply ≡ edit_text (after_put path bytes before)
+  pub front : List ℕ
+  pub back : List ℕ
+  pub parts : reply ≡ front ++ back
+  pub sends : Appends old.written new.written front
+  pub near : length new.ahead ≤ 4096
+
+abbrev pub BodyStops : Stop → ℕ → Place → Place → Type 0
+BodyStops stop count old new = (used : List ℕ) × Uses old used new × BodyEnds stop count used new.ahead new.left × Appends old.written new.written []
+
+-- how a put ends that isn't answered whole
+abbrev pub PutStops : Stop → List ℕ → ℕ → Place → Files → Place → Type 0
+PutStops Ended path count old before new = ⊥
+PutStops Wrong path count old before new = BodyStops Wrong count old new
+PutStops CutOff path count old before new = BodyStops CutOff count old new
+PutStops SourceFailed path count old before new = BodyStops SourceFailed count old new
+PutStops SinkFailed path count old before new = PutBreaks path count old before new
+PutStops Memory path count old before new = Forgets old new
+PutStops Over_stop path count old before new = ⊥
+
+-- the counts of faults didn't fall, and rose where the result says so
+pub record Causes {T : Type 0} (source source_now sink sink_now : ℕ) (result : Result T Stop) : Type 0 where
+  pub source_later : source ≤ source_now
+  pub sink_later : sink ≤ sink_now
+  pub source_rose : IsErrOf result SourceFailed → Rose source source_now
+  pub sink_rose : IsErrOf result SinkFailed → Rose sink sink_now
+
+pub record SourceCause {T : Type 0} (source source_now : ℕ) (result : Result T Stop) : Type 0 where
+  pub later : source ≤ source_now
+  pub rose : IsErrOf result SourceFailed → Rose source source_now

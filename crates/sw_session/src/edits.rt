@@ -1,0 +1,66 @@
+// What comes of an edit.
+ghost use Rattle.std.specs.Prelude.{◌≡◌, ◌≤◌, Err, IfOk, IfErr, OnOk, OnErr, length};
+ghost use Rattle.sw_folder.specs.Edits.{after_put, after_removal, folder_after};
+ghost use Rattle.sw_wire.specs.Replies.{edit_text};
+ghost use Rattle.sw_session.specs.Turns.{Puts, PutEnds, SourceCause};
+
+use crate::body::read_body;
+use crate::stop::Stop;
+use std::alloc::Global;
+use sw_folder::{EditFault, Folder, unread_fault};
+use sw_io::{Reader, Source};
+use sw_text::Name;
+use sw_wire::edit_reply;
+
+/// Reads the bytes of a put, judges it and edits the folder; gives the reply. The bytes of a put that is refused for its path or
+/// its length are dropped as they come.
+pub fn put<S: Source>(
+    alloc: Global,
+    path: &Name,
+    count: u32,
+    reader: &mut Reader,
+    folder: &mut Folder,
+    source: &mut S,
+) -> Result<&'static [u8], Stop>
+    ensures ok { IfOk result (λ reply. Puts path.now count reader.old (S.left source.old) folder.old
+        reader.new (S.left source.new) folder.new reply.now) }
+    ensures err { IfErr result (λ stop. PutEnds stop count reader.old (S.left source.old) reader.new (S.left source.new)) }
+    ensures bound { OnOk result (length reader.new ≤ 4096) }
+    ensures cause { SourceCause (S.faults source.old) (S.faults source.new) result }
+{
+    let mut body = Vec::new(alloc);
+    match unread_fault(path.as_str(), count as usize) {
+        Some(fault) => {
+            read_body(reader, source, count, false, &mut body)?;
+            Ok(edit_reply(Err(fault)))
+        }
+        None => {
+            read_body(reader, source, count, true, &mut body)?;
+            keep(folder, path.as_str(), &body)
+        }
+    }
+}
+
+// puts the file into the folder, and gives the reply
+fn keep(folder: &mut Folder, path: &str, body: &[u8]) -> Result<&'static [u8], Stop>
+    ensures reply { IfOk result (λ reply. reply.now ≡ edit_text (after_put path.now body.now folder.old)) }
+    ensures folder { OnOk result (folder.new ≡ folder_after (after_put path.now body.now folder.old) folder.old) }
+    ensures err { IfErr result (λ stop. stop ≡ Stop.Memory) }
+{
+    match folder.put(path, body) {
+        Ok(()) => Ok(edit_reply(Ok(()))),
+        Err(EditFault::Memory) => Err(Stop::Memory),
+        Err(fault) => Ok(edit_reply(Err(fault))),
+    }
+}
+
+/// Takes a file out of the folder, and gives the reply.
+pub fn remove(folder: &mut Folder, path: &str) -> &'static [u8]
+    ensures reply { result.now ≡ edit_text (after_removal path.now folder.old) }
+    ensures folder { folder.new ≡ folder_after (after_removal path.now folder.old) folder.old }
+{
+    match folder.remove(path) {
+        Ok(()) => edit_reply(Ok(())),
+        Err(fault) => edit_reply(Err(fault)),
+    }
+}

@@ -1,0 +1,14 @@
+// What follows from the contract of `serve`.
+ghost use Rattle.std.specs.Prelude.{◌≡◌, ◌⊎◌, ℕ, List, Option, Some};
+ghost use Rattle.sw_session.specs.declared.stop.Stop.{Stop};
+ghost use Rattle.sw_session.specs.Script.{script};
+ghost use Rattle.sw_session.specs.Served.{Served};
+ghost use Rattle.sw_session.specs.Exactly.{stop_at, IsBrokenOff};
+
+/// Over a source that tells its bytes, a session that no fault and no want of memory breaks off ends exactly as the script
+/// of all these bytes calls for, and it has answered that script.
+pub fn ends_exactly()
+    ensures { (most : ℕ) (stop : Stop) (bytes : List ℕ) (left written written_now : Option (List ℕ))
+        (s : Served most stop (Some bytes) left written written_now)
+        → IsBrokenOff stop ⊎ ((stop ≡ stop_at (script most bytes).ending) × (script most s.taken ≡ script most bytes)) }
+{}

@@ -1,0 +1,62 @@
+// Why a session ends.
+ghost use Rattle.std.specs.Prelude.{◌≡◌};
+ghost use Rattle.sw_session.specs.Status.{status_of, stop_of, stop_of_line};
+
+use sw_io::ReadStop;
+use sw_wire::LineFault;
+
+#[derive(Clone, Copy, Debug, PartialEq, Eq)]
+pub enum Stop {
+    /// The line `end` was read.
+    Ended,
+    /// The next line is no request, or a put's bytes don't end with a line feed.
+    Wrong,
+    /// The input ended before the line `end`.
+    CutOff,
+    SourceFailed,
+    SinkFailed,
+    Memory,
+    /// All requests that a session may have were answered, and another one came.
+    Over,
+}
+
+impl Stop {
+    /// The status with which the program ends.
+    pub fn status(self) -> u8
+        ensures { result ≡ status_of self }
+    {
+        match self {
+            Stop::Ended => 0,
+            Stop::Wrong => 2,
+            Stop::CutOff => 3,
+            Stop::SourceFailed => 4,
+            Stop::SinkFailed => 5,
+            Stop::Memory => 6,
+            Stop::Over => 9,
+        }
+    }
+}
+
+impl From<ReadStop> for Stop {
+    ghost from_gives = { λ stop result. result ≡ stop_of stop };
+
+    fn from(stop: ReadStop) -> Self {
+        match stop {
+            ReadStop::TooLong => Stop::Wrong,
+            ReadStop::Ended => Stop::CutOff,
+            ReadStop::Failed => Stop::SourceFailed,
+            ReadStop::Memory => Stop::Memory,
+        }
+    }
+}
+
+impl From<LineFault> for Stop {
+    ghost from_gives = { λ fault result. result ≡ stop_of_line fault };
+
+    fn from(fault: LineFault) -> Self {
+        match fault {
+            LineFault::NotARequest => Stop::Wrong,
+            LineFault::Memory => Stop::Memory,
+        }
+    }
+}

@@ -1,0 +1,5 @@
+pub mod Every
+pub mod Spaces
+pub mod Digits
+pub mod Plain
+pub mod LoadPaths

@@ -1,0 +1,18 @@
+//! The protocol of a session: what a line asks for, and which lines a reply is.
+//! Lines flow in and become requests; replies flow down and become bytes.
+#![tactic(auto)]
+
+mod bases;
+mod fault;
+mod number;
+mod read;
+mod reply;
+mod request;
+#[cfg(test)]
+mod tests;
+mod words;
+
+pub use fault::LineFault;
+pub use read::read_request;
+pub use reply::{Outcome, Reply, edit_reply, memory_reply, write_reply};
+pub use request::Request;
