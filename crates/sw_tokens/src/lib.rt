@@ -11,3 +11,6 @@ mod tokens;
 
 pub use token::{Fault10, Token, TokenKind};
 pub use tokens::Tokens;
+
+#[cfg(test)]
+mod tests;
