@@ -6,6 +6,7 @@ mod ends;
 mod pieces;
 mod runs;
 mod scan;
+mod skips;
 mod token;
 mod tokens;
 

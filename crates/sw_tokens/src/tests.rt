@@ -179,6 +179,47 @@ fn lists_of_what_opens(rt: HostRuntime) -> Result<(), Fail> {
 }
 
 #[test]
+fn lists_of_urls(rt: HostRuntime) -> Result<(), Fail> {
+    check_list(
+        &rt,
+        rt.alloc(),
+        "url(a#{b}c)",
+        "UrlTemplate0-11 Piece4-5 OpenInterpolation5-7 Word7-8 CloseInterpolation8-9 Piece9-10 UrlEnd10-11",
+    )?;
+    check_list(
+        &rt,
+        rt.alloc(),
+        "URL( #{a} ) b",
+        "UrlTemplate0-11 OpenInterpolation5-7 Word7-8 CloseInterpolation8-9 _UrlEnd10-11 _Word12-13",
+    )?;
+    check_list(
+        &rt,
+        rt.alloc(),
+        "url(#{a} b)",
+        "Word0-3 OpenParen3-4 OpenInterpolation4-6 Word6-7 CloseInterpolation7-8 _Word9-10 CloseParen10-11",
+    )?;
+    check_list(
+        &rt,
+        rt.alloc(),
+        "url(#{a}\"b\")",
+        "Word0-3 OpenParen3-4 OpenInterpolation4-6 Word6-7 CloseInterpolation7-8 Quoted8-11 CloseParen11-12",
+    )?;
+    check_list(
+        &rt,
+        rt.alloc(),
+        "url(#{url(#{a})})",
+        "UrlTemplate0-17 OpenInterpolation4-6 UrlTemplate6-15 OpenInterpolation10-12 Word12-13 CloseInterpolation13-14 UrlEnd14-15 CloseInterpolation15-16 UrlEnd16-17",
+    )?;
+    check_list(
+        &rt,
+        rt.alloc(),
+        "url(#{\"}\"})",
+        "UrlTemplate0-11 OpenInterpolation4-6 Quoted6-9 CloseInterpolation9-10 UrlEnd10-11",
+    )?;
+    Ok(())
+}
+
+#[test]
 fn faults(rt: HostRuntime) -> Result<(), Fail> {
     for (text, line, column) in [
         ("\"a", 1, 1),
@@ -194,6 +235,8 @@ fn faults(rt: HostRuntime) -> Result<(), Fail> {
         ("'a\\", 1, 1),
         ("\u{feff}\u{e9}'", 1, 2),
         ("#{'}'", 1, 1),
+        ("url(#{a", 1, 5),
+        ("url(#{'})", 1, 5),
         ("\"a#{b\"c\"", 1, 1),
     ] {
         let sheet = sheet_of(&rt, rt.alloc(), text)?;
