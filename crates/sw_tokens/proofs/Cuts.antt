@@ -7,15 +7,16 @@ use Rattle.std.proofs.lemmas.Str.{IsCharBoundary-after_ascii}
 use Rattle.sw_tokens.specs.declared.token.TokenKind.{TokenKind}
 use Rattle.sw_tokens.specs.declared.runs.Class.{Class}
 use Rattle.sw_tokens.specs.declared.runs.Class.TheVariants as classes
-use Rattle.sw_tokens.specs.declared.pieces.Inside.{Inside}
-use Rattle.sw_tokens.specs.declared.pieces.Inside.TheVariants as insides
+use Rattle.sw_tokens.specs.declared.skips.Inside.{Inside}
+use Rattle.sw_tokens.specs.declared.skips.Inside.TheVariants as insides
 use Rattle.sw_tokens.specs.declared.pieces.Before.{Before}
 use Rattle.sw_tokens.specs.declared.pieces.Change.{Change}
 use Rattle.sw_tokens.specs.declared.pieces.Change.TheVariants as changes
 use Rattle.sw_tokens.specs.declared.pieces.Piece.{Piece}
 use Rattle.sw_tokens.specs.Bytes.{byte, is_break, is_white, is_digit, is_letter, is_hex_digit, is_wide, starts_plainly, is_name_byte, is_url_byte, is_range_byte, opens_at}
 use Rattle.sw_tokens.specs.Names.{next, run_from, run_end, text_next, escape_end, starts_at, begins_name, fraction_end, is_exponent, is_plus_or_minus, exponent_end, unit_end}
-use Rattle.sw_tokens.specs.Pieces.{made, text_piece, quote_piece, sign_piece, name_piece, is_hex_form, number_piece, begins_range, begins_url, url_close, after_dollar, after_hash, word_piece, in_interpolation, code_piece, piece}
+use Rattle.sw_tokens.specs.Pieces.{made, text_piece, quote_piece, sign_piece, name_piece, is_hex_form, number_piece, begins_range, begins_url, url_close, after_dollar, after_hash, word_piece, in_interpolation, code_piece, piece, url_inside, opens_url, url_piece}
+use Rattle.sw_tokens.specs.Skips.{closes_url}
 use Rattle.sw_tokens.proofs.Bounds.{in_text, and_left, and_right, or_left, or_right, run_onward, next_onward, fraction_onward, exponent_onward}
 use Rattle.sw_tokens.proofs.Forward.{either, at_quote}
 
@@ -201,6 +202,8 @@ abbrev pub IsPlain : Inside → Type 0
 IsPlain (insides.Quotes q) = q < 128
 IsPlain insides.Sheet = Unit {0}
 IsPlain insides.Interpolation = Unit {0}
+IsPlain insides.Url = Unit {0}
+IsPlain insides.UrlInside = Unit {0}
 
 -- what is opened begins with an ASCII character
 abbrev pub OpensPlainly : List ℕ → ℕ → Change → Type 0
@@ -285,6 +288,37 @@ module _ (bs : List ℕ) (text : IsText bs) (at : ℕ) (lt : at < length bs) (cu
       (exponent_cut bs text (fraction_end bs (run_end classes.Digit bs at)) fraction.within
       (fraction_cut bs text (run_end classes.Digit bs at) digits.within (run_cut bs text classes.Digit (digit_steps bs text) at (omega arith) cut))))
 
+  plain_url : (top : Inside) → IsPlain (url_inside top)
+  plain_url insides.Sheet = tt
+  plain_url insides.Interpolation = tt
+  plain_url (insides.Quotes q) = tt
+  plain_url insides.Url = tt
+  plain_url insides.UrlInside = tt
+
+  opens_url_cut : (top : Inside) {k : TokenKind} → opens_url bs top at ≡ true → Cut bs at (made k (run_end classes.White bs (at + 4)) (changes.Push (url_inside top)))
+  unfolding opens_url
+  opens_url_cut top m =
+      let begins = and_left (begins_url bs at) (closes_url bs (url_inside top) (run_end classes.White bs (at + 4))) m in
+      let after_u = and_right ((byte bs at == 117) || (byte bs at == 85)) (((byte bs (at + 1) == 114) || (byte bs (at + 1) == 82)) && (((byte bs (at + 2) == 108) || (byte bs (at + 2) == 76)) && (byte bs (at + 3) == 40))) begins in
+      let paren = and_right ((byte bs (at + 2) == 108) || (byte bs (at + 2) == 76)) (byte bs (at + 3) == 40)
+      (and_right ((byte bs (at + 1) == 114) || (byte bs (at + 1) == 82)) (((byte bs (at + 2) == 108) || (byte bs (at + 2) == 76)) && (byte bs (at + 3) == 40)) after_u) in
+      let same : at + 3 + 1 ≡ at + 4 = omega arith in
+      let behind : IsCharBoundary bs (at + 4) = subst (IsCharBoundary bs) same (cut_at bs text (at + 3) 40 (omega arith) paren) in
+      something (run_cut bs text classes.White (white_steps bs text) (at + 4) behind.0 behind)
+      ((small_u (byte bs at) (and_left ((byte bs at == 117) || (byte bs at == 85)) (((byte bs (at + 1) == 114) || (byte bs (at + 1) == 82)) && (((byte bs (at + 2) == 108) || (byte bs (at + 2) == 76)) && (byte bs (at + 3) == 40))) begins), plain_url top))
+    where
+      small_u : (b : ℕ) → ((b == 117) || (b == 85)) ≡ true → b < 128
+      small_u b e = grind (arith, nat_tests)
+
+  url_piece_cut : (class : Class) → ((j : ℕ) → next class bs j ≤ j → is_wide (byte bs j) ≡ false) → Cut bs at (url_piece bs class at)
+  unfolding url_piece
+  url_piece_cut class stop =
+      either (Cut bs at) (byte bs at == 41) _ _ (λ m. something (cut_at bs text at 41 (omega arith) m) tt)
+      (λ _. either (Cut bs at) (opens_at bs at) _ _ (λ m. opened m)
+      (λ _. either (Cut bs at) (nat_lt at (run_end class bs at)) _ _
+      (λ _. keep (cut_plain bs text (run_end class bs at) (run_onward bs class at (omega arith)).within (stop (run_end class bs at) (run_stops bs text class at (omega arith)))))
+      (λ _. either (Cut bs at) (is_white (byte bs at)) _ _ (λ _. something (run_cut bs text classes.White (white_steps bs text) at (omega arith) cut) tt) (λ _. nothing))))
+
   word_cut : (top : Inside) (before : Before) → Cut bs at (word_piece bs top before at)
   unfolding word_piece
   word_cut top before =
@@ -294,7 +328,8 @@ module _ (bs : List ℕ) (text : IsText bs) (at : ℕ) (lt : at < length bs) (cu
       (λ m. let plus = second 43 (omega arith) (and_left (byte bs (at + 1) == 43) (is_range_byte (byte bs (at + 2))) (and_right ((byte bs at == 117) || (byte bs at == 85)) ((byte bs (at + 1) == 43) && is_range_byte (byte bs (at + 2))) (and_right (not (after_dollar before)) (begins_range bs at) m))) in
       keep (run_cut bs text classes.Range (range_steps bs text) (at + 2) plus.0 plus))
       (λ _. either (Cut bs at) (begins_url bs at && (byte bs (url_close bs top at) == 41)) _ _ (λ m. keep (cut_at bs text (url_close bs top at) 41 (omega arith) (and_right (begins_url bs at) (byte bs (url_close bs top at) == 41) m)))
-      (λ _. name_piece_cut))))
+      (λ _. either (Cut bs at) (opens_url bs top at) _ _ (λ m. opens_url_cut top m)
+      (λ _. name_piece_cut)))))
 
   code_cut : (top : Inside) (before : Before) → Cut bs at (code_piece bs top before at)
   unfolding code_piece
@@ -309,6 +344,8 @@ module _ (bs : List ℕ) (text : IsText bs) (at : ℕ) (lt : at < length bs) (cu
       ascii_quote q e = grind (arith, nat_tests)
 
   pub piece_cut : (top : Inside) (before : Before) → IsPlain top → Cut bs at (piece bs top before at)
+  piece_cut insides.Url before plain = url_piece_cut classes.Url (url_stop bs text)
+  piece_cut insides.UrlInside before plain = url_piece_cut classes.UrlInside (url_inside_stop bs text)
   piece_cut insides.Sheet before plain = code_cut insides.Sheet before
   piece_cut insides.Interpolation before plain = code_cut insides.Interpolation before
   piece_cut (insides.Quotes q) before plain = text_piece_cut q plain
@@ -351,7 +388,8 @@ module _ (bs : List ℕ) (at : ℕ) where
       either Stands (after_hash before && is_hex_form bs at) _ _ (λ _ e. some_by e)
       (λ _. either Stands (is_digit (byte bs at) || ((byte bs at == 46) && is_digit (byte bs (at + 1)))) _ _ (λ _. number_stands)
       (λ _. either Stands (not (after_dollar before) && begins_range bs at) _ _ (λ _ e. some_by e)
-      (λ _. either Stands (begins_url bs at && (byte bs (url_close bs top at) == 41)) _ _ (λ _ e. some_by e) (λ _. name_stands))))
+      (λ _. either Stands (begins_url bs at && (byte bs (url_close bs top at) == 41)) _ _ (λ _ e. some_by e)
+      (λ _. either Stands (opens_url bs top at) _ _ (λ _ e. some_by e) (λ _. name_stands)))))
 
   pub code_stands : (top : Inside) (before : Before) → code_piece bs top before at ≡ None → ⊥
   unfolding code_piece

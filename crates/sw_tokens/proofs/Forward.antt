@@ -5,14 +5,15 @@ use Rattle.std.proofs.lemmas.Bool.Decides.{nat_tests}
 use Rattle.sw_tokens.specs.declared.token.TokenKind.{TokenKind}
 use Rattle.sw_tokens.specs.declared.runs.Class.{Class}
 use Rattle.sw_tokens.specs.declared.runs.Class.TheVariants as classes
-use Rattle.sw_tokens.specs.declared.pieces.Inside.{Inside}
-use Rattle.sw_tokens.specs.declared.pieces.Inside.TheVariants as insides
+use Rattle.sw_tokens.specs.declared.skips.Inside.{Inside}
+use Rattle.sw_tokens.specs.declared.skips.Inside.TheVariants as insides
 use Rattle.sw_tokens.specs.declared.pieces.Before.{Before}
 use Rattle.sw_tokens.specs.declared.pieces.Change.{Change}
 use Rattle.sw_tokens.specs.declared.pieces.Piece.{Piece}
 use Rattle.sw_tokens.specs.Bytes.{byte, is_white, is_digit, is_letter, starts_plainly, is_range_byte, opens_at}
 use Rattle.sw_tokens.specs.Names.{next, run_end, escape_end, starts_at, begins_name, fraction_end, exponent_end}
-use Rattle.sw_tokens.specs.Pieces.{made, text_piece, quote_piece, sign_piece, name_piece, has_hex_length, is_hex_form, number_piece, begins_range, begins_url, url_class, url_close, after_dollar, after_hash, word_piece, in_interpolation, code_piece, piece}
+use Rattle.sw_tokens.specs.Pieces.{made, text_piece, quote_piece, sign_piece, name_piece, has_hex_length, is_hex_form, number_piece, begins_range, begins_url, url_class, url_close, url_inside, opens_url, url_piece, after_dollar, after_hash, word_piece, in_interpolation, code_piece, piece}
+use Rattle.sw_tokens.specs.Skips.{closes_url}
 use Rattle.sw_tokens.proofs.Bounds.{Onward, stay, then_on, in_text, byte_past, and_left, and_right, if_true, run_onward, run_step, run_stop, next_onward, fraction_onward, exponent_onward, unit_onward}
 
 -- a piece ends behind the place, within the text
@@ -167,15 +168,37 @@ module _ (bs : List ℕ) (at : ℕ) (lt : at < length bs) where
       let b = run_onward bs (url_class top) (run_end classes.White bs (at + 4)) a.within in
       then_on a (then_on b (run_onward bs classes.White (run_end (url_class top) bs (run_end classes.White bs (at + 4))) b.within))
 
-  url_ahead : (top : Inside) {k : TokenKind} {c : Change} → (begins_url bs at && (byte bs (url_close bs top at) == 41)) ≡ true → Ahead bs at (made k (url_close bs top at + 1) c)
-  url_ahead top m =
+  -- behind `url(`
+  url_room : begins_url bs at ≡ true → at + 4 ≤ length bs
+  url_room m =
       let paren = in_text (λ b. b == 40) bs (at + 3) refl (and_right ((byte bs (at + 2) == 108) || (byte bs (at + 2) == 76)) (byte bs (at + 3) == 40)
       (and_right ((byte bs (at + 1) == 114) || (byte bs (at + 1) == 82)) (((byte bs (at + 2) == 108) || (byte bs (at + 2) == 76)) && (byte bs (at + 3) == 40))
-      (and_right ((byte bs at == 117) || (byte bs at == 85)) (((byte bs (at + 1) == 114) || (byte bs (at + 1) == 82)) && (((byte bs (at + 2) == 108) || (byte bs (at + 2) == 76)) && (byte bs (at + 3) == 40)))
-      (and_left (begins_url bs at) (byte bs (url_close bs top at) == 41) m)))) in
-      let on = url_onward top (omega arith) in let f = on.forward in
+      (and_right ((byte bs at == 117) || (byte bs at == 85)) (((byte bs (at + 1) == 114) || (byte bs (at + 1) == 82)) && (((byte bs (at + 2) == 108) || (byte bs (at + 2) == 76)) && (byte bs (at + 3) == 40))) m))) in
+      omega arith
+
+  url_ahead : (top : Inside) {k : TokenKind} {c : Change} → (begins_url bs at && (byte bs (url_close bs top at) == 41)) ≡ true → Ahead bs at (made k (url_close bs top at + 1) c)
+  url_ahead top m =
+      let room = url_room (and_left (begins_url bs at) (byte bs (url_close bs top at) == 41) m) in
+      let on = url_onward top room in let f = on.forward in
       let close = in_text (λ b. b == 41) bs (url_close bs top at) refl (and_right (begins_url bs at) (byte bs (url_close bs top at) == 41) m) in
       something (record { forward = omega arith; within = omega arith })
+
+  opens_url_ahead : (top : Inside) {k : TokenKind} {c : Change} → opens_url bs top at ≡ true → Ahead bs at (made k (run_end classes.White bs (at + 4)) c)
+  unfolding opens_url
+  opens_url_ahead top m =
+      let room = url_room (and_left (begins_url bs at) (closes_url bs (url_inside top) (run_end classes.White bs (at + 4))) m) in
+      let on = run_onward bs classes.White (at + 4) room in let f = on.forward in
+      something (record { forward = omega arith; within = on.within })
+
+  url_piece_ahead : (class : Class) → Ahead bs at (url_piece bs class at)
+  unfolding url_piece
+  url_piece_ahead class =
+      either (Ahead bs at) (byte bs at == 41) _ _ (λ _. one)
+      (λ _. either (Ahead bs at) (opens_at bs at) _ _ (λ m. opened m)
+      (λ _. either (Ahead bs at) (nat_lt at (run_end class bs at)) _ _
+      (λ m. let on = run_onward bs class at (omega arith) in let w = on.within in
+      something (record { forward = (let l : at < run_end class bs at = grind (arith, nat_tests) in omega arith); within = w }))
+      (λ _. either (Ahead bs at) (is_white (byte bs at)) _ _ (λ m. something (run_progress bs classes.White at lt (white_taken bs at m))) (λ _. nothing))))
 
   hex_ahead : {k : TokenKind} {c : Change} → is_hex_form bs at ≡ true → Ahead bs at (made k (run_end classes.HexDigit bs at) c)
   unfolding is_hex_form
@@ -194,7 +217,8 @@ module _ (bs : List ℕ) (at : ℕ) (lt : at < length bs) where
       (λ _. either (Ahead bs at) (is_digit (byte bs at) || ((byte bs at == 46) && is_digit (byte bs (at + 1)))) _ _ (λ m. number_ahead m)
       (λ _. either (Ahead bs at) (not (after_dollar before) && begins_range bs at) _ _ (λ m. range_ahead (and_right (not (after_dollar before)) (begins_range bs at) m))
       (λ _. either (Ahead bs at) (begins_url bs at && (byte bs (url_close bs top at) == 41)) _ _ (λ m. url_ahead top m)
-      (λ _. name_ahead))))
+      (λ _. either (Ahead bs at) (opens_url bs top at) _ _ (λ m. opens_url_ahead top m)
+      (λ _. name_ahead)))))
 
   code_ahead : (top : Inside) (before : Before) → Ahead bs at (code_piece bs top before at)
   unfolding code_piece
@@ -206,6 +230,8 @@ module _ (bs : List ℕ) (at : ℕ) (lt : at < length bs) where
       (λ _. word_ahead top before))))
 
   pub piece_ahead : (top : Inside) (before : Before) → Ahead bs at (piece bs top before at)
+  piece_ahead insides.Url before = url_piece_ahead classes.Url
+  piece_ahead insides.UrlInside before = url_piece_ahead classes.UrlInside
   piece_ahead insides.Sheet before = code_ahead insides.Sheet before
   piece_ahead insides.Interpolation before = code_ahead insides.Interpolation before
   piece_ahead (insides.Quotes q) before = text_ahead q

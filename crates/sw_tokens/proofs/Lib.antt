@@ -6,3 +6,4 @@ pub mod EndLemmas
 pub mod Cuts
 pub mod Ordered
 pub mod Lists
+pub mod SkipLemmas

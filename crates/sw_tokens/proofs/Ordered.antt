@@ -8,7 +8,7 @@ use lib.Utf8.{encode}
 use Rattle.sw_text.specs.Places.{mark_length}
 use Rattle.sw_tokens.specs.declared.token.TokenKind.{TokenKind}
 use Rattle.sw_tokens.specs.declared.token.Token.{Token}
-use Rattle.sw_tokens.specs.declared.pieces.Inside.TheVariants as insides
+use Rattle.sw_tokens.specs.declared.skips.Inside.TheVariants as insides
 use Rattle.sw_tokens.specs.declared.pieces.Before.{Before}
 use Rattle.sw_tokens.specs.declared.pieces.Before.TheVariants as befores
 use Rattle.sw_tokens.specs.declared.pieces.Change.{Change}

@@ -1,5 +1,6 @@
 pub mod Bytes
 pub mod Names
+pub mod Skips
 pub mod Pieces
 pub mod Tokens
 pub mod Ends

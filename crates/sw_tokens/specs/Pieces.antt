@@ -4,14 +4,15 @@ use Rattle.sw_tokens.specs.declared.token.TokenKind.{TokenKind}
 use Rattle.sw_tokens.specs.declared.token.TokenKind.TheVariants as kinds
 use Rattle.sw_tokens.specs.declared.runs.Class.{Class}
 use Rattle.sw_tokens.specs.declared.runs.Class.TheVariants as classes
-use Rattle.sw_tokens.specs.declared.pieces.Inside.{Inside}
-use Rattle.sw_tokens.specs.declared.pieces.Inside.TheVariants as insides
+use Rattle.sw_tokens.specs.declared.skips.Inside.{Inside}
+use Rattle.sw_tokens.specs.declared.skips.Inside.TheVariants as insides
 use Rattle.sw_tokens.specs.declared.pieces.Before.{Before}
 use Rattle.sw_tokens.specs.declared.pieces.Before.TheVariants as befores
 use Rattle.sw_tokens.specs.declared.pieces.Change.{Change}
 use Rattle.sw_tokens.specs.declared.pieces.Change.TheVariants as changes
 use Rattle.sw_tokens.specs.declared.pieces.Piece.{Piece}
 use Rattle.sw_tokens.specs.Bytes.{byte, is_white, is_digit, is_letter, is_range_byte, opens_at}
+use Rattle.sw_tokens.specs.Skips.{closes_url}
 use Rattle.sw_tokens.specs.Names.{next, run_end, begins_name, fraction_end, exponent_end, unit_end}
 
 abbrev pub made : TokenKind → ℕ → Change → Option Piece
@@ -141,6 +142,23 @@ url_class _ = classes.UrlInside
 unfoldable pub url_close : List ℕ → Inside → ℕ → ℕ
 url_close bs top at = run_end classes.White bs (run_end (url_class top) bs (run_end classes.White bs (at + 4)))
 
+-- what a `url(..)` is that begins there
+abbrev pub url_inside : Inside → Inside
+url_inside insides.Sheet = insides.Url
+url_inside _ = insides.UrlInside
+
+unfoldable pub opens_url : List ℕ → Inside → ℕ → Bool
+opens_url bs top at = begins_url bs at && closes_url bs (url_inside top) (run_end classes.White bs (at + 4))
+
+-- in a `url(..)` with `#{}`, of characters of a class
+unfoldable pub url_piece : List ℕ → Class → ℕ → Option Piece
+url_piece bs class at =
+    if byte bs at == 41 then made kinds.UrlEnd (at + 1) changes.Pop
+    else (if opens_at bs at then made kinds.OpenInterpolation (at + 2) (changes.Push insides.Interpolation)
+    else (if nat_lt at (run_end class bs at) then made kinds.Piece (run_end class bs at) changes.Keep
+    else (if is_white (byte bs at) then made_white (run_end classes.White bs at)
+    else None)))
+
 abbrev pub after_dollar : Before → Bool
 after_dollar befores.Dollar = true
 after_dollar _ = false
@@ -156,7 +174,8 @@ word_piece bs top before at =
     else (if is_digit (byte bs at) || ((byte bs at == 46) && is_digit (byte bs (at + 1))) then number_piece bs at
     else (if not (after_dollar before) && begins_range bs at then made kinds.UnicodeRange (run_end classes.Range bs (at + 2)) changes.Keep
     else (if begins_url bs at && (byte bs (url_close bs top at) == 41) then made kinds.Url (url_close bs top at + 1) changes.Keep
-    else name_piece bs at)))
+    else (if opens_url bs top at then made kinds.UrlTemplate (run_end classes.White bs (at + 4)) (changes.Push (url_inside top))
+    else name_piece bs at))))
 
 abbrev pub in_interpolation : Inside → Bool
 in_interpolation insides.Interpolation = true
@@ -173,5 +192,7 @@ code_piece bs top before at =
 
 abbrev pub piece : List ℕ → Inside → Before → ℕ → Option Piece
 piece bs (insides.Quotes q) before at = text_piece bs q at
+piece bs insides.Url before at = url_piece bs classes.Url at
+piece bs insides.UrlInside before at = url_piece bs classes.UrlInside at
 piece bs insides.Sheet before at = code_piece bs insides.Sheet before at
 piece bs insides.Interpolation before at = code_piece bs insides.Interpolation before at

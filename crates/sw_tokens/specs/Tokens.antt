@@ -4,8 +4,8 @@ use Rattle.sw_text.specs.Places.{mark_length}
 use Rattle.sw_tokens.specs.declared.token.TokenKind.{TokenKind}
 use Rattle.sw_tokens.specs.declared.token.TokenKind.TheVariants as kinds
 use Rattle.sw_tokens.specs.declared.token.Token.{Token}
-use Rattle.sw_tokens.specs.declared.pieces.Inside.{Inside}
-use Rattle.sw_tokens.specs.declared.pieces.Inside.TheVariants as insides
+use Rattle.sw_tokens.specs.declared.skips.Inside.{Inside}
+use Rattle.sw_tokens.specs.declared.skips.Inside.TheVariants as insides
 use Rattle.sw_tokens.specs.declared.pieces.Before.{Before}
 use Rattle.sw_tokens.specs.declared.pieces.Before.TheVariants as befores
 use Rattle.sw_tokens.specs.declared.pieces.Change.{Change}

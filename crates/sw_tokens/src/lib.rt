@@ -6,8 +6,12 @@ mod ends;
 mod pieces;
 mod runs;
 mod scan;
+mod skips;
 mod token;
 mod tokens;
 
 pub use token::{Fault10, Token, TokenKind};
 pub use tokens::Tokens;
+
+#[cfg(test)]
+mod tests;

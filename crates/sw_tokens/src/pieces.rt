@@ -1,19 +1,11 @@
 // What begins at a place of a text.
 ghost use Rattle.std.specs.Prelude.{◌≡◌, ◌+◌, ◌<◌, ◌≤◌, length, IsTrue};
-ghost use Rattle.sw_tokens.specs.Pieces.{made, made_white, text_piece, quote_piece, sign_of, mark_of, operator_of, comparison_of, sign_piece, letter_kind, dash_kind, name_piece, has_hex_length, is_hex_form, number_kind, number_piece, begins_range, begins_url, url_class, url_close, after_dollar, after_hash, word_piece, in_interpolation, code_piece, piece};
+ghost use Rattle.sw_tokens.specs.Pieces.{made, made_white, text_piece, quote_piece, sign_of, mark_of, operator_of, comparison_of, sign_piece, letter_kind, dash_kind, name_piece, has_hex_length, is_hex_form, number_kind, number_piece, begins_range, begins_url, url_class, url_close, url_inside, opens_url, url_piece, after_dollar, after_hash, word_piece, in_interpolation, code_piece, piece};
 
 use crate::bytes::{byte_at, is_digit, is_letter, is_range_byte, is_white, opens_at};
 use crate::runs::{Class, begins_name, exponent_end, fraction_end, next_at, run_end, unit_end};
+use crate::skips::{Inside, closes_url};
 use crate::token::TokenKind;
-
-/// What is open innermost at a place.
-#[derive(Clone, Copy, Debug, PartialEq, Eq)]
-pub enum Inside {
-    Sheet,
-    Interpolation,
-    /// A string with this quote.
-    Quotes(u8),
-}
 
 /// What stands directly before a place.
 #[derive(Clone, Copy, Debug, PartialEq, Eq)]
@@ -307,6 +299,52 @@ fn url_close(bytes: &[u8], top: Inside, at: usize) -> usize
     run_end(bytes, Class::White, outer)
 }
 
+fn url_inside(top: Inside) -> Inside
+    ensures { result ≡ url_inside top }
+{
+    match top {
+        Inside::Sheet => Inside::Url,
+        _ => Inside::UrlInside,
+    }
+}
+
+/// Whether a `url(..)` with `#{}` begins at a place.
+#[tactic(auto, unfolding(crate::specs::Pieces::opens_url))]
+fn opens_url(bytes: &[u8], top: Inside, at: usize) -> bool
+    requires { at < length bytes.now }
+    ensures test { result ≡ opens_url bytes.now top at }
+    ensures room { IsTrue result → at + 4 ≤ length bytes.now }
+{
+    if !begins_url(bytes, at) {
+        return false;
+    }
+    let inner = run_end(bytes, Class::White, at + 4);
+    closes_url(bytes, url_inside(top), inner)
+}
+
+#[tactic(auto, unfolding(crate::specs::Pieces::url_piece))]
+fn url_piece(bytes: &[u8], class: Class, at: usize) -> Option<Piece>
+    requires { at < length bytes.now }
+    ensures { result ≡ url_piece bytes.now class at }
+{
+    let byte = byte_at(bytes, at);
+    if byte == 41 {
+        return made(TokenKind::UrlEnd, at + 1, Change::Pop);
+    }
+    if opens_at(bytes, at) {
+        let change = Change::Push(Inside::Interpolation);
+        return made(TokenKind::OpenInterpolation, at + 2, change);
+    }
+    let to = run_end(bytes, class, at);
+    if at < to {
+        return made(TokenKind::Piece, to, Change::Keep);
+    }
+    if is_white(byte) {
+        return made_white(run_end(bytes, Class::White, at));
+    }
+    None
+}
+
 fn after_dollar(before: Before) -> bool
     ensures { result ≡ after_dollar before }
 {
@@ -344,6 +382,10 @@ fn word_piece(bytes: &[u8], top: Inside, before: Before, at: usize) -> Option<Pi
         if byte_at(bytes, close) == 41 {
             return made(TokenKind::Url, close + 1, Change::Keep);
         }
+    }
+    if opens_url(bytes, top, at) {
+        let to = run_end(bytes, Class::White, at + 4);
+        return made(TokenKind::UrlTemplate, to, Change::Push(url_inside(top)));
     }
     name_piece(bytes, at)
 }
@@ -386,6 +428,8 @@ pub fn piece_at(bytes: &[u8], top: Inside, before: Before, at: usize) -> Option<
 {
     match top {
         Inside::Quotes(quote) => text_piece(bytes, quote, at),
+        Inside::Url => url_piece(bytes, Class::Url, at),
+        Inside::UrlInside => url_piece(bytes, Class::UrlInside, at),
         Inside::Sheet => code_piece(bytes, Inside::Sheet, before, at),
         Inside::Interpolation => code_piece(bytes, Inside::Interpolation, before, at),
     }

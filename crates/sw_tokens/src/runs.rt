@@ -61,7 +61,7 @@ fn white_end(bytes: &[u8], at: usize) -> usize
 
 #[tactic(auto, using(crate::proofs::Bounds::hex_end_within), unfolding(crate::specs::Names::escape_end))]
 /// The place behind the escape that begins at a place, or that place where none does.
-fn escape_end(bytes: &[u8], at: usize) -> usize
+pub fn escape_end(bytes: &[u8], at: usize) -> usize
     requires { at ≤ length bytes.now }
     ensures { result ≡ escape_end bytes.now at }
 {

@@ -2,7 +2,8 @@
 ghost use Rattle.std.specs.Prelude.{◌≡◌, ◌++◌, ◌<◌, ◌≤◌, ◌^◌, [], length, IfOk};
 ghost use Rattle.sw_tokens.specs.Tokens.{top, changed, last_start, first_start, before_of, is_spaced, kept, rest, Scanned};
 
-use crate::pieces::{Before, Change, Inside, Piece, piece_at};
+use crate::pieces::{Before, Change, Piece, piece_at};
+use crate::skips::Inside;
 use crate::token::{Token, TokenKind};
 use std::alloc::{AllocError, Global};
 use sw_text::{List, Memory};

@@ -1,5 +1,5 @@
 use Rattle.std.proofs.Common.{◌<◌, List, length, Err, sym, ap, ◌∙◌, arith}
-use Rattle.sw_tokens.specs.declared.pieces.Inside.{Inside}
+use Rattle.sw_tokens.specs.declared.skips.Inside.{Inside}
 use Rattle.sw_tokens.specs.declared.scan.Opened.{Opened}
 use Rattle.sw_tokens.specs.Pieces.{piece}
 use Rattle.sw_tokens.specs.Tokens.{top, last_start, first_start}
