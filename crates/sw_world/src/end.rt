@@ -2,7 +2,6 @@
 ghost use Rattle.std.specs.Prelude.{◌≡◌, IfOk};
 
 use crate::Op;
-use crate::parts::share_fault;
 use sw_css_tree::CssTree;
 use sw_text::{Fault, List, Memory, Name, Shared};
 use sw_tree::Callable;
@@ -45,7 +44,7 @@ impl End {
     {
         match self {
             End::Done(finish) => Ok(End::Done(finish.share()?)),
-            End::Fault(fault) => Ok(End::Fault(share_fault(fault)?)),
+            End::Fault(fault) => Ok(End::Fault(fault.share()?)),
         }
     }
 }

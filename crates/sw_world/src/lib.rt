@@ -14,5 +14,4 @@ pub use end::{Config, End, Finish, Turn};
 pub use engine::Engine;
 pub use hosts::{Hosts, NoHosts};
 pub use op::{Filter, Given, How, Member, Op, SayKind};
-pub use parts::{same_fault, share_fault};
 pub use world::World;
