@@ -1,6 +1,6 @@
 -- Skips go forward, and don't rest on the fuel.
-use Rattle.std.proofs.Common.{◌≡◌, ℕ, zero, suc, ◌+◌, ◌-◌, ◌≤◌, ◌<◌, Bool, true, false, ◌&&◌, ◌||◌, List, refl, sym, ◌∙◌, ap, subst, arith, length, Option, Some, None}
-use Rattle.std.specs.Prelude.{◌==◌, nat_lt, if◌then◌else◌}
+use Rattle.std.proofs.Common.{◌≡◌, ℕ, zero, suc, ◌+◌, ◌-◌, ◌≤◌, ◌<◌, true, ◌&&◌, ◌||◌, List, refl, ◌∙◌, ap, subst, arith, length, Option, Some, None}
+use Rattle.std.specs.Prelude.{◌==◌, nat_lt}
 use Rattle.std.proofs.lemmas.Bool.Decides.{nat_tests}
 use Rattle.sw_tokens.specs.declared.runs.Class.{Class}
 use Rattle.sw_tokens.specs.declared.runs.Class.TheVariants as classes

@@ -219,39 +219,46 @@ fn lists_of_urls(rt: HostRuntime) -> Result<(), Fail> {
     Ok(())
 }
 
-#[test]
-fn faults(rt: HostRuntime) -> Result<(), Fail> {
-    for (text, line, column) in [
-        ("\"a", 1, 1),
-        ("a\n 'b", 2, 2),
-        ("'a\nb'", 1, 1),
-        ("'a\rb'", 1, 1),
-        ("a #{b", 1, 3),
-        ("#{ \"a", 1, 1),
-        ("#{ \"a\n", 1, 4),
-        ("\"a#{b\n", 1, 1),
-        ("\"a#{b}\n\"", 1, 1),
-        ("\"a#{ 'b\n'", 1, 6),
-        ("'a\\", 1, 1),
-        ("\u{feff}\u{e9}'", 1, 2),
-        ("#{'}'", 1, 1),
-        ("url(#{a", 1, 5),
-        ("url(#{'})", 1, 5),
-        ("\"a#{b\"c\"", 1, 1),
-    ] {
-        let sheet = sheet_of(&rt, rt.alloc(), text)?;
-        match fault_of(Tokens::of(rt.alloc(), &sheet)) {
-            None => assert!(rt; false),
-            Some(fault) => {
-                let from = (fault.span.from.line, fault.span.from.column);
-                let to = (fault.span.to.line, fault.span.to.column);
-                assert_eq!(rt; from, (line, column));
-                assert_eq!(rt; to, (line, column + 1));
-                assert_eq!(rt; fault.span.file.as_str(), "a.scss");
-                assert_eq!(rt; fault.code, FaultCode::Syntax);
-            }
+fn check_fault(
+    rt: &impl Abort,
+    alloc: Global,
+    text: &str,
+    line: u32,
+    column: u32,
+) -> Result<(), Memory> {
+    let sheet = sheet_of(rt, alloc, text)?;
+    match fault_of(Tokens::of(alloc, &sheet)) {
+        None => assert!(rt; false),
+        Some(fault) => {
+            let from = (fault.span.from.line, fault.span.from.column);
+            let to = (fault.span.to.line, fault.span.to.column);
+            assert_eq!(rt; from, (line, column));
+            assert_eq!(rt; to, (line, column.saturating_add(1)));
+            assert_eq!(rt; fault.span.file.as_str(), "a.scss");
+            assert_eq!(rt; fault.code, FaultCode::Syntax);
         }
     }
+    Ok(())
+}
+
+#[test]
+fn faults(rt: HostRuntime) -> Result<(), Fail> {
+    check_fault(&rt, rt.alloc(), "\"a", 1, 1)?;
+    check_fault(&rt, rt.alloc(), "a\n 'b", 2, 2)?;
+    check_fault(&rt, rt.alloc(), "'a\nb'", 1, 1)?;
+    check_fault(&rt, rt.alloc(), "'a\rb'", 1, 1)?;
+    check_fault(&rt, rt.alloc(), "a #{b", 1, 3)?;
+    check_fault(&rt, rt.alloc(), "#{ \"a", 1, 1)?;
+    check_fault(&rt, rt.alloc(), "#{ \"a\n", 1, 4)?;
+    check_fault(&rt, rt.alloc(), "\"a#{b\n", 1, 1)?;
+    check_fault(&rt, rt.alloc(), "\"a#{b}\n\"", 1, 1)?;
+    check_fault(&rt, rt.alloc(), "\"a#{ 'b\n'", 1, 6)?;
+    check_fault(&rt, rt.alloc(), "'a\\", 1, 1)?;
+    check_fault(&rt, rt.alloc(), "\u{feff}\u{e9}'", 1, 2)?;
+    check_fault(&rt, rt.alloc(), "#{'}'", 1, 1)?;
+    check_fault(&rt, rt.alloc(), "\"a#{b\"c\"", 1, 1)?;
+    check_fault(&rt, rt.alloc(), "url(#{a", 1, 5)?;
+    check_fault(&rt, rt.alloc(), "url(#{'})", 1, 5)?;
     Ok(())
 }
 
