@@ -2,6 +2,8 @@
 //! Words and bytes flow in, replies flow out, and the status tells how the session ended.
 #![tactic(auto)]
 
+#[cfg(test)]
+mod tests;
 mod words;
 
 use crate::words::words;

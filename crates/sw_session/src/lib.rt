@@ -16,5 +16,6 @@ mod turns;
 
 pub use command::run;
 pub use compiling::compile;
-pub use laws::ends_exactly;
-pub use service::serve;
+pub use laws::{answers_all, ends_exactly};
+pub use service::{serve, serve_within};
+pub use stop::Stop;

@@ -22,7 +22,7 @@ pub fn serve<S: Source, K: Sink>(alloc: Global, source: &mut S, sink: &mut K) ->
     serve_within(alloc, MOST_REQUESTS, source, sink).status()
 }
 
-/// The same, with at most so many requests.
+/// The same with at most so many requests, and tells how the session ended.
 pub fn serve_within<S: Source, K: Sink>(
     alloc: Global,
     most: u32,

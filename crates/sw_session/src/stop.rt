@@ -5,6 +5,7 @@ ghost use Rattle.sw_session.specs.Status.{status_of, stop_of, stop_of_line};
 use sw_io::ReadStop;
 use sw_wire::LineFault;
 
+/// Why a session ends.
 #[derive(Clone, Copy, Debug, PartialEq, Eq)]
 pub enum Stop {
     /// The line `end` was read.
@@ -13,8 +14,11 @@ pub enum Stop {
     Wrong,
     /// The input ended before the line `end`.
     CutOff,
+    /// A read of the source failed.
     SourceFailed,
+    /// A write or a flush of the sink failed.
     SinkFailed,
+    /// No memory was found outside a compile.
     Memory,
     /// All requests that a session may have were answered, and another one came.
     Over,

@@ -1,4 +1,4 @@
-use Rattle.sw_session.proofs.RuleByRule.{rule_step, rule_end}
+use Rattle.sw_session.proofs.RuleByRule.{rule_step}
 use Rattle.sw_session.proofs.printing.print.Goals as goal
 
 pub loop-rule-preserved : goal.loop-rule-preserved

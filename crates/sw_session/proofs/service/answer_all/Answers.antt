@@ -15,7 +15,9 @@ pub returns-in-Err-clause-served : goal.returns-in-Err-clause-served
 returns-in-Err-clause-served g c =
     let i = c.requests.invariant.going in
     turn_ends_at c.args.most i.0 c.requests.counter c.requests.folder
-    (place c.args.reader.now (g.S.Source.left c.args.source.now) (g.K.Sink.written c.args.sink.now)) _ _ c.in-Err.stop
+    (place c.args.reader.now (g.S.Source.left c.args.source.now) (g.K.Sink.written c.args.sink.now))
+    (place c.requests.reader (g.S.Source.left c.requests.source) (g.K.Sink.written c.requests.sink))
+    (place c.turn.new.reader (g.S.Source.left c.turn.new.source) (g.K.Sink.written c.turn.new.sink)) c.in-Err.stop
     i.1 c.requests-test.true c.requires i.2 c.in-Err.ensures.err
 
 pub requests-preserved : goal.requests-preserved
@@ -23,7 +25,10 @@ requests-preserved g c =
     let i = c.requests.invariant in
     let e = c.in_default.ensures in
     record {
-      going = going_on_at c.args.most i.going.0 c.requests.counter c.requests.folder c.turn.new.folder _ _ _
+      going = going_on_at c.args.most i.going.0 c.requests.counter c.requests.folder c.turn.new.folder
+          (place c.args.reader.now (g.S.Source.left c.args.source.now) (g.K.Sink.written c.args.sink.now))
+          (place c.requests.reader (g.S.Source.left c.requests.source) (g.K.Sink.written c.requests.sink))
+          (place c.turn.new.reader (g.S.Source.left c.turn.new.source) (g.K.Sink.written c.turn.new.sink))
           i.going.1 c.requests-test.true i.going.2 e.ok;
       source_later = omega (arith, i.source_later, e.causes.source_later);
       sink_later = omega (arith, i.sink_later, e.causes.sink_later);
@@ -33,7 +38,9 @@ pub returns-clause-served : goal.returns-clause-served
 returns-clause-served g c =
     let i = c.requests.invariant.going in
     last_ends_at c.args.most i.0 c.requests.counter c.requests.folder
-    (place c.args.reader.now (g.S.Source.left c.args.source.now) (g.K.Sink.written c.args.sink.now)) _ _ c.last.result
+    (place c.args.reader.now (g.S.Source.left c.args.source.now) (g.K.Sink.written c.args.sink.now))
+    (place c.requests.reader (g.S.Source.left c.requests.source) (g.K.Sink.written c.requests.sink))
+    (place c.last.new.reader (g.S.Source.left c.last.new.source) (g.K.Sink.written c.requests.sink)) c.last.result
     i.1 c.requests-test.false c.requires i.2 (c.last.ensures.ends (g.K.Sink.written c.requests.sink))
 
 -- the last line never ends with a fault of the sink

@@ -55,7 +55,11 @@ pub returns-in_err-answer_put-in-Put-clause-err :
 returns-in_err-answer_put-in-Put-clause-err g c =
     let p = err_from_is_err_and c.from_residual-in_err-answer_put-in-Put.result c.from_residual-in_err-answer_put-in-Put.ensures.1 in
     let r = c.in_ok-line.ensures.ok in
-    rw (p.1, p.2) (put_ends _ c.line.new.line.items c.in-Put.path c.in-Put.length _ (place c.line.new.self (g.S.Source.left c.line.new.source) (g.K.Sink.written c.args.sink.now)) _ _ r.0 r.1
+    rw (p.1, p.2) (put_ends _ c.line.new.line.items c.in-Put.path c.in-Put.length
+    (place c.args.reader.now (g.S.Source.left c.args.source.now) (g.K.Sink.written c.args.sink.now))
+    (place c.line.new.self (g.S.Source.left c.line.new.source) (g.K.Sink.written c.args.sink.now))
+    (place c.answer_put.new.reader (g.S.Source.left c.answer_put.new.source) (g.K.Sink.written c.answer_put.new.sink))
+    c.args.folder.now r.0 r.1
     (sym (ap request_of c.deref.ensures.value) ∙ c.in_ok-read_request.ensures ∙ ap Some c.in-Put.is)
     refl c.in_err-answer_put-in-Put.ensures.err)
 

@@ -1,0 +1,217 @@
+// Whole sessions over sources and sinks in memory.
+ghost use Rattle.std.specs.Prelude.{◌≤◌};
+
+use std::alloc::{AllocError, Global};
+use std::test::Fail;
+use sw_io::{MemSink, MemSource, SteadySink, SteadySource};
+use sw_session::{run, serve, serve_within};
+use sw_text::{List, Name};
+
+const SHEET: &[u8] = b"put a.scss 11\na { b: c; }\ncompile a.scss\nend\n";
+
+const ANSWERS: &[u8] = b"ok\ncss 14\na {\n  b: c;\n}\n\n";
+
+// the status of this script and what it writes, with at most so many bytes in a read and in a write, and with these calls that fail
+fn answers(
+    alloc: Global,
+    script: &[u8],
+    most: usize,
+    reads: &[u32],
+    writes: &[u32],
+) -> Result<(u8, Vec<u8>), AllocError>
+    requires { 1 ≤ most }
+{
+    let mut source = MemSource::new(
+        List::from_vec(script.to_vec(alloc)?),
+        most,
+        List::from_vec(reads.to_vec(alloc)?),
+    );
+    let mut sink = MemSink::new(alloc, most, List::from_vec(writes.to_vec(alloc)?));
+    let status = serve(alloc, &mut source, &mut sink);
+    let bytes = sink.bytes().to_vec(alloc)?;
+    Ok((status, bytes))
+}
+
+#[test]
+fn scripts_in_any_pieces(rt: HostRuntime) -> Result<(), Fail> {
+    let alloc = rt.alloc();
+    let rows: [(&[u8], &[u8], u8); 23] = [
+        (SHEET, ANSWERS, 0),
+        (
+            b"put e.scss 0\n\ncompile e.scss\nend\n",
+            b"ok\ncss 0\n\n",
+            0,
+        ),
+        (
+            b"put a.scss 11\na { b: c; }\nput b.scss 5\nabcd",
+            b"ok\n",
+            3,
+        ),
+        (b"", b"", 3),
+        (b"end", b"", 3),
+        (b"end\nput a", b"", 0),
+        (
+            b"put a.scss 1\n\xff\ncompile a.scss\nend\n",
+            b"refused 204\nerror 19 a.scss 1:1 1:1\n",
+            0,
+        ),
+        (
+            b"put a.scss 11\na { b: c; }\nput a.scss 1\n\xff\ncompile a.scss\nend\n",
+            b"ok\nrefused 204\ncss 14\na {\n  b: c;\n}\n\n",
+            0,
+        ),
+        (
+            b"put ../a 0\n\nremove x.scss\nremove x/\ncompile\n",
+            b"refused 201\nrefused 205\nrefused 201\n",
+            2,
+        ),
+        (
+            b"put a.scss 12\na{b:c}d{e:f}\ncompile a.scss\nremove a.scss\ncompile a.scss\nend\n",
+            b"ok\ncss 29\na {\n  b: c;\n}\n\nd {\n  e: f;\n}\n\nok\nerror 19 a.scss 1:1 1:1\n",
+            0,
+        ),
+        (
+            b"put a.scss 8\na { b: }\ncompile a.scss . x\nend\n",
+            b"ok\nerror 10 a.scss 1:8 1:9\n",
+            0,
+        ),
+        (
+            b"put a.scss 15\na { }\n.d {e: f}\ncompile a.scss\nend\n",
+            b"ok\ncss 15\n.d {\n  e: f;\n}\n\n",
+            0,
+        ),
+        (
+            b"put a.sass 1\na\ncompile a.sass\nput a.txt 0\n\ncompile a.txt\nend\n",
+            b"ok\nerror 10 a.sass 1:1 1:1\nok\nerror 19 a.txt 1:1 1:1\n",
+            0,
+        ),
+        (b"put a 1\nab\n", b"", 2),
+        (b"put a 1\na", b"", 3),
+        (b"put a 01\na\n", b"", 2),
+        (b"put a 10000000\n", b"", 2),
+        (b"compile a ..\n", b"", 2),
+        (b"compile a . . . . . . . . .\n", b"", 2),
+        (b"compile  a\n", b"", 2),
+        (b"remove a b\n", b"", 2),
+        (b"stop\n", b"", 2),
+        (b"end \n", b"", 2),
+    ];
+    for most in [1, 7, 4096] {
+        if most >= 1 {
+            for row in rows.iter() {
+                let (status, bytes) = answers(alloc, row.0, most, &[], &[])?;
+                assert_eq!(rt; bytes.as_slice(), row.1, "most {most}");
+                assert_eq!(rt; status, row.2, "most {most}");
+            }
+        }
+    }
+    Ok(())
+}
+
+#[test]
+fn a_call_fails_at_each_place(rt: HostRuntime) -> Result<(), Fail> {
+    let alloc = rt.alloc();
+    // Five bytes a read: the put is whole after the sixth, the compile after the ninth, which is the last.
+    for (call, length, status) in [
+        (1u32, 0usize, 4u8),
+        (6, 0, 4),
+        (7, 3, 4),
+        (9, 3, 4),
+        (10, 25, 0),
+    ] {
+        let (ended, bytes) = answers(alloc, SHEET, 5, &[call], &[])?;
+        assert_eq!(rt; ended, status, "read {call}");
+        assert_eq!(rt; bytes.len(), length, "read {call}");
+    }
+    // Four bytes a write, and a flush behind each reply.
+    for (call, length, status) in [
+        (1u32, 0usize, 5u8),
+        (2, 3, 5),
+        (3, 3, 5),
+        (4, 7, 5),
+        (8, 23, 5),
+        (9, 25, 5),
+        (10, 25, 0),
+    ] {
+        let (ended, bytes) = answers(alloc, SHEET, 4, &[], &[call])?;
+        assert_eq!(rt; ended, status, "write {call}");
+        assert_eq!(rt; ANSWERS.starts_with(bytes.as_slice()), true, "write {call}");
+        assert_eq!(rt; bytes.len(), length, "write {call}");
+    }
+    Ok(())
+}
+
+#[test]
+fn limits(rt: HostRuntime) -> Result<(), Fail> {
+    let alloc = rt.alloc();
+    let mut script = vec![in alloc; b'a'; 1024]?;
+    let (status, _) = answers(alloc, &script, 4096, &[], &[])?;
+    assert_eq!(rt; status, 3);
+    script.push(b'a')?;
+    let (status, _) = answers(alloc, &script, 4096, &[], &[])?;
+    assert_eq!(rt; status, 2);
+    let mut script = b"put a 1048577\n".to_vec(alloc)?;
+    script.extend_from_slice(&vec![in alloc; b'a'; 1_048_577]?)?;
+    script.extend_from_slice(b"\nend\n")?;
+    let (status, bytes) = answers(alloc, &script, 4096, &[], &[])?;
+    assert_eq!(rt; status, 0);
+    assert_eq!(rt; bytes.as_slice(), b"refused 202\n".as_slice());
+    let mut script = Vec::new(alloc);
+    for file in 0..4097u32 {
+        let line = format!(in alloc; "put {file} 0\n\n")?;
+        script.extend_from_slice(line.as_bytes())?;
+    }
+    script.extend_from_slice(b"put 7 0\n\nend\n")?;
+    let (status, bytes) = answers(alloc, &script, 4096, &[], &[])?;
+    assert_eq!(rt; status, 0);
+    assert_eq!(rt; bytes.ends_with(b"ok\nok\nrefused 203\nok\n"), true);
+    Ok(())
+}
+
+#[test]
+fn one_request_too_many(rt: HostRuntime) -> Result<(), Fail> {
+    let alloc = rt.alloc();
+    for (script, status) in [
+        (b"compile a\nput b 5\n".as_slice(), 9),
+        (b"remove a\nend\n".as_slice(), 0),
+        (b"remove a\nput\n".as_slice(), 2),
+    ] {
+        let mut source = SteadySource::new(List::from_vec(script.to_vec(alloc)?), 4096);
+        let mut sink = SteadySink::new(7);
+        assert_eq!(rt;
+            serve_within(alloc, 1, &mut source, &mut sink).status(),
+            status
+        );
+    }
+    Ok(())
+}
+
+#[test]
+fn words_of_the_command_line(rt: HostRuntime) -> Result<(), Fail> {
+    let alloc = rt.alloc();
+    for (line, status) in [
+        ("session", 0),
+        ("once", 7),
+        ("session x", 7),
+        ("sessions", 7),
+    ] {
+        let mut words = Vec::new(alloc);
+        for word in line.split(' ') {
+            words.push(Name::new(alloc, word).map_err(|_| AllocError)?)?;
+        }
+        let mut source = MemSource::new(
+            List::from_vec(SHEET.to_vec(alloc)?),
+            4096,
+            List::new(alloc),
+        );
+        let mut sink = MemSink::new(alloc, 4096, List::new(alloc));
+        assert_eq!(rt;
+            run(alloc, &words, &mut source, &mut sink),
+            status,
+            "{line}"
+        );
+        let written = if status == 0 { ANSWERS } else { b"".as_slice() };
+        assert_eq!(rt; sink.bytes(), written, "{line}");
+    }
+    Ok(())
+}

@@ -1,0 +1,5 @@
+use Rattle.sw_session.proofs.Whole.{all_answered}
+use Rattle.sw_session.proofs.laws.answers_all.Goals as goal
+
+pub returns : goal.returns
+returns c = all_answered
