@@ -11,16 +11,14 @@ use crate::loads::{
     add_use, config_of, first_untaken, has_use, is_explicit, is_open, refused, share_names,
     variables_of,
 };
-use crate::names::{is_private, variable_of};
 use crate::{Module, Opened, Saying, Table};
 use std::alloc::Global;
 use std::marker::Model;
 use sw_css_tree::CssTree;
 use sw_folder::{Folder, ResolveFault, has_extension, is_path};
 use sw_text::{Fault, FaultCode, List, Memory, Name, Pos, Shared, Span};
-use sw_tree::Kind;
-use sw_values::{Node, Value};
-use sw_world::{Answer, Config, End, Finish, Given, Hosts, How, Op, share_fault};
+use sw_values::Value;
+use sw_world::{Answer, Config, End, Finish, Given, How, Op, SayKind};
 
 const MOST_OPEN: usize = 64;
 
@@ -77,7 +75,7 @@ impl<'a> Model for Live<'a> {
 }
 
 impl<'a> Live<'a> {
-    ghost use Rattle.sw_modules.specs.State.{nothing_loaded, closed, loaded_now, path_in};
+    ghost use Rattle.sw_modules.specs.State.{nothing_loaded, closed, loaded_now, path_in, with_variable};
     ghost use Rattle.sw_modules.specs.Loads.{begun, begin_path, begin_module, used_as, used_unless, ended_by, left_by, entry_text, entered};
 
     /// Nothing is loaded or open. Takes no memory.
@@ -291,7 +289,7 @@ impl<'a> Live<'a> {
                 )
             }
             End::Fault(fault) => {
-                let fault = share_fault(fault)?;
+                let fault = fault.share()?;
                 self.close();
                 Ok(Answer::Refused(fault))
             }
@@ -332,6 +330,44 @@ impl<'a> Live<'a> {
                 Ok(())
             }
         }
+    }
+
+    pub(crate) fn allocator(&self) -> Global {
+        self.alloc
+    }
+
+    pub(crate) fn opened(&self) -> &[Opened]
+        ensures { result.now ≡ self.now.opened }
+    {
+        self.opened.as_slice()
+    }
+
+    pub(crate) fn loaded(&self) -> &Table<Module>
+        ensures { result.now ≡ self.now.loaded }
+    {
+        &self.loaded
+    }
+
+    /// Gives a module's variable a value. After `Memory` the state is as before.
+    pub(crate) fn put(&mut self, owner: &Name, name: &Name, value: &Value) -> Result<(), Memory>
+        ensures ok { OnOk result (self.new ≡ record self.old { loaded = with_variable self.old.loaded owner.now name.now value.now }) }
+        ensures err { OnErr result (self.new ≡ self.old) }
+    {
+        let value = value.share()?;
+        self.loaded.set_variable(owner, name, value);
+        Ok(())
+    }
+
+    /// Adds a message. After `Memory` the state is as before.
+    pub(crate) fn say(&mut self, kind: SayKind, span: &Span, text: &Name) -> Result<(), Memory>
+        ensures ok { OnOk result (self.new ≡ record self.old { says = self.old.says ++ (record { kind = kind; span = span.now; text = text.now }) ∷ [] }) }
+        ensures err { OnErr result (self.new ≡ self.old) }
+    {
+        self.says.push(Saying {
+            kind,
+            span: span.share()?,
+            text: text.share()?,
+        })
     }
 
     fn close(&mut self)

@@ -4,7 +4,7 @@ ghost use Rattle.std.specs.List.{list_any};
 ghost use Rattle.std.specs.Map.{lookup};
 ghost use Rattle.std.specs.Option.{option_copied};
 ghost use Rattle.indexmap.specs.IndexMap.{insert_all};
-ghost use Rattle.sw_modules.specs.State.{uses_in, with_use};
+ghost use Rattle.sw_modules.specs.State.{path_in, uses_in, with_use};
 ghost use Rattle.sw_modules.specs.Loads.{refused, is_open, config_of, is_explicit, first_untaken};
 
 use crate::{Opened, Table};
@@ -27,6 +27,25 @@ pub(crate) fn is_open(opened: &[Opened], path: &Name) -> bool
     ensures { result ≡ is_open opened.now path.now }
 {
     opened.iter().any(|load| load.path.same(path))
+}
+
+pub(crate) fn is_innermost(opened: &[Opened], path: &Name) -> bool
+    ensures { result ≡ bytes_eq path.now (path_in opened.now) }
+{
+    match opened.last() {
+        Some(load) => path.same(&load.path),
+        None => path.as_str() == "",
+    }
+}
+
+/// The path that a namespace of the innermost open load stands for.
+pub(crate) fn use_of<'o>(opened: &'o [Opened], space: &Name) -> Option<&'o Name>
+    ensures { option_copied result ≡ lookup (bytes_eq space.now) (uses_in opened.now) }
+{
+    match opened.last() {
+        Some(load) => load.uses.get(space),
+        None => None,
+    }
 }
 
 pub(crate) fn has_use(opened: &[Opened], space: &Name) -> bool

@@ -17,17 +17,13 @@ pub(crate) fn is_private(name: &Name) -> bool
 }
 
 /// The answer that the module at a path has a variable, or hasn't.
-pub(crate) fn variable_of(
-    path: &Name,
-    name: &Name,
-    module: Option<&Module>,
-) -> Result<Answer, Memory>
-    ensures { IfOk result (λ answer. answer ≡ variable_of path.now name.now (option_copied module.entry)) }
+pub(crate) fn variable_of(path: &Name, name: &Name, held: Option<&Module>) -> Result<Answer, Memory>
+    ensures { IfOk result (λ answer. answer ≡ variable_of path.now name.now (option_copied held.entry)) }
 {
-    match module {
+    match held {
         None => Ok(Answer::NoMember),
-        Some(module) => {
-            if module.variables.has(name) {
+        Some(held) => {
+            if held.variables.has(name) {
                 Ok(Answer::Owner {
                     path: path.share()?,
                     name: name.share()?,

@@ -4,10 +4,12 @@ ghost use Rattle.std.specs.Map.{lookup, set_value};
 ghost use Rattle.std.specs.Option.{option_copied, is_some};
 ghost use Rattle.indexmap.specs.IndexMap.{insert_entry};
 
+use crate::Module;
 use indexmap::IndexMap;
 use std::alloc::Global;
 use std::marker::Model;
 use sw_text::{List, Memory, Name};
+use sw_values::Value;
 
 /// Values by names, in the order in which the names came. Contracts see the list of the entries.
 #[derive(Drop)]
@@ -77,5 +79,18 @@ impl<V: Drop> Table<V> {
             list.push(entry)?;
         }
         Ok(list)
+    }
+}
+
+impl Table<Module> {
+    ghost use Rattle.sw_modules.specs.State.{with_variable};
+
+    /// Gives a module's variable a value; what isn't there stays so. Takes no memory.
+    pub(crate) fn set_variable(&mut self, owner: &Name, name: &Name, value: Value)
+        ensures { self.new ≡ with_variable self.old owner.now name.now value }
+    {
+        if let Some(held) = self.entries.get_mut(owner) {
+            held.variables.set(name, value);
+        }
     }
 }
