@@ -11,4 +11,4 @@ mod tests;
 pub use edit::{EditFault, unread_fault};
 pub use folder::Folder;
 pub use path::is_path;
-pub use resolve::ResolveFault;
+pub use resolve::{ResolveFault, has_extension};

@@ -247,7 +247,8 @@ fn one_of(first: Option<Name>, second: Option<Name>) -> Result<Option<Name>, Res
     }
 }
 
-fn has_extension(name: &str) -> bool
+/// Whether a path or a URL ends in `.sass`, `.scss` or `.css`.
+pub fn has_extension(name: &str) -> bool
     ensures { result ≡ has_extension name.now }
 {
     ends_with(name, ".sass") || (ends_with(name, ".scss") || ends_with(name, ".css"))

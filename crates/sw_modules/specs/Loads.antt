@@ -1,0 +1,108 @@
+-- What a load comes to: the refusals in their order, an answer at once, or a module whose body has to run (the Sass specification's modules; the limit of open loads is this project's own).
+use Rattle.std.specs.Prelude.{ℕ, ◌&&◌, not, nat_le, List, [], ◌∷◌, length, map, find, bytes_eq, Option, None, Some, Result, Ok, Err, is_some, if◌then◌else◌, Bool, true, false}
+use Rattle.std.specs.List.{list_any}
+use Rattle.std.specs.Map.{lookup}
+use Rattle.std.specs.FinMap.{get}
+use Rattle.indexmap.specs.IndexMap.{insert_all}
+use Rattle.sw_text.specs.declared.place.Span.{Span}
+use Rattle.sw_text.specs.declared.fault.FaultCode.{FaultCode}
+use Rattle.sw_text.specs.declared.fault.FaultCode.TheVariants.{NotFound, Ambiguous, Loop, AlreadyLoaded, NotConfigurable, MemberConflict, Depth}
+use Rattle.sw_folder.specs.Files.{Files}
+use Rattle.sw_folder.specs.Paths.{is_path}
+use Rattle.sw_folder.specs.Resolution.{resolved, has_extension}
+use Rattle.sw_folder.specs.declared.resolve.ResolveFault.{ResolveFault}
+use Rattle.sw_folder.specs.declared.resolve.ResolveFault.TheVariants as R
+use Rattle.sw_values.specs.declared.node.Node.{Node}
+use Rattle.sw_world.specs.declared.op.Op.{Op}
+use Rattle.sw_world.specs.declared.op.Op.TheVariants.{Load}
+use Rattle.sw_world.specs.declared.op.How.{How}
+use Rattle.sw_world.specs.declared.op.How.TheVariants.{Use, Forward}
+use Rattle.sw_world.specs.declared.op.Given.{Given}
+use Rattle.sw_world.specs.declared.answer.Answer.{Answer}
+use Rattle.sw_world.specs.declared.answer.Answer.TheVariants.{Loaded, Refused, Done}
+use Rattle.sw_world.specs.declared.end.End.{End}
+use Rattle.sw_world.specs.declared.end.End.TheVariants.{Done as Done_end, Fault as Fault_end}
+use Rattle.sw_modules.specs.declared.module.Module.{Module}
+use Rattle.sw_modules.specs.declared.module.Opened.{Opened}
+use Rattle.sw_modules.specs.declared.live.Begin.{Begin}
+use Rattle.sw_modules.specs.declared.live.Begin.TheVariants.{Answered, Open}
+use Rattle.sw_modules.specs.declared.live.Enter.{Enter}
+use Rattle.sw_modules.specs.declared.live.Enter.TheVariants.{Refused as Refused_entry, Open as Open_entry}
+use Rattle.sw_modules.specs.State.{State, open_at, uses_in, with_use, closed, loaded_now}
+
+abbrev pub refused : FaultCode → Span → Answer
+refused code span = Refused (record { code = code; span = span })
+
+abbrev pub is_open : List Opened → List ℕ → Bool
+is_open opened path = list_any (λ load. bytes_eq load.path path) opened
+
+-- the names and values of a configuration: a repeated name keeps its first place and its last value
+abbrev pub config_of : List Given → List (List ℕ × Node)
+config_of given = insert_all bytes_eq [] (map (λ one. (one.name, one.value)) given)
+
+abbrev pub is_explicit : List Given → Bool
+is_explicit given = list_any (λ one. one.explicit) given
+
+-- the first name that is given in a `with` and isn't taken
+abbrev pub first_untaken : List Given → List (List ℕ) → Option Given
+first_untaken given taken = find (λ one. one.explicit && not (list_any (bytes_eq one.name) taken)) given
+
+-- a loaded module is used by the innermost open load: no namespace may stand for two
+abbrev pub used_as : How → List ℕ → List (List ℕ) → Span → State → Answer × State
+used_as (Use (Some space)) path taken span s =
+    if is_some (lookup (bytes_eq space) (uses_in s.opened)) then (refused MemberConflict span, s)
+    else (Loaded path taken, record s { opened = with_use space path s.opened })
+used_as (Use None) path taken span s = (Loaded path taken, s)
+used_as (Forward prefix filter) path taken span s = (Loaded path taken, s)
+
+abbrev pub at_once : Answer × State → Begin × State
+at_once (answer, s) = (Answered answer, s)
+
+abbrev pub begin_module : Option Module → Option (List ℕ) → List ℕ → Span → How → List Given → State → Begin × State
+begin_module (Some held) text path span how config s = if is_explicit config then (Answered (refused AlreadyLoaded span), s) else at_once (used_as how path [] span s)
+begin_module None None path span how config s = (Answered (refused NotFound span), s)
+begin_module None (Some text) path span how config s = (Open path text (config_of config), open_at path s)
+
+abbrev pub begin_path : List ℕ → Span → How → List Given → State → Begin × State
+begin_path path span how config s =
+    if is_open s.opened path then (Answered (refused Loop span), s)
+    else if nat_le 64 (length s.opened) then (Answered (refused Depth span), s)
+    else begin_module (lookup (bytes_eq path) s.loaded) (get s.folder path) path span how config s
+
+abbrev pub begin_url : Result (List ℕ) ResolveFault → Span → How → List Given → State → Begin × State
+begin_url (Ok path) span how config s = begin_path path span how config s
+begin_url (Err R.NotFound) span how config s = (Answered (refused NotFound span), s)
+begin_url (Err R.Ambiguous) span how config s = (Answered (refused Ambiguous span), s)
+begin_url (Err R.Memory) span how config s = (Answered (refused NotFound span), s)
+
+-- what a load begins with, and the next state
+abbrev pub begun : Op → State → Begin × State
+begun (Load site url span how config) s = begin_url (resolved s.folder site url s.paths) span how config s
+begun _ s = (Answered Done, s)
+
+-- a module whose body is done is used, unless a name of a `with` wasn't taken
+abbrev pub used_unless : Option Given → How → List ℕ → List (List ℕ) → Span → State → Answer × State
+used_unless None how path taken span s = used_as how path taken span s
+used_unless (Some given) how path taken span s = (refused NotConfigurable given.span, s)
+
+-- the answer to the load whose body has ended so, and the next state
+abbrev pub ended_by : Op → List ℕ → End → State → Answer × State
+ended_by (Load site url span how config) path (Done_end finish) s = used_unless (first_untaken config finish.taken) how path finish.taken span (loaded_now finish s)
+ended_by _ path (Done_end finish) s = (Done, loaded_now finish s)
+ended_by _ path (Fault_end fault) s = (Refused fault, closed s)
+
+-- the state after the entry's body has ended
+abbrev pub left_by : End → State → State
+left_by (Done_end finish) s = loaded_now finish s
+left_by (Fault_end fault) s = closed s
+
+-- the text of the entry of a compile, which has to be a sheet of the folder
+abbrev pub entry_text : Files → List ℕ → Option (List ℕ)
+entry_text files entry = if is_path entry && has_extension entry then get files entry else None
+
+abbrev pub entry_fault : List ℕ → Enter
+entry_fault entry = Refused_entry (record { code = NotFound; span = record { file = entry; from = record { line = 1; column = 1 }; to = record { line = 1; column = 1 } } })
+
+abbrev pub entered : List ℕ → Option (List ℕ) → State → Enter × State
+entered entry None s = (entry_fault entry, s)
+entered entry (Some text) s = (Open_entry entry text, open_at entry s)

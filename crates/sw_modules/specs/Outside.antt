@@ -1,0 +1,29 @@
+-- What answers the questions of bodies: the live state and the host's functions (this project's own rule).
+use Rattle.std.specs.Prelude.{ℕ, List, [], ◌∷◌, ◌++◌, Option}
+use Rattle.sw_values.specs.declared.node.Node.{Node}
+use Rattle.sw_world.specs.Hosts.{HostState}
+use Rattle.sw_world.specs.declared.op.Op.{Op}
+use Rattle.sw_world.specs.declared.op.Op.TheVariants.{Load, Find, Get, Put, Say, Call}
+use Rattle.sw_world.specs.declared.answer.Answer.{Answer}
+use Rattle.sw_world.specs.declared.answer.Answer.TheVariants.{Value, Done, Hosted}
+use Rattle.sw_modules.specs.State.{State, with_variable}
+use Rattle.sw_modules.specs.Names.{found, value_of}
+
+-- what the host's functions answer, and what they are afterwards
+pub record Functions : Type 0 where
+  pub answer : HostState → List ℕ → List Node → Option Node
+  pub after : HostState → List ℕ → List Node → HostState
+
+-- all that is outside the bodies
+pub record Outside : Type 0 where
+  pub live : State
+  pub hosts : HostState
+
+-- the answer to a question that is no load, and what is outside then
+abbrev pub plain : Functions → Op → Outside → Answer × Outside
+plain functions (Find site space kind name) o = (found o.live site space kind name, o)
+plain functions (Get owner name) o = (Value (value_of o.live owner name), o)
+plain functions (Put owner name value) o = (Done, record o { live = record o.live { loaded = with_variable o.live.loaded owner name value } })
+plain functions (Say kind span text) o = (Done, record o { live = record o.live { says = o.live.says ++ (record { kind = kind; span = span; text = text }) ∷ [] } })
+plain functions (Call name args) o = (Hosted (functions.answer o.hosts name args), record o { hosts = functions.after o.hosts name args })
+plain functions (Load site url span how config) o = (Done, o)

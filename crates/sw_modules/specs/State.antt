@@ -1,0 +1,66 @@
+-- The state of one compile outside the bodies of its modules (this project's own rule).
+use Rattle.std.specs.Prelude.{◌≡◌, ℕ, ◌-◌, List, [], ◌∷◌, ◌++◌, length, take, slice_get, slice_set, bytes_eq, Option, None, Some}
+use Rattle.std.specs.Option.{option_map_or}
+use Rattle.std.specs.Map.{lookup, set_value}
+use Rattle.indexmap.specs.IndexMap.{insert_entry, insert_all}
+use Rattle.sw_css_tree.specs.Output.{Output}
+use Rattle.sw_folder.specs.Files.{Files}
+use Rattle.sw_values.specs.declared.node.Node.{Node}
+use Rattle.sw_world.specs.declared.end.Finish.{Finish}
+use Rattle.sw_modules.specs.declared.module.Module.{Module}
+use Rattle.sw_modules.specs.declared.module.Opened.{Opened}
+use Rattle.sw_modules.specs.declared.module.Saying.{Saying}
+
+-- the folder and the load paths; the loaded modules by their paths, in the order in which their bodies ended; the open loads, the innermost one last;
+-- the messages; the outputs of the modules whose bodies ended, in that order
+pub record State : Type 0 where
+  pub folder : Files
+  pub paths : List (List ℕ)
+  pub loaded : List (List ℕ × Module)
+  pub opened : List Opened
+  pub says : List Saying
+  pub outputs : List Output
+
+abbrev pub nothing_loaded : Files → List (List ℕ) → State
+nothing_loaded files paths = record { folder = files; paths = paths; loaded = []; opened = []; says = []; outputs = [] }
+
+-- a path whose module is being loaded from now on
+abbrev pub open_at : List ℕ → State → State
+open_at path s = record s { opened = s.opened ++ (record { path = path; uses = [] }) ∷ [] }
+
+-- the innermost open load
+abbrev pub last_open : List Opened → Option Opened
+last_open opened = slice_get opened (length opened - 1)
+
+-- its path, and its uses so far
+abbrev pub path_in : List Opened → List ℕ
+path_in opened = option_map_or (λ load. load.path) (last_open opened) []
+
+abbrev pub uses_in : List Opened → List (List ℕ × List ℕ)
+uses_in opened = option_map_or (λ load. load.uses) (last_open opened) []
+
+-- the innermost open load uses the module at a path under a namespace
+abbrev pub with_use : List ℕ → List ℕ → List Opened → List Opened
+with_use space path opened =
+    option_map_or (λ load. slice_set opened (length opened - 1) (record load { uses = insert_entry bytes_eq load.uses space path })) (last_open opened) opened
+
+-- the innermost load is open no more
+abbrev pub closed : State → State
+closed s = record s { opened = take (length s.opened - 1) s.opened }
+
+-- the module that a body left behind, with these uses
+abbrev pub module_of : Finish → List (List ℕ × List ℕ) → Module
+module_of finish uses = record { variables = insert_all bytes_eq [] finish.variables; uses = uses; finish = finish }
+
+-- the innermost load's module is loaded
+abbrev pub loaded_now : Finish → State → State
+loaded_now finish s = record s {
+  opened = take (length s.opened - 1) s.opened;
+  loaded = insert_entry bytes_eq s.loaded (path_in s.opened) (module_of finish (uses_in s.opened));
+  outputs = s.outputs ++ finish.css ∷ [];
+}
+
+-- the variable of a module has a value
+abbrev pub with_variable : List (List ℕ × Module) → List ℕ → List ℕ → Node → List (List ℕ × Module)
+with_variable loaded owner name value =
+    option_map_or (λ held. set_value (bytes_eq owner) loaded (record held { variables = set_value (bytes_eq name) held.variables value })) (lookup (bytes_eq owner) loaded) loaded

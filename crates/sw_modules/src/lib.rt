@@ -1,0 +1,14 @@
+//! What is outside the bodies of one compile: which module a load opens or answers, what a name means, what variables hold. Questions come up from the engine; the folder is read, answers go down.
+#![tactic(auto)]
+
+mod ask;
+mod live;
+mod loads;
+mod module;
+mod names;
+mod table;
+
+pub use ask::{Asked, comes_by};
+pub use live::{Begin, Enter, Finished, Live};
+pub use module::{Module, Opened, Saying};
+pub use table::Table;

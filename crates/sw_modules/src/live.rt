@@ -1,0 +1,411 @@
+// The live state of a compile.
+ghost use Rattle.std.specs.Prelude.{◌≡◌, ◌<◌, ◌+◌, ◌++◌, ◌∷◌, [], ℕ, length, bytes_eq, IfOk, OnOk, OnErr, None, Some, if◌then◌else◌};
+ghost use Rattle.std.specs.Map.{lookup};
+ghost use Rattle.std.specs.Option.{option_copied};
+ghost use Rattle.sw_world.specs.Questions.{IsLoad, Fits};
+ghost use Rattle.std.specs.FinMap.{get};
+ghost use Rattle.sw_world.specs.declared.op.How.{How};
+ghost use Rattle.sw_modules.specs.Loads.{entry_fault, is_explicit, refused, first_untaken};
+
+use crate::loads::{
+    add_use, config_of, first_untaken, has_use, is_explicit, is_open, refused, share_names,
+    variables_of,
+};
+use crate::{Module, Opened, Saying, Table};
+use std::alloc::Global;
+use std::marker::Model;
+use sw_css_tree::CssTree;
+use sw_folder::{Folder, ResolveFault, has_extension, is_path};
+use sw_text::{Fault, FaultCode, List, Memory, Name, Pos, Shared, Span};
+use sw_values::Value;
+use sw_world::{Answer, Config, End, Finish, Given, How, Op, SayKind};
+
+const MOST_OPEN: usize = 64;
+
+/// What a load begins with.
+#[derive(Drop)]
+pub enum Begin {
+    Answered(Answer),
+    /// The body of this module has to run; its path is being loaded.
+    Open {
+        path: Name,
+        text: Name,
+        config: Config,
+    },
+}
+
+/// What the entry of a compile begins with.
+#[derive(Drop)]
+pub enum Enter {
+    Refused(Fault),
+    /// The body of the entry has to run; its path is being loaded.
+    Open { path: Name, text: Name },
+}
+
+/// What a compile leaves behind: its messages in order, and the outputs of its modules in the order in which their bodies ended.
+#[derive(Drop)]
+pub struct Finished {
+    pub says: List<Saying>,
+    pub outputs: List<Shared<CssTree>>,
+}
+
+/// The state of one compile over a folder: the loaded modules, the open loads, the messages and the outputs.
+#[derive(Drop)]
+pub struct Live<'a> {
+    alloc: Global,
+    folder: &'a Folder,
+    paths: &'a [Name],
+    loaded: Table<Module>,
+    opened: Vec<Opened>,
+    says: List<Saying>,
+    outputs: List<Shared<CssTree>>,
+}
+
+impl<'a> Model for Live<'a> {
+    ghost use Rattle.std.specs.Coded.{codes};
+    ghost use Rattle.sw_folder.specs.Files.{files_code};
+    ghost use Rattle.sw_tree.specs.contracts.statement.Statement as statement;
+    ghost use Rattle.sw_modules.specs.State.{State};
+
+    ghost Value = { State };
+
+    ghost coded = { Prim.hlevel (codes, files_code, statement.the_row.coded) };
+
+    ghost view = { λ live. record { folder = live.folder.now; paths = live.paths.now; loaded = live.loaded; opened = live.opened.items; says = live.says; outputs = live.outputs } };
+}
+
+impl<'a> Live<'a> {
+    ghost use Rattle.sw_modules.specs.State.{nothing_loaded, closed, loaded_now, path_in, with_variable};
+    ghost use Rattle.sw_modules.specs.Loads.{begun, begin_path, begin_module, used_as, used_unless, ended_by, left_by, entry_text, entered};
+
+    /// Nothing is loaded or open. Takes no memory.
+    pub fn new(alloc: Global, folder: &'a Folder, paths: &'a [Name]) -> Live<'a>
+        ensures { result ≡ nothing_loaded folder.now paths.now }
+    {
+        Live {
+            alloc,
+            folder,
+            paths,
+            loaded: Table::new(alloc),
+            opened: Vec::new(alloc),
+            says: List::new(alloc),
+            outputs: List::new(alloc),
+        }
+    }
+
+    /// The messages and the outputs. Takes no memory.
+    pub fn finish(self) -> Finished
+        ensures says { result.says ≡ self.entry.says }
+        ensures outputs { result.outputs ≡ self.entry.outputs }
+    {
+        let Live {
+            alloc: _,
+            folder: _,
+            paths: _,
+            loaded: _,
+            opened: _,
+            says,
+            outputs,
+        } = self;
+        Finished { says, outputs }
+    }
+
+    /// Opens the entry, or refuses it at its begin where it is no sheet of the folder. After `Memory` the state is as before.
+    pub fn enter(&mut self, entry: &Name) -> Result<Enter, Memory>
+        ensures ok { IfOk result (λ enter. entered entry.now (entry_text self.old.folder entry.now) self.old ≡ (enter, self.new)) }
+        ensures err { OnErr result (self.new ≡ self.old) }
+    {
+        match self.entry_text(entry) {
+            None => Ok(Enter::Refused(entry_fault(entry)?)),
+            Some(text) => {
+                let text = text.share()?;
+                let path = entry.share()?;
+                let opened = Opened {
+                    path: entry.share()?,
+                    uses: Table::new(self.alloc),
+                };
+                self.opened.push(opened)?;
+                Ok(Enter::Open { path, text })
+            }
+        }
+    }
+
+    fn entry_text(&self, entry: &Name) -> Option<&Name>
+        ensures { option_copied result ≡ entry_text self.now.folder entry.now }
+    {
+        if is_path(entry.as_str()) && has_extension(entry.as_str()) {
+            self.folder.text(entry.as_str())
+        } else {
+            None
+        }
+    }
+
+    /// The answer to a load, or the module whose body has to run for it. The refusals come in this order: the URL means no file or several; the module is being loaded; 64 loads are open; the module is loaded and a `with` gives values to it; its namespace stands for another module. After `Memory` the state is as before.
+    pub fn begin(&mut self, op: &Op) -> Result<Begin, Memory>
+        requires { IsLoad op.now }
+        ensures ok { IfOk result (λ begin. begun op.now self.old ≡ (begin, self.new)) }
+        ensures err { OnErr result (self.new ≡ self.old) }
+    {
+        let Op::Load {
+            site,
+            url,
+            span,
+            how,
+            config,
+        } = op
+        else {
+            unreachable!()
+        };
+        match self.folder.resolve(site.as_str(), url.as_str(), self.paths) {
+            Ok(path) => self.begin_path(path, span, how, config.get().as_slice()),
+            Err(ResolveFault::NotFound) => Ok(Begin::Answered(refused(FaultCode::NotFound, span)?)),
+            Err(ResolveFault::Ambiguous) => {
+                Ok(Begin::Answered(refused(FaultCode::Ambiguous, span)?))
+            }
+            Err(ResolveFault::Memory) => Err(Memory),
+        }
+    }
+
+    fn begin_path(
+        &mut self,
+        path: Name,
+        span: &Span,
+        how: &How,
+        config: &[Given],
+    ) -> Result<Begin, Memory>
+        ensures ok { IfOk result (λ begin. begin_path path span.now how.now config.now self.old ≡ (begin, self.new)) }
+        ensures err { OnErr result (self.new ≡ self.old) }
+    {
+        if is_open(&self.opened, &path) {
+            return Ok(Begin::Answered(refused(FaultCode::Loop, span)?));
+        }
+        if self.opened.len() >= MOST_OPEN {
+            return Ok(Begin::Answered(refused(FaultCode::Depth, span)?));
+        }
+        match self.loaded.get(&path) {
+            Some(_) => Ok(Begin::Answered(self.begin_loaded(path, span, how, config)?)),
+            None => self.begin_new(path, span, config),
+        }
+    }
+
+    fn begin_loaded(
+        &mut self,
+        path: Name,
+        span: &Span,
+        how: &How,
+        config: &[Given],
+    ) -> Result<Answer, Memory>
+        ensures ok { IfOk result (λ answer. (if is_explicit config.now then (refused FaultCode.AlreadyLoaded span.now, self.old) else used_as how.now path [] span.now self.old) ≡ (answer, self.new)) }
+        ensures err { OnErr result (self.new ≡ self.old) }
+    {
+        if is_explicit(config) {
+            return refused(FaultCode::AlreadyLoaded, span);
+        }
+        let none = Shared::new(self.alloc, List::new(self.alloc))?;
+        self.used_as(how, path, none, span)
+    }
+
+    fn begin_new(&mut self, path: Name, span: &Span, config: &[Given]) -> Result<Begin, Memory>
+        ensures ok { IfOk result (λ begin. (how : How) → begin_module None (get self.old.folder path) path span.now how config.now self.old ≡ (begin, self.new)) }
+        ensures err { OnErr result (self.new ≡ self.old) }
+    {
+        match self.folder.text(path.as_str()) {
+            None => Ok(Begin::Answered(refused(FaultCode::NotFound, span)?)),
+            Some(text) => {
+                let text = text.share()?;
+                let config = config_of(self.alloc, config)?;
+                let opened = Opened {
+                    path: path.share()?,
+                    uses: Table::new(self.alloc),
+                };
+                self.opened.push(opened)?;
+                Ok(Begin::Open { path, text, config })
+            }
+        }
+    }
+
+    fn used_as(
+        &mut self,
+        how: &How,
+        path: Name,
+        taken: Shared<List<Name>>,
+        span: &Span,
+    ) -> Result<Answer, Memory>
+        ensures ok { IfOk result (λ answer. used_as how.now path taken span.now self.old ≡ (answer, self.new)) }
+        ensures err { OnErr result (self.new ≡ self.old) }
+    {
+        match how {
+            How::Use { space: Some(space) } => self.used_under(space, path, taken, span),
+            How::Use { space: None } => Ok(Answer::Loaded { path, taken }),
+            How::Forward { .. } => Ok(Answer::Loaded { path, taken }),
+        }
+    }
+
+    fn used_under(
+        &mut self,
+        space: &Name,
+        path: Name,
+        taken: Shared<List<Name>>,
+        span: &Span,
+    ) -> Result<Answer, Memory>
+        ensures ok { IfOk result (λ answer. used_as (How.Use (Some space.now)) path taken span.now self.old ≡ (answer, self.new)) }
+        ensures err { OnErr result (self.new ≡ self.old) }
+    {
+        if has_use(&self.opened, space) {
+            return refused(FaultCode::MemberConflict, span);
+        }
+        let answer = Answer::Loaded {
+            path: path.share()?,
+            taken,
+        };
+        add_use(&mut self.opened, space.share()?, path)?;
+        Ok(answer)
+    }
+
+    /// The answer to the innermost open load, whose body ended so. At its end the module is recorded and used; a name of a `with` that it didn't take, or a namespace that stands for another module, refuses the load. After `Memory` the state is not to be used any more.
+    pub fn end(&mut self, op: &Op, end: &End) -> Result<Answer, Memory>
+        requires is_load { IsLoad op.now }
+        requires is_open { 0 < length self.old.opened }
+        ensures { IfOk result (λ answer. ended_by op.now (path_in self.old.opened) end.now self.old ≡ (answer, self.new)) }
+    {
+        let Op::Load {
+            span,
+            how,
+            config,
+            ..
+        } = op
+        else {
+            unreachable!()
+        };
+        match end {
+            End::Done(finish) => {
+                let path = self.record(finish)?;
+                self.used_unless(
+                    how,
+                    config.get().as_slice(),
+                    path,
+                    &finish.get().taken,
+                    span,
+                )
+            }
+            End::Fault(fault) => {
+                let fault = fault.share()?;
+                self.close();
+                Ok(Answer::Refused(fault))
+            }
+        }
+    }
+
+    fn used_unless(
+        &mut self,
+        how: &How,
+        config: &[Given],
+        path: Name,
+        taken: &List<Name>,
+        span: &Span,
+    ) -> Result<Answer, Memory>
+        ensures { IfOk result (λ answer. used_unless (first_untaken config.now taken.now) how.now path taken.now span.now self.old ≡ (answer, self.new)) }
+    {
+        match first_untaken(config, taken.as_slice()) {
+            Some(given) => refused(FaultCode::NotConfigurable, &given.span),
+            None => {
+                let taken = share_names(self.alloc, taken.as_slice())?;
+                self.used_as(how, path, taken, span)
+            }
+        }
+    }
+
+    /// Closes the entry, whose body ended so; at its end the module is recorded. After `Memory` the state is not to be used any more.
+    pub fn leave(&mut self, end: &End) -> Result<(), Memory>
+        requires { 0 < length self.old.opened }
+        ensures { OnOk result (self.new ≡ left_by end.now self.old) }
+    {
+        match end {
+            End::Done(finish) => {
+                self.record(finish)?;
+                Ok(())
+            }
+            End::Fault(_) => {
+                self.close();
+                Ok(())
+            }
+        }
+    }
+
+    pub(crate) fn allocator(&self) -> Global {
+        self.alloc
+    }
+
+    pub(crate) fn opened(&self) -> &[Opened]
+        ensures { result.now ≡ self.now.opened }
+    {
+        self.opened.as_slice()
+    }
+
+    pub(crate) fn loaded(&self) -> &Table<Module>
+        ensures { result.now ≡ self.now.loaded }
+    {
+        &self.loaded
+    }
+
+    /// Gives a module's variable a value. After `Memory` the state is as before.
+    pub(crate) fn put(&mut self, owner: &Name, name: &Name, value: &Value) -> Result<(), Memory>
+        ensures ok { OnOk result (self.new ≡ record self.old { loaded = with_variable self.old.loaded owner.now name.now value.now }) }
+        ensures err { OnErr result (self.new ≡ self.old) }
+    {
+        let value = value.share()?;
+        self.loaded.set_variable(owner, name, value);
+        Ok(())
+    }
+
+    /// Adds a message. After `Memory` the state is as before.
+    pub(crate) fn say(&mut self, kind: SayKind, span: &Span, text: &Name) -> Result<(), Memory>
+        ensures ok { OnOk result (self.new ≡ record self.old { says = self.old.says ++ (record { kind = kind; span = span.now; text = text.now }) ∷ [] }) }
+        ensures err { OnErr result (self.new ≡ self.old) }
+    {
+        self.says.push(Saying {
+            kind,
+            span: span.share()?,
+            text: text.share()?,
+        })
+    }
+
+    fn close(&mut self)
+        ensures { self.new ≡ closed self.old }
+    {
+        self.opened.pop();
+    }
+
+    /// Records the module of the innermost open load, and gives its path.
+    fn record(&mut self, finish: &Shared<Finish>) -> Result<Name, Memory>
+        requires { 0 < length self.old.opened }
+        ensures path { IfOk result (λ path. path ≡ path_in self.old.opened) }
+        ensures state { OnOk result (self.new ≡ loaded_now finish.now self.old) }
+    {
+        let variables = variables_of(self.alloc, finish.get().variables.as_slice())?;
+        self.outputs.push(finish.get().css.share()?)?;
+        let Some(Opened { path, uses }) = self.opened.pop() else {
+            unreachable!()
+        };
+        let held = Module {
+            variables,
+            uses,
+            finish: finish.share()?,
+        };
+        self.loaded.add(path.share()?, held)?;
+        Ok(path)
+    }
+}
+
+fn entry_fault(entry: &Name) -> Result<Fault, Memory>
+    ensures { IfOk result (λ fault. Enter.Refused fault ≡ entry_fault entry.now) }
+{
+    Ok(Fault {
+        code: FaultCode::NotFound,
+        span: Span {
+            file: entry.share()?,
+            from: Pos { line: 1, column: 1 },
+            to: Pos { line: 1, column: 1 },
+        },
+    })
+}

@@ -1,0 +1,32 @@
+// Modules, open loads and messages.
+use crate::Table;
+use sw_text::{Name, Shared, Span};
+use sw_values::Value;
+use sw_world::{Finish, SayKind};
+
+/// A loaded module.
+#[derive(Drop)]
+pub struct Module {
+    /// The values that its own variables have now.
+    pub variables: Table<Value>,
+    /// The paths of the modules that it uses, by their namespaces.
+    pub uses: Table<Name>,
+    /// What its body left behind.
+    pub finish: Shared<Finish>,
+}
+
+/// A load whose body hasn't ended.
+#[derive(Drop)]
+pub struct Opened {
+    pub path: Name,
+    /// The paths of the modules that it uses so far, by their namespaces.
+    pub uses: Table<Name>,
+}
+
+/// A message that a body said.
+#[derive(Drop)]
+pub struct Saying {
+    pub kind: SayKind,
+    pub span: Span,
+    pub text: Name,
+}

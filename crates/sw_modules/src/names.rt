@@ -1,0 +1,36 @@
+// What a name means.
+ghost use Rattle.std.specs.Prelude.{◌≡◌, IfOk};
+ghost use Rattle.std.specs.Option.{option_copied};
+ghost use Rattle.sw_modules.specs.Names.{is_private, variable_of};
+
+use crate::Module;
+use sw_text::{Memory, Name};
+use sw_world::Answer;
+
+pub(crate) fn is_private(name: &Name) -> bool
+    ensures { result ≡ is_private name.now }
+{
+    match name.as_str().as_bytes() {
+        [] => false,
+        [first, ..] => *first == b'-' || *first == b'_',
+    }
+}
+
+/// The answer that the module at a path has a variable, or hasn't.
+pub(crate) fn variable_of(path: &Name, name: &Name, held: Option<&Module>) -> Result<Answer, Memory>
+    ensures { IfOk result (λ answer. answer ≡ variable_of path.now name.now (option_copied held.entry)) }
+{
+    match held {
+        None => Ok(Answer::NoMember),
+        Some(held) => {
+            if held.variables.has(name) {
+                Ok(Answer::Owner {
+                    path: path.share()?,
+                    name: name.share()?,
+                })
+            } else {
+                Ok(Answer::NoMember)
+            }
+        }
+    }
+}
