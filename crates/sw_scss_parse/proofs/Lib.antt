@@ -1,5 +1,6 @@
 pub mod Numbers
 pub mod Texts
+pub mod Plains
 pub mod Signs
 pub mod Loops
 pub mod Trees

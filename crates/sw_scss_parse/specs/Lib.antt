@@ -1,6 +1,8 @@
 pub mod Roles
 pub mod Words
 pub mod Urls
+pub mod Sorts
+pub mod Terminals
 pub mod Marks
 pub mod Pieces
 pub mod FlatGrammar

@@ -5,6 +5,8 @@ mod end;
 mod flat;
 mod mark;
 mod reading;
+mod sort;
+mod terminal;
 mod tree;
 mod url;
 mod word;
