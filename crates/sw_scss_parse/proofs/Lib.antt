@@ -7,3 +7,5 @@ pub mod Trees
 pub mod Whole
 pub mod Lying
 pub mod Returned
+pub mod Decided
+pub mod Terminals

@@ -9,3 +9,5 @@ pub mod FlatGrammar
 pub mod FlatReader
 pub mod Ends
 pub mod Reading
+pub mod Sheets
+pub mod SheetReader

@@ -2,11 +2,15 @@
 #![tactic(auto)]
 
 mod end;
+mod expression;
 mod flat;
 mod mark;
+mod part;
 mod reading;
 mod sort;
+mod source;
 mod terminal;
+mod statement;
 mod tree;
 mod url;
 mod word;
