@@ -9,3 +9,4 @@ pub mod Lying
 pub mod Returned
 pub mod Decided
 pub mod Terminals
+pub mod StatementsOf

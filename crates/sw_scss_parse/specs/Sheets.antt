@@ -94,6 +94,10 @@ names = 1 ∷ 2 ∷ 3 ∷ 4 ∷ 5 ∷ 6 ∷ 7 ∷ []
 unfoldable pub as_name : Grammar Part Form
 as_name = alt (seq (skip (10 ∷ [])) (keep names)) empty
 
+-- selector_words = ("." | "#")·plain word | plain word
+abbrev pub selector_words : Grammar Part Form
+selector_words = alt (seq (skip (17 ∷ 18 ∷ [])) (skip (9 ∷ []))) (skip (1 ∷ 2 ∷ 4 ∷ []))
+
 abbrev pub optional_place : Option ℕ → List Part
 optional_place None = []
 optional_place (Some place) = Place place ∷ []
@@ -213,9 +217,8 @@ module _ (sheet : SheetText) (lexemes : List Lexeme) where
   unfoldable pub declaration : Grammar Part Form
   declaration = seq (build to_declaration (seq property colon_value)) finish
 
-  -- selector = ("." | "#")·plain word | plain word
   unfoldable pub selector : Grammar Part Form
-  selector = build to_text (alt (seq (skip (17 ∷ 18 ∷ [])) (skip (9 ∷ []))) (skip (1 ∷ 2 ∷ 4 ∷ [])))
+  selector = build to_text selector_words
 
   -- rule = selector "{" {inner} "}"
   unfoldable pub rule : Grammar Part Form

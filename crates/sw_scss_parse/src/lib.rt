@@ -1,6 +1,7 @@
 //! The reader of sheets: tokens come in, and the tree goes out, or the place where the sheet can't go on.
 #![tactic(auto)]
 
+mod block;
 mod end;
 mod expression;
 mod flat;

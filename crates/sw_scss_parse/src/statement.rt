@@ -1,22 +1,22 @@
 // The descent over tokens: statements.
-ghost use Rattle.std.specs.Prelude.{◌≡◌, ◌∷◌, [], map, length, ◌<◌, IsTrue, IfOk};
-ghost use Rattle.sw_grammar.specs.Grammar.{member, keep, many, group};
+ghost use Rattle.std.specs.Prelude.{◌≡◌, ◌∷◌, [], length, ◌<◌, IsTrue, IfOk};
+ghost use Rattle.sw_grammar.specs.Grammar.{member, keep};
 ghost use Rattle.sw_grammar.specs.Readers.{Answers};
-ghost use Rattle.sw_scss_parse.specs.Sheets.{terminal_at, Part, Place, Texts, Owns, Values, States, declared, assigned, as_name, load, property, declaration, selector, rule, inner, statement, to_declared, to_assigned, to_load, url_at, namespace_at, names, optional_place, Block};
+ghost use Rattle.sw_scss_parse.specs.Sheets.{terminal_at, Place, Owns, Values, States, declared, assigned, as_name, load, to_declared, to_assigned, to_load, url_at, namespace_at, names, optional_place};
 ghost use Rattle.sw_scss_parse.specs.SheetReader.{reader, reads};
 
 use crate::expression::{
     colon_value_at, dollar_name_at, finished, is_at, is_owner, kept, owned_at, skipped,
 };
-use crate::part::{bytes_at, found, span_at, span_between, text_between};
+use crate::part::{bytes_at, found, span_at, span_between};
 use crate::source::Source;
 use crate::terminal::Terminal;
 use crate::url::{namespace_of, unquoted};
 use crate::word::dashed;
 use std::alloc::Global;
 use sw_grammar::ReadError;
-use sw_text::{List, Memory, Name};
-use sw_tree::{Expr, Flags, Namespace, Qualified, Statement, Text, Url, With};
+use sw_text::{Memory, Name};
+use sw_tree::{Expr, Flags, Namespace, Qualified, Statement, Url, With};
 
 // The declaration of a variable whose name stands at a place.
 fn declared_of(alloc: Global, source: &Source, at: usize, name: usize, value: Expr, place: usize) -> Result<Statement, Memory>
@@ -31,7 +31,7 @@ fn declared_of(alloc: Global, source: &Source, at: usize, name: usize, value: Ex
 }
 
 #[tactic(auto, unfolding(sw_grammar::specs::Readers::parse, crate::specs::Sheets::declared))]
-fn declared_at(alloc: Global, source: &Source, levels: u8, at: usize) -> Result<(Statement, usize), ReadError>
+pub(crate) fn declared_at(alloc: Global, source: &Source, levels: u8, at: usize) -> Result<(Statement, usize), ReadError>
     ensures { Answers (λ x. States x.0 ∷ []) (λ x. x.1) result (reads source.now.text.now source.now.lexemes.now levels declared at) }
 {
     let (name, place) = dollar_name_at(source, levels, at)?;
@@ -54,7 +54,7 @@ fn assigned_of(source: &Source, at: usize, target: Qualified, value: Expr, place
 }
 
 #[tactic(auto, unfolding(sw_grammar::specs::Readers::parse, crate::specs::Sheets::assigned))]
-fn assigned_at(alloc: Global, source: &Source, levels: u8, at: usize) -> Result<(Statement, usize), ReadError>
+pub(crate) fn assigned_at(alloc: Global, source: &Source, levels: u8, at: usize) -> Result<(Statement, usize), ReadError>
     ensures { Answers (λ x. States x.0 ∷ []) (λ x. x.1) result (reads source.now.text.now source.now.lexemes.now levels assigned at) }
 {
     let (target, place) = owned_at(alloc, source, levels, at)?;
@@ -132,7 +132,7 @@ fn as_name_at(source: &Source, levels: u8, at: usize) -> Result<(Option<usize>, 
 }
 
 #[tactic(auto, unfolding(sw_grammar::specs::Readers::parse, crate::specs::Sheets::load))]
-fn load_at(alloc: Global, source: &Source, levels: u8, at: usize) -> Result<(Statement, usize), ReadError>
+pub(crate) fn load_at(alloc: Global, source: &Source, levels: u8, at: usize) -> Result<(Statement, usize), ReadError>
     ensures { Answers (λ x. States x.0 ∷ []) (λ x. x.1) result (reads source.now.text.now source.now.lexemes.now levels load at) }
 {
     let place = skipped(source, levels, at, Terminal::Use)?;
