@@ -1,8 +1,12 @@
 pub mod Numbers
 pub mod Texts
+pub mod Plains
 pub mod Signs
 pub mod Loops
 pub mod Trees
 pub mod Whole
 pub mod Lying
 pub mod Returned
+pub mod Decided
+pub mod Terminals
+pub mod StatementsOf

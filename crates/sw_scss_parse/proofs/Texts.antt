@@ -1,9 +1,12 @@
 -- Places of a text.
-use Rattle.std.proofs.Common.{◌≡◌, ℕ, suc, ◌+◌, ◌<◌, List, ◌∷◌, [], ◌++◌, length, get_or, take, drop, drop-cons, add-one, append-nil, arith, sym, ap, ◌∙◌}
+use Rattle.std.proofs.Common.{◌≡◌, ℕ, suc, true, ◌&&◌, nat_lt, ◌-◌, ◌+◌, ◌<◌, List, ◌∷◌, [], ◌++◌, length, get_or, take, drop, drop-cons, add-one, append-nil, arith, sym, ap, ◌∙◌}
+use Rattle.std.proofs.lemmas.Bool.Decides.{nat_tests}
 use Rattle.std.proofs.lemmas.List.{drop_all, take_more, map-append, length-take}
-use Rattle.sw_scss_parse.specs.Urls.{part_from, part_start}
+use Rattle.std.specs.List.{slice_index}
+use Rattle.sw_grammar.proofs.Sets.{and_both}
+use Rattle.sw_scss_parse.specs.Urls.{part_from, part_start, is_quote, is_quoted}
 use Rattle.sw_scss_parse.specs.Words.{dash, dashed}
-use Rattle.std.proofs.lemmas.Str.{IsCharBoundary-after_ascii, IsCharBoundary-start}
+use Rattle.std.proofs.lemmas.Str.{IsCharBoundary-after_ascii, IsCharBoundary-before_ascii, IsCharBoundary-start}
 use Rattle.std.specs.Str.{IsCharBoundary, IsUtf8}
 
 -- behind a byte of ASCII a character begins
@@ -28,3 +31,28 @@ dashed_step name' name text from at l e is inv =
     let more : take (at + 1) text ≡ take at text ++ 95 ∷ [] = take_more text at 0 l ∙ ap (λ (x : ℕ). take at text ++ x ∷ []) e in
     ap (λ (x : List ℕ). name' ++ x) none ∙ append-nil name' ∙ is ∙ ap (λ (x : List ℕ). x ++ 45 ∷ []) inv
     ∙ sym (ap dashed more ∙ map-append dash (take at text) (95 ∷ []))
+
+quote_is_ascii : (b : ℕ) → is_quote b ≡ true → b < 128
+quote_is_ascii b e = grind (arith, nat_tests)
+
+-- a quoted text is long enough for its quotes, which are ASCII
+pub record Quotes (string : List ℕ) : Type 0 where
+  pub long : 1 < length string
+  pub first : slice_index string 0 < 128
+  pub last : slice_index string (length string - 1) < 128
+
+pub quotes : (string : List ℕ) → is_quoted string ≡ true → Quotes string
+quotes string e =
+    let p = and_both (nat_lt 1 (length string)) (is_quote (slice_index string 0) && is_quote (slice_index string (length string - 1))) e in
+    let q = and_both (is_quote (slice_index string 0)) (is_quote (slice_index string (length string - 1))) p.1 in
+    record {
+      long = grind (arith, nat_tests, p.0);
+      first = quote_is_ascii (slice_index string 0) q.0;
+      last = quote_is_ascii (slice_index string (length string - 1)) q.1;
+    }
+
+pub quoted_from : (string : List ℕ) → IsUtf8 string → is_quoted string ≡ true → IsCharBoundary string 1
+quoted_from string u e = let q = quotes string e in IsCharBoundary-after_ascii string 0 u (omega (arith, q.long)) q.first
+
+pub quoted_to : (string : List ℕ) → is_quoted string ≡ true → IsCharBoundary string (length string - 1)
+quoted_to string e = let q = quotes string e in IsCharBoundary-before_ascii string (length string - 1) (omega (arith, q.long)) q.last

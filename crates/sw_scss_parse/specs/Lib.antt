@@ -1,9 +1,13 @@
 pub mod Roles
 pub mod Words
 pub mod Urls
+pub mod Sorts
+pub mod Terminals
 pub mod Marks
 pub mod Pieces
 pub mod FlatGrammar
 pub mod FlatReader
 pub mod Ends
 pub mod Reading
+pub mod Sheets
+pub mod SheetReader

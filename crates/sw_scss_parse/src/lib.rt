@@ -1,10 +1,17 @@
 //! The reader of sheets: tokens come in, and the tree goes out, or the place where the sheet can't go on.
 #![tactic(auto)]
 
+mod block;
 mod end;
+mod expression;
 mod flat;
 mod mark;
+mod part;
 mod reading;
+mod sort;
+mod source;
+mod terminal;
+mod statement;
 mod tree;
 mod url;
 mod word;
