@@ -1,0 +1,10 @@
+//! Exact decimals of ten places: how a number is read, written, computed, rounded and compared. It stands below units, colours and values, which ask it, and it asks nothing back.
+#![tactic(auto)]
+
+mod fault;
+mod fixed;
+mod wide;
+
+pub use fault::{NumberFault, ReadFault};
+pub use fixed::Fixed;
+pub use wide::Wide;
