@@ -1,6 +1,6 @@
 -- What sums, products, quotients and roundings of ten-place decimals are.
 -- A number is its mantissa: the whole number z stands for z / 10 ^ 10.
-use Rattle.std.specs.Prelude.{ℕ, ◌+◌, ◌*◌, ◌/◌, ◌==◌, ℤ, pos, negsuc, ◌+ℤ◌, ◌-ℤ◌, ◌*ℤ◌, neg_ℤ, unsigned_abs, ◌≤◌, Result, Ok, Err, nat_le, if◌then◌else◌}
+use Rattle.std.specs.Prelude.{ℕ, ◌+◌, suc, ◌*◌, ◌/◌, ◌==◌, Bool, true, false, ℤ, pos, negsuc, ◌+ℤ◌, ◌-ℤ◌, ◌*ℤ◌, neg_ℤ, unsigned_abs, ◌≤◌, Result, Ok, Err, nat_le, if◌then◌else◌}
 use Rattle.sw_fixed.specs.declared.fault.NumberFault.{NumberFault}
 use Rattle.sw_fixed.specs.declared.fault.NumberFault.TheVariants.{NumberRange, DivideByZero}
 
@@ -16,22 +16,30 @@ limit = 10000000000000000000000000000000000000
 abbrev pub IsWithin : ℤ → Type 0
 IsWithin z = unsigned_abs z ≤ limit
 
--- n with the sign of z
-abbrev pub with_sign : ℤ → ℕ → ℤ
-with_sign (pos _) n = pos n
-with_sign (negsuc _) n = neg_ℤ (pos n)
+-- n, or -n where the flag is set
+abbrev pub signed : Bool → ℕ → ℤ
+signed false n = pos n
+signed true n = neg_ℤ (pos n)
 
--- z with its sign turned where d is below zero: z / d has this numerator over the magnitude of d
+-- one of the two is below zero, and the other isn't
+abbrev pub opposed : ℤ → ℤ → Bool
+opposed (pos _) (pos _) = false
+opposed (pos _) (negsuc _) = true
+opposed (negsuc _) (pos _) = true
+opposed (negsuc _) (negsuc _) = false
+
+-- a / b is this numerator over the magnitude of b
 abbrev pub numerator_over : ℤ → ℤ → ℤ
-numerator_over z (pos _) = z
-numerator_over z (negsuc _) = neg_ℤ z
+numerator_over a (pos _) = a
+numerator_over a (negsuc _) = neg_ℤ a
 
--- the whole number nearest to p / q, for q above zero; halves go away from zero
+-- the whole number nearest to p / q, for q above zero; a half goes away from zero
 abbrev pub nearest_natural : ℕ → ℕ → ℕ
 nearest_natural p q = (2 * p + q) / (2 * q)
 
 abbrev pub nearest : ℤ → ℕ → ℤ
-nearest p q = with_sign p (nearest_natural (unsigned_abs p) q)
+nearest (pos p) q = pos (nearest_natural p q)
+nearest (negsuc p) q = neg_ℤ (pos (nearest_natural (suc p) q))
 
 -- the greatest whole number that isn't above p / q, for q above zero
 abbrev pub floor_of : ℤ → ℕ → ℤ

@@ -3,6 +3,7 @@
 
 mod fault;
 mod fixed;
+mod quotient;
 mod wide;
 
 pub use fault::{NumberFault, ReadFault};

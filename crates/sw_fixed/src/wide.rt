@@ -1,5 +1,5 @@
 // Whole numbers of up to 384 bits, for exact products of mantissas and factors.
-ghost use Rattle.std.specs.Prelude.{◌≡◌, ℕ, ◌+◌, ◌*◌, ◌^◌, ◌<◌, ◌≤◌, IsTrue, ◌↔◌};
+ghost use Rattle.std.specs.Prelude.{◌≡◌, ℕ, ◌+◌, ◌*◌, ◌^◌, ◌<◌, ◌≤◌, IsTrue, ◌↔◌, SomeIff};
 
 use std::marker::Model;
 
@@ -16,9 +16,11 @@ impl Model for Wide {
 
     ghost Value = { ℕ };
 
-    ghost use Rattle.sw_fixed.specs.Wide.{number_of};
+    ghost use Rattle.sw_fixed.specs.Wide.{number_of, HasDigits};
 
     ghost view = { number_of };
+
+    ghost invariant = { HasDigits };
 }
 
 impl Wide {
@@ -29,6 +31,27 @@ impl Wide {
             low: number,
             middle: 0,
             high: 0,
+        }
+    }
+
+    pub fn copied(&self) -> Wide
+        ensures { result ≡ self.now }
+    {
+        Wide {
+            low: self.low,
+            middle: self.middle,
+            high: self.high,
+        }
+    }
+
+    /// The number, where it fits 128 bits.
+    pub fn as_u128(&self) -> Option<u128>
+        ensures { SomeIff result (self.now < 2 ^ 128) self.now }
+    {
+        if self.middle == 0 && self.high == 0 {
+            Some(self.low)
+        } else {
+            None
         }
     }
 
