@@ -5,6 +5,7 @@ mod fault;
 mod fixed;
 mod quotient;
 mod wide;
+mod writing;
 
 pub use fault::{NumberFault, ReadFault};
 pub use fixed::Fixed;
