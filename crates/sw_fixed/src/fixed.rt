@@ -1,7 +1,7 @@
 // A number of ten decimal places, and what is computed with it.
 ghost use Rattle.std.specs.Prelude.{◌≡◌, ◌≤◌, ◌<◌, ◌^◌, ℤ, ◌-ℤ◌, ◌*ℤ◌, neg_ℤ, unsigned_abs, pos};
 ghost use Rattle.std.specs.Ordering.{int_cmp};
-ghost use Rattle.sw_fixed.specs.Arithmetic.{IsWithin, held, opposed, signed, nearest_natural, numerator_over, floor_of, sum_of, difference_of, product_of, quotient_of, modulo_of, floor_whole, ceiling_whole, nearest_whole};
+ghost use Rattle.sw_fixed.specs.Arithmetic.{limit, IsWithin, held, opposed, signed, nearest_natural, numerator_over, floor_of, sum_of, difference_of, product_of, quotient_of, modulo_of, floor_whole, ceiling_whole, nearest_whole};
 
 use crate::quotient::{nearest_quotient, LIMIT};
 use crate::{NumberFault, Wide};
@@ -75,6 +75,16 @@ impl Fixed {
         ensures within { IsWithin self }
     {
         self.mantissa
+    }
+
+    /// The number of this sign and magnitude.
+    pub fn of_magnitude(negative: bool, size: u128) -> Fixed
+        requires { size ≤ limit }
+        ensures { result ≡ signed negative size }
+    {
+        Fixed {
+            mantissa: signed(negative, size),
+        }
     }
 
     /// The number of this mantissa, or `NumberRange` where it is beyond the bound.

@@ -4,6 +4,7 @@
 mod fault;
 mod fixed;
 mod quotient;
+mod reading;
 mod wide;
 mod writing;
 
