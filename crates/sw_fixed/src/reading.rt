@@ -1,7 +1,7 @@
 // Reads a number from its text.
 ghost use Rattle.std.specs.Prelude.{◌≡◌, ◌<◌, ◌≤◌, ◌+◌, ◌*◌, ◌++◌, List, ℕ, ◌^◌, length, take, drop, SomeIff};
 ghost use Rattle.sw_fixed.specs.Arithmetic.{limit};
-ghost use Rattle.sw_fixed.specs.Reading.{AreDigits, leading_of, tenfold_bound, mantissa_of, exponent_of, signed_exponent_of, within_reach, farthest, kept_of, number_in, digits_of, after_digits, has_minus, after_sign, decimals_of, after_decimals, more_digits};
+ghost use Rattle.sw_fixed.specs.Reading.{AreDigits, leading_of, tenfold_bound, mantissa_of, exponent_of, signed_exponent_of, within_reach, farthest, kept_of, value_of, body_value, number_in, digits_of, after_digits, has_minus, after_sign, decimals_of, after_decimals, more_digits};
 
 use crate::quotient::LIMIT;
 use crate::{Fixed, ReadFault};
@@ -186,23 +186,40 @@ fn mantissa(whole: &[u8], decimals: &[u8], exponent: Exponent) -> Option<u128>
     if rounded <= LIMIT { Some(rounded) } else { None }
 }
 
+/// The number of its parts.
+fn value(negative: bool, whole: &[u8], decimals: &[u8], exponent: Exponent) -> Result<Fixed, ReadFault>
+    requires whole { AreDigits whole.now }
+    requires decimals { AreDigits decimals.now }
+    requires reach { exponent.places ≤ farthest }
+    ensures { result ≡ value_of negative whole.now decimals.now (Some exponent) }
+{
+    if whole.is_empty() && decimals.is_empty() {
+        return Err(ReadFault::NotNumber);
+    }
+    match mantissa(whole, decimals, exponent) {
+        Some(size) => Ok(Fixed::of_magnitude(negative, size)),
+        None => Err(ReadFault::NumberRange),
+    }
+}
+
+/// The number behind a sign.
+fn read_body(negative: bool, body: &[u8]) -> Result<Fixed, ReadFault>
+    ensures { result ≡ body_value negative body.now }
+{
+    let (whole, rest) = split_digits(body);
+    let (decimals, rest) = split_decimals(rest);
+    match read_exponent(rest) {
+        Some(exponent) => value(negative, whole, decimals, exponent),
+        None => Err(ReadFault::NotNumber),
+    }
+}
+
 impl Fixed {
     /// Reads the digits of a number token with an optional sign before them, as CSS Syntax has them; the value is rounded once to ten places.
     pub fn read(text: &str) -> Result<Fixed, ReadFault>
         ensures { result ≡ number_in text.now }
     {
         let (negative, body) = split_sign(text.as_bytes());
-        let (whole, rest) = split_digits(body);
-        let (decimals, rest) = split_decimals(rest);
-        let Some(exponent) = read_exponent(rest) else {
-            return Err(ReadFault::NotNumber);
-        };
-        if whole.is_empty() && decimals.is_empty() {
-            return Err(ReadFault::NotNumber);
-        }
-        match mantissa(whole, decimals, exponent) {
-            Some(size) => Ok(Fixed::of_magnitude(negative, size)),
-            None => Err(ReadFault::NumberRange),
-        }
+        read_body(negative, body)
     }
 }
