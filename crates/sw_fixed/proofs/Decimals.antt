@@ -38,7 +38,8 @@ digit_before left k some below =
       positive = one;
       digit = div_below left (10 ^ k) 10 one (omega (arith, pow-suc 10 k));
       rest = mod_below left (10 ^ k) one;
-      text = decimals_more left k some }
+      text = decimals_more left k some;
+    }
 
 pub digit_step : (left places : ℕ) → left ≢ 0 → left < 10 ^ places → IsDigitStep left places (places - 1)
 digit_step left zero some below = absurd (omega arith)
@@ -56,7 +57,8 @@ writing_step items left places unit rest some h =
       whole = append_assoc items _ _ ∙ ap (λ xs. items ++ xs) (sym s.text) ∙ h.whole;
       room = simp length-append (omega (arith, s.one_more, h.room));
       value = refl;
-      below = s.rest })
+      below = s.rest;
+    })
 
 pub no_more : (places : ℕ) → decimals places 0 ≡ []
 unfolding decimals

@@ -114,12 +114,13 @@ reading_step start number digits i h small r =
     record {
       same = sym (ap (more_digits number) (drop_next digits i h) ∙ more_digits-cons number (get_or digits i 0) (drop (i + 1) digits)) ∙ r.same;
       small = omega (arith, p.high, small);
-      alone = p.rest }
+      alone = p.rest;
+    }
 
 pub reading_large : (start number : ℕ) (digits : List ℕ) (i : ℕ) → i < length digits → limit < number → IsReading start number digits i → tenfold_bound ≤ more_digits start digits
 reading_large start number digits i h large r =
     let e : more_digits (10 * number + (get_or digits i 0 - 48)) (drop (i + 1) digits) ≡ more_digits start digits =
-      sym (ap (more_digits number) (drop_next digits i h) ∙ more_digits-cons number (get_or digits i 0) (drop (i + 1) digits)) ∙ r.same in
+    sym (ap (more_digits number) (drop_next digits i h) ∙ more_digits-cons number (get_or digits i 0) (drop (i + 1) digits)) ∙ r.same in
     let g = more_digits_grow (10 * number + (get_or digits i 0 - 48)) (drop (i + 1) digits) in
     omega (arith, e, g, large)
 
@@ -139,7 +140,8 @@ padding_step start all number (suc k) some small p =
     let e : suc k - 1 ≡ k = omega arith in
     record {
       same = rw e (omega (arith, p.same, ap (λ w. number * w) (pow-succ' 10 k)));
-      small = omega (arith, small) }
+      small = omega (arith, small);
+    }
 
 pub padding_large : (start all number zeros : ℕ) → 0 < zeros → limit < number → IsPadding start all number zeros → tenfold_bound ≤ start * 10 ^ all
 padding_large start all number zero some large p = absurd (omega arith)

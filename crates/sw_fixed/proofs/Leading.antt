@@ -21,19 +21,19 @@ take_parts : (whole decimals : List ℕ) (kept first second : ℕ) → IsCut who
     take kept (whole ++ decimals) ≡ take first whole ++ take second decimals
 take_parts whole decimals kept first second cut = ⊎_elim
     (λ (short : kept ≤ length whole).
-      let f : first ≡ kept = omega (arith, cut.front) in
-      let s : second ≡ 0 = omega (arith, cut.front, cut.back) in
-      take-append-le kept whole decimals short ∙ sym (append-nil (take kept whole))
-        ∙ ap (λ n. take n whole ++ []) (sym f) ∙ ap (λ n. take first whole ++ take n decimals) (sym s))
+    let f : first ≡ kept = omega (arith, cut.front) in
+    let s : second ≡ 0 = omega (arith, cut.front, cut.back) in
+    take-append-le kept whole decimals short ∙ sym (append-nil (take kept whole))
+    ∙ ap (λ n. take n whole ++ []) (sym f) ∙ ap (λ n. take first whole ++ take n decimals) (sym s))
     (λ (long : length whole ≤ kept).
-      let k : kept ≡ length whole + (kept - length whole) = omega (arith, long) in
-      let f : first ≡ length whole = omega (arith, cut.front) in
-      let s : second ≡ min (kept - length whole) (length decimals) = cut.back ∙ ap (λ n. min (kept - n) (length decimals)) f in
-      ap (λ n. take n (whole ++ decimals)) k ∙ take-append-add whole decimals (kept - length whole)
-        ∙ ap (λ xs. xs ++ take (kept - length whole) decimals) (sym (take-length whole))
-        ∙ ap (λ n. take n whole ++ take (kept - length whole) decimals) (sym f)
-        ∙ ap (λ xs. take first whole ++ xs) (sym (take_min (kept - length whole) decimals))
-        ∙ ap (λ n. take first whole ++ take n decimals) (sym s))
+    let k : kept ≡ length whole + (kept - length whole) = omega (arith, long) in
+    let f : first ≡ length whole = omega (arith, cut.front) in
+    let s : second ≡ min (kept - length whole) (length decimals) = cut.back ∙ ap (λ n. min (kept - n) (length decimals)) f in
+    ap (λ n. take n (whole ++ decimals)) k ∙ take-append-add whole decimals (kept - length whole)
+    ∙ ap (λ xs. xs ++ take (kept - length whole) decimals) (sym (take-length whole))
+    ∙ ap (λ n. take n whole ++ take (kept - length whole) decimals) (sym f)
+    ∙ ap (λ xs. take first whole ++ xs) (sym (take_min (kept - length whole) decimals))
+    ∙ ap (λ n. take first whole ++ take n decimals) (sym s))
     (order kept (length whole))
 
 pub leading_is : (whole decimals : List ℕ) (kept first second n m : ℕ) → IsCut whole decimals kept first second →
@@ -41,9 +41,9 @@ pub leading_is : (whole decimals : List ℕ) (kept first second n m : ℕ) → I
     leading_of (whole ++ decimals) kept ≡ m * 10 ^ (kept - first - second)
 leading_is whole decimals kept first second n m cut en em =
     let all : more_digits 0 (take kept (whole ++ decimals)) ≡ m =
-      ap (more_digits 0) (take_parts whole decimals kept first second cut)
-        ∙ more_digits-append 0 (take first whole) (take second decimals)
-        ∙ ap (λ x. more_digits x (take second decimals)) (sym en) ∙ sym em in
+    ap (more_digits 0) (take_parts whole decimals kept first second cut)
+    ∙ more_digits-append 0 (take first whole) (take second decimals)
+    ∙ ap (λ x. more_digits x (take second decimals)) (sym en) ∙ sym em in
     let zeros : kept - length (whole ++ decimals) ≡ kept - first - second = rw length-append (omega (arith, cut.front, cut.back)) in
     ap (λ x. x * 10 ^ (kept - length (whole ++ decimals))) all ∙ ap (λ k. m * 10 ^ k) zeros
 

@@ -18,20 +18,20 @@ nearest_tenths p q some =
     let top : (2 * p + q) * 5 ≡ 10 * p + q * 5 = omega arith in
     let bottom : 2 * q * 5 ≡ q * 10 = omega arith in
     sym (mul-div-mul_right (2 * p + q) (2 * q) (lit< tt))
-      ∙ ap (λ x. x / (2 * q * 5)) top ∙ ap (λ x. (10 * p + q * 5) / x) bottom
-      ∙ sym (div-div-eq-div-mul (10 * p + q * 5) q 10)
-      ∙ ap (λ x. x / 10) (add-mul-div_left (10 * p) 5 some)
+    ∙ ap (λ x. x / (2 * q * 5)) top ∙ ap (λ x. (10 * p + q * 5) / x) bottom
+    ∙ sym (div-div-eq-div-mul (10 * p + q * 5) q 10)
+    ∙ ap (λ x. x / 10) (add-mul-div_left (10 * p) 5 some)
 
 -- the digits before the last k, where there are so many
 cut_short : (ds : List ℕ) (k : ℕ) → AreDigits ds → k ≤ length ds → more_digits 0 ds / 10 ^ k ≡ more_digits 0 (take (length ds - k) ds)
 cut_short ds k all few =
     let n = length ds - k in
     let whole : more_digits 0 ds ≡ more_digits 0 (take n ds) * 10 ^ length (drop n ds) + more_digits 0 (drop n ds) =
-      ap (more_digits 0) (sym (take-append-drop n ds)) ∙ more_digits-append 0 (take n ds) (drop n ds) ∙ more_digits_split (more_digits 0 (take n ds)) (drop n ds) in
+    ap (more_digits 0) (sym (take-append-drop n ds)) ∙ more_digits-append 0 (take n ds) (drop n ds) ∙ more_digits_split (more_digits 0 (take n ds)) (drop n ds) in
     let len : length (drop n ds) ≡ k = omega (arith, length-drop n ds) in
     let below = more_digits_below (drop n ds) (AreDigits-drop n ds all) in
     ap (λ x. more_digits 0 ds / 10 ^ x) (sym len) ∙ ap (λ x. x / 10 ^ length (drop n ds)) whole
-      ∙ div-mul-add (more_digits 0 (take n ds)) (10 ^ length (drop n ds)) (more_digits 0 (drop n ds)) below
+    ∙ div-mul-add (more_digits 0 (take n ds)) (10 ^ length (drop n ds)) (more_digits 0 (drop n ds)) below
 
 -- a number of few digits has none before the last k
 cut_long : (ds : List ℕ) (k : ℕ) → AreDigits ds → length ds ≤ k → more_digits 0 ds / 10 ^ k ≡ 0
@@ -51,32 +51,32 @@ leading_short ds k few =
 pub shifted : (ds : List ℕ) (a b : ℕ) → AreDigits ds → more_digits 0 ds * 10 ^ a / 10 ^ b ≡ leading_of ds (length ds + a - b)
 shifted ds a b all = ⊎_elim
     (λ (left : b ≤ a).
-      let split : a ≡ a - b + b = omega (arith, left) in
-      let kept : length ds + a - b ≡ length ds + (a - b) = omega (arith, left) in
-      let zeros : length ds + (a - b) - length ds ≡ a - b = omega arith in
-      let whole : length ds ≤ length ds + (a - b) = omega arith in
-      ap (λ x. more_digits 0 ds * 10 ^ x / 10 ^ b) split
-        ∙ ap (λ x. more_digits 0 ds * x / 10 ^ b) (pow-add 10 (a - b) b)
-        ∙ ap (λ x. x / 10 ^ b) (omega arith)
-        ∙ mul-div_cancel (more_digits 0 ds * 10 ^ (a - b)) (power_positive b)
-        ∙ ap (λ x. more_digits 0 ds * 10 ^ x) (sym zeros)
-        ∙ ap (λ xs. more_digits 0 xs * 10 ^ (length ds + (a - b) - length ds)) (sym (take_all (length ds + (a - b)) ds whole))
-        ∙ ap (leading_of ds) (sym kept))
+    let split : a ≡ a - b + b = omega (arith, left) in
+    let kept : length ds + a - b ≡ length ds + (a - b) = omega (arith, left) in
+    let zeros : length ds + (a - b) - length ds ≡ a - b = omega arith in
+    let whole : length ds ≤ length ds + (a - b) = omega arith in
+    ap (λ x. more_digits 0 ds * 10 ^ x / 10 ^ b) split
+    ∙ ap (λ x. more_digits 0 ds * x / 10 ^ b) (pow-add 10 (a - b) b)
+    ∙ ap (λ x. x / 10 ^ b) (omega arith)
+    ∙ mul-div_cancel (more_digits 0 ds * 10 ^ (a - b)) (power_positive b)
+    ∙ ap (λ x. more_digits 0 ds * 10 ^ x) (sym zeros)
+    ∙ ap (λ xs. more_digits 0 xs * 10 ^ (length ds + (a - b) - length ds)) (sym (take_all (length ds + (a - b)) ds whole))
+    ∙ ap (leading_of ds) (sym kept))
     (λ (right : a ≤ b).
-      let split : b ≡ b - a + a = omega (arith, right) in
-      let reduced : more_digits 0 ds * 10 ^ a / 10 ^ b ≡ more_digits 0 ds / 10 ^ (b - a) =
-        ap (λ x. more_digits 0 ds * 10 ^ a / 10 ^ x) split ∙ ap (λ x. more_digits 0 ds * 10 ^ a / x) (pow-add 10 (b - a) a)
-          ∙ mul-div-mul_right (more_digits 0 ds) (10 ^ (b - a)) (power_positive a) in
-      ⊎_elim
-        (λ (few : b - a ≤ length ds).
-          let kept : length ds + a - b ≡ length ds - (b - a) = omega (arith, right, few) in
-          let short : length ds - (b - a) ≤ length ds = omega arith in
-          reduced ∙ cut_short ds (b - a) all few ∙ sym (leading_short ds (length ds - (b - a)) short) ∙ ap (leading_of ds) (sym kept))
-        (λ (many : length ds ≤ b - a).
-          let kept : length ds + a - b ≡ 0 = omega (arith, right, many) in
-          let short : 0 ≤ length ds = omega arith in
-          reduced ∙ cut_long ds (b - a) all many ∙ sym (more_digits-nil 0) ∙ sym (leading_short ds 0 short) ∙ ap (leading_of ds) (sym kept))
-        (order (b - a) (length ds)))
+    let split : b ≡ b - a + a = omega (arith, right) in
+    let reduced : more_digits 0 ds * 10 ^ a / 10 ^ b ≡ more_digits 0 ds / 10 ^ (b - a) =
+    ap (λ x. more_digits 0 ds * 10 ^ a / 10 ^ x) split ∙ ap (λ x. more_digits 0 ds * 10 ^ a / x) (pow-add 10 (b - a) a)
+    ∙ mul-div-mul_right (more_digits 0 ds) (10 ^ (b - a)) (power_positive a) in
+    ⊎_elim
+    (λ (few : b - a ≤ length ds).
+    let kept : length ds + a - b ≡ length ds - (b - a) = omega (arith, right, few) in
+    let short : length ds - (b - a) ≤ length ds = omega arith in
+    reduced ∙ cut_short ds (b - a) all few ∙ sym (leading_short ds (length ds - (b - a)) short) ∙ ap (leading_of ds) (sym kept))
+    (λ (many : length ds ≤ b - a).
+    let kept : length ds + a - b ≡ 0 = omega (arith, right, many) in
+    let short : 0 ≤ length ds = omega arith in
+    reduced ∙ cut_long ds (b - a) all many ∙ sym (more_digits-nil 0) ∙ sym (leading_short ds 0 short) ∙ ap (leading_of ds) (sym kept))
+    (order (b - a) (length ds)))
     (order b a)
 
 mantissa_by : (lowers : Bool) (whole decimals : List ℕ) (places : ℕ) → AreDigits whole → AreDigits decimals →
@@ -86,16 +86,16 @@ mantissa_by true whole decimals places left right =
     let top : 10 * (more_digits 0 ds * scale) ≡ more_digits 0 ds * 10 ^ 11 = omega arith in
     let kept : length ds + 11 - (length decimals + places) ≡ length whole + 11 - places = omega (arith, length-append whole decimals) in
     nearest_tenths (more_digits 0 ds * scale) (10 ^ (length decimals + places)) (power_positive (length decimals + places))
-      ∙ ap (λ x. (x / 10 ^ (length decimals + places) + 5) / 10) top
-      ∙ ap (λ x. (x + 5) / 10) (shifted ds 11 (length decimals + places) (AreDigits-append whole decimals left right) ∙ ap (leading_of ds) kept)
+    ∙ ap (λ x. (x / 10 ^ (length decimals + places) + 5) / 10) top
+    ∙ ap (λ x. (x + 5) / 10) (shifted ds 11 (length decimals + places) (AreDigits-append whole decimals left right) ∙ ap (leading_of ds) kept)
 mantissa_by false whole decimals places left right =
     let ds = whole ++ decimals in
     let top : 10 * (more_digits 0 ds * 10 ^ places * scale) ≡ more_digits 0 ds * 10 ^ (places + 11) =
-      omega (arith, ap (λ x. more_digits 0 ds * x) (pow-add 10 places 11)) in
+    omega (arith, ap (λ x. more_digits 0 ds * x) (pow-add 10 places 11)) in
     let kept : length ds + (places + 11) - length decimals ≡ length whole + 11 + places = omega (arith, length-append whole decimals) in
     nearest_tenths (more_digits 0 ds * 10 ^ places * scale) (10 ^ length decimals) (power_positive (length decimals))
-      ∙ ap (λ x. (x / 10 ^ length decimals + 5) / 10) top
-      ∙ ap (λ x. (x + 5) / 10) (shifted ds (places + 11) (length decimals) (AreDigits-append whole decimals left right) ∙ ap (leading_of ds) kept)
+    ∙ ap (λ x. (x / 10 ^ length decimals + 5) / 10) top
+    ∙ ap (λ x. (x + 5) / 10) (shifted ds (places + 11) (length decimals) (AreDigits-append whole decimals left right) ∙ ap (leading_of ds) kept)
 
 mantissa_is : (whole decimals : List ℕ) (exponent : Exponent) → AreDigits whole → AreDigits decimals →
     mantissa_of whole decimals exponent ≡ (leading_of (whole ++ decimals) (kept_of (length whole) exponent) + 5) / 10

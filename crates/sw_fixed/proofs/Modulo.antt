@@ -24,8 +24,8 @@ rem_sign (negsuc x) n = refl
 pub rest_below : (a : ℤ) (n : ℕ) → a -ℤ negsuc n *ℤ floor_of (neg_ℤ a) (suc n) ≡ neg_ℤ (int_rem_euclid (neg_ℤ a) (negsuc n))
 rest_below a n =
     ap (λ z. a -ℤ z) (neg_mul n (floor_of (neg_ℤ a) (suc n)))
-      ∙ turned a (pos (suc n) *ℤ floor_of (neg_ℤ a) (suc n)) _ (rest_above (neg_ℤ a) (suc n) (omega arith))
-      ∙ ap neg_ℤ (sym (rem_sign (neg_ℤ a) n))
+    ∙ turned a (pos (suc n) *ℤ floor_of (neg_ℤ a) (suc n)) _ (rest_above (neg_ℤ a) (suc n) (omega arith))
+    ∙ ap neg_ℤ (sym (rem_sign (neg_ℤ a) n))
 
 -- the same at a divisor whose sign a test told
 pub rest_over : (a b : ℤ) → 0 < unsigned_abs b → pos 0 ≤ℤ b → a -ℤ b *ℤ floor_of (numerator_over a b) (unsigned_abs b) ≡ int_rem_euclid a b

@@ -11,7 +11,8 @@ pub power_step : (k : ℕ) → k ≢ 0 → k ≤ 127 → DoublesBelow k
 power_step zero some most = absurd (some refl)
 power_step (suc k) some most = record {
   doubles = simp (sub-one, pow-succ');
-  bounded = pow-le-pow_right (lit< tt) most }
+  bounded = pow-le-pow_right (lit< tt) most;
+}
 
 -- no quotient of one bit less by twice the divisor, so none by the divisor
 pub long_step : (k d n t : ℕ) → k ≢ 0 → k ≤ 127 → t ≡ d + d → 2 ^ (k - 1) * t ≤ n → 2 ^ k * d ≤ n

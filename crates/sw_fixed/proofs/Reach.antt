@@ -37,8 +37,8 @@ far_leading : (negative : Bool) (ds : List ℕ) (j k : ℕ) → length ds + 40 �
     held_magnitude negative ((leading_of ds j + 5) / 10) ≡ held_magnitude negative ((leading_of ds k + 5) / 10)
 far_leading negative ds j k many more =
     ap (λ n. held_magnitude negative ((n + 5) / 10)) (leading_long ds j (omega (arith, many)))
-      ∙ far_by negative (more_digits 0 ds) (j - length ds) (k - length ds) (omega (arith, many)) (omega (arith, more))
-      ∙ ap (λ n. held_magnitude negative ((n + 5) / 10)) (sym (leading_long ds k (omega (arith, more))))
+    ∙ far_by negative (more_digits 0 ds) (j - length ds) (k - length ds) (omega (arith, many)) (omega (arith, more))
+    ∙ ap (λ n. held_magnitude negative ((n + 5) / 10)) (sym (leading_long ds k (omega (arith, more))))
 
 -- what the code reads of an exponent
 abbrev reached : Bool → ℕ → Exponent
@@ -54,13 +54,13 @@ reach_by negative whole decimals true places left right short few (inr far) =
     let none : 0 ≡ length whole + 11 - min places farthest = omega (arith, far, short) in
     let nothing : 0 ≡ length whole + 11 - places = omega (arith, far, short) in
     ap (held_magnitude negative) (mantissa_from whole decimals (reached true places) 0 left right none
-      ∙ sym (mantissa_from whole decimals (record { lowers = true; places = places }) 0 left right nothing))
+    ∙ sym (mantissa_from whole decimals (record { lowers = true; places = places }) 0 left right nothing))
 reach_by negative whole decimals false places left right short few (inr far) =
     let many : length (whole ++ decimals) + 40 ≤ length whole + 11 + min places farthest = omega (arith, far, few, length-append whole decimals) in
     let more : length (whole ++ decimals) + 40 ≤ length whole + 11 + places = omega (arith, far, few, length-append whole decimals) in
     ap (held_magnitude negative) (mantissa_from whole decimals (reached false places) _ left right refl)
-      ∙ far_leading negative (whole ++ decimals) _ _ many more
-      ∙ sym (ap (held_magnitude negative) (mantissa_from whole decimals (record { lowers = false; places = places }) _ left right refl))
+    ∙ far_leading negative (whole ++ decimals) _ _ many more
+    ∙ sym (ap (held_magnitude negative) (mantissa_from whole decimals (record { lowers = false; places = places }) _ left right refl))
 
 reach_is : (negative : Bool) (whole decimals : List ℕ) (e : Exponent) → AreDigits whole → AreDigits decimals → length whole < 2 ^ 64 → length decimals < 2 ^ 64 →
     held_magnitude negative (mantissa_of whole decimals (reached e.lowers e.places)) ≡ held_magnitude negative (mantissa_of whole decimals e)
@@ -72,12 +72,12 @@ value_is negative whole decimals None x left right short few e = cc
 value_is negative whole decimals (Some y) x left right short few e =
     let same : x ≡ reached y.lowers y.places = cc in
     ap (λ r. if is_empty whole && is_empty decimals then Err NotNumber else r)
-      (ap (λ z. held_magnitude negative (mantissa_of whole decimals z)) same ∙ reach_is negative whole decimals y left right short few)
+    (ap (λ z. held_magnitude negative (mantissa_of whole decimals z)) same ∙ reach_is negative whole decimals y left right short few)
 
 -- the parts of a body make its value
 pub body_from : (negative : Bool) (body whole decimals rest last : List ℕ) → whole ≡ digits_of body → rest ≡ after_digits body → decimals ≡ decimals_of rest → last ≡ after_decimals rest →
     value_of negative whole decimals (exponent_of last) ≡ body_value negative body
 body_from negative body whole decimals rest last first behind second end =
     ap (λ w. value_of negative w decimals (exponent_of last)) first
-      ∙ ap (λ d. value_of negative (digits_of body) d (exponent_of last)) (second ∙ ap decimals_of behind)
-      ∙ ap (λ r. value_of negative (digits_of body) (decimals_of (after_digits body)) (exponent_of r)) (end ∙ ap after_decimals behind)
+    ∙ ap (λ d. value_of negative (digits_of body) d (exponent_of last)) (second ∙ ap decimals_of behind)
+    ∙ ap (λ r. value_of negative (digits_of body) (decimals_of (after_digits body)) (exponent_of r)) (end ∙ ap after_decimals behind)

@@ -37,8 +37,9 @@ scan_step text i h low high s =
     let m = digits_more (get_or text i 0) (drop (i + 1) text) is in
     record {
       digits = ap (λ xs. xs ++ digits_of (drop (i + 1) text)) (take_next text i h) ∙ append_assoc (take i text) _ _
-        ∙ ap (λ xs. take i text ++ xs) (sym (ap digits_of (drop_next text i h) ∙ m.0)) ∙ s.digits;
-      rest = sym (ap after_digits (drop_next text i h) ∙ m.1) ∙ s.rest }
+          ∙ ap (λ xs. take i text ++ xs) (sym (ap digits_of (drop_next text i h) ∙ m.0)) ∙ s.digits;
+      rest = sym (ap after_digits (drop_next text i h) ∙ m.1) ∙ s.rest;
+    }
 
 pub scan_stop : (text : List ℕ) (i : ℕ) → i < length text → (get_or text i 0 < 48) ⊎ (57 < get_or text i 0) → IsScanned text i →
     (take i text ≡ digits_of text) × (drop i text ≡ after_digits text)

@@ -37,8 +37,8 @@ fraction_signed s n q some = ap held (ap (λ z. nearest z q) (signed_times s n s
 pub product_is : (a b : ℤ) → held (signed (opposed a b) (nearest_natural (unsigned_abs a * unsigned_abs b) scale)) ≡ product_of a b
 product_is a b =
     sym (ap (λ z. fraction z (scale * scale)) (product_signed a b)
-      ∙ fraction_signed (opposed a b) (unsigned_abs a * unsigned_abs b) (scale * scale) (lit< tt)
-      ∙ ap (λ n. held (signed (opposed a b) n)) (nearest-mul (unsigned_abs a * unsigned_abs b) scale scale (lit< tt)))
+    ∙ fraction_signed (opposed a b) (unsigned_abs a * unsigned_abs b) (scale * scale) (lit< tt)
+    ∙ ap (λ n. held (signed (opposed a b) n)) (nearest-mul (unsigned_abs a * unsigned_abs b) scale scale (lit< tt)))
 
 pub quotient_is : (a b : ℤ) → 0 < unsigned_abs b → held (signed (opposed a b) (nearest_natural (unsigned_abs a * scale) (unsigned_abs b))) ≡ fraction (numerator_over a b) (unsigned_abs b)
 quotient_is a b some =

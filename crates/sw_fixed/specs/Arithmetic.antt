@@ -1,6 +1,6 @@
 -- What sums, products, quotients and roundings of ten-place decimals are.
 -- A number is its mantissa: the whole number z stands for z / 10 ^ 10.
-use Rattle.std.specs.Prelude.{ℕ, ◌+◌, suc, ◌*◌, ◌/◌, ◌==◌, Bool, true, false, ℤ, pos, negsuc, ◌+ℤ◌, ◌-ℤ◌, ◌*ℤ◌, neg_ℤ, unsigned_abs, ◌≤◌, Result, Ok, Err, nat_le, if◌then◌else◌}
+use Rattle.std.specs.Prelude.{ℕ, ◌+◌, suc, ◌*◌, ◌/◌, ◌%◌, ◌==◌, Bool, true, false, ℤ, pos, negsuc, ◌+ℤ◌, ◌-ℤ◌, ◌*ℤ◌, neg_ℤ, unsigned_abs, ◌≤◌, Result, Ok, Err, Option, Some, None, nat_le, if◌then◌else◌}
 use Rattle.sw_fixed.specs.declared.fault.NumberFault.{NumberFault}
 use Rattle.sw_fixed.specs.declared.fault.NumberFault.TheVariants.{NumberRange, DivideByZero}
 
@@ -82,3 +82,8 @@ ceiling_whole z = neg_ℤ (floor_whole (neg_ℤ z))
 
 abbrev pub nearest_whole : ℤ → ℤ
 nearest_whole z = nearest z scale *ℤ pos scale
+
+-- a whole number as its count of ones
+abbrev pub whole_of : ℤ → Option ℤ
+whole_of (pos n) = if n % scale == 0 then Some (pos (n / scale)) else None
+whole_of (negsuc n) = if suc n % scale == 0 then Some (neg_ℤ (pos (suc n / scale))) else None

@@ -1,9 +1,9 @@
 // A number of ten decimal places, and what is computed with it.
 ghost use Rattle.std.specs.Prelude.{◌≡◌, ◌≤◌, ◌<◌, ◌^◌, ℤ, ◌-ℤ◌, ◌*ℤ◌, neg_ℤ, unsigned_abs, pos};
 ghost use Rattle.std.specs.Ordering.{int_cmp};
-ghost use Rattle.sw_fixed.specs.Arithmetic.{limit, IsWithin, held, opposed, signed, nearest_natural, numerator_over, floor_of, sum_of, difference_of, product_of, quotient_of, modulo_of, floor_whole, ceiling_whole, nearest_whole};
+ghost use Rattle.sw_fixed.specs.Arithmetic.{scale, limit, IsWithin, held, opposed, signed, nearest_natural, numerator_over, floor_of, sum_of, difference_of, product_of, quotient_of, modulo_of, floor_whole, ceiling_whole, nearest_whole, whole_of};
 
-use crate::quotient::{nearest_quotient, LIMIT};
+use crate::quotient::{LIMIT, nearest_quotient};
 use crate::{NumberFault, Wide};
 use std::cmp::Ordering;
 use std::marker::Model;
@@ -98,6 +98,26 @@ impl Fixed {
         }
     }
 
+    /// A whole number.
+    pub fn from_whole(count: i64) -> Fixed
+        ensures { result ≡ count *ℤ pos scale }
+    {
+        Fixed {
+            mantissa: count as i128 * SCALE as i128,
+        }
+    }
+
+    /// The number where it is whole.
+    pub fn whole(self) -> Option<i128>
+        ensures { result ≡ whole_of self }
+    {
+        let size = self.mantissa.unsigned_abs();
+        if size % SCALE != 0 {
+            return None;
+        }
+        Some(signed(self.mantissa < 0, size / SCALE))
+    }
+
     /// The exact sum.
     pub fn add(self, other: Fixed) -> Result<Fixed, NumberFault>
         ensures { result ≡ sum_of self other }
@@ -144,7 +164,11 @@ impl Fixed {
         }
         let number = Wide::product(self.mantissa.unsigned_abs(), SCALE);
         let negative = opposed(self.mantissa, other.mantissa);
-        Fixed::ratio(negative, &number, &Wide::from_u128(other.mantissa.unsigned_abs()))
+        Fixed::ratio(
+            negative,
+            &number,
+            &Wide::from_u128(other.mantissa.unsigned_abs()),
+        )
     }
 
     /// What is left of the number after the greatest whole multiple of the other that isn't beyond it; it has the other's sign.

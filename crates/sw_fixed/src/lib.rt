@@ -5,6 +5,8 @@ mod fault;
 mod fixed;
 mod quotient;
 mod reading;
+#[cfg(test)]
+mod tests;
 mod wide;
 mod writing;
 

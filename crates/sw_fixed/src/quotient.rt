@@ -82,5 +82,9 @@ pub fn nearest_quotient(number: &Wide, divisor: &Wide) -> Option<u128>
     }
     let up = !rest.is_below(&divisor.minus(&rest));
     let rounded = quotient + up as u128;
-    if rounded <= LIMIT { Some(rounded) } else { None }
+    if rounded <= LIMIT {
+        Some(rounded)
+    } else {
+        None
+    }
 }

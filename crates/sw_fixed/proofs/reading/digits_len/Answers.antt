@@ -6,13 +6,13 @@ use Rattle.sw_fixed.proofs.reading.digits_len.Goals.{then-byte-lt48-via-then-byt
 pub returns-then-byte-lt48-clause-digits : goal.returns-then-byte-lt48-clause-digits
 returns-then-byte-lt48-clause-digits c =
     let other : (get_or c.args.text.now c.loop-index.index 0 < 48) ⊎ (57 < get_or c.args.text.now c.loop-index.index 0) =
-      elim c.then-byte-lt48.branch [ then-byte-lt48-via-then-byte-lt48 w ↦ inl (omega arith) | then-byte-lt48-via-else-byte-lt48+then-byte-gt57 w ↦ inr (omega arith) ] in
+    elim c.then-byte-lt48.branch [ then-byte-lt48-via-then-byte-lt48 w ↦ inl (omega arith) | then-byte-lt48-via-else-byte-lt48+then-byte-gt57 w ↦ inr (omega arith) ] in
     (scan_stop _ _ (omega arith) other c.loop-index.invariant).0
 
 pub returns-then-byte-lt48-clause-rest : goal.returns-then-byte-lt48-clause-rest
 returns-then-byte-lt48-clause-rest c =
     let other : (get_or c.args.text.now c.loop-index.index 0 < 48) ⊎ (57 < get_or c.args.text.now c.loop-index.index 0) =
-      elim c.then-byte-lt48.branch [ then-byte-lt48-via-then-byte-lt48 w ↦ inl (omega arith) | then-byte-lt48-via-else-byte-lt48+then-byte-gt57 w ↦ inr (omega arith) ] in
+    elim c.then-byte-lt48.branch [ then-byte-lt48-via-then-byte-lt48 w ↦ inl (omega arith) | then-byte-lt48-via-else-byte-lt48+then-byte-gt57 w ↦ inr (omega arith) ] in
     (scan_stop _ _ (omega arith) other c.loop-index.invariant).1
 
 pub loop-index-preserved : goal.loop-index-preserved
