@@ -1,8 +1,7 @@
 -- Products and quotients of signed numbers, by their magnitudes and signs.
-use Rattle.std.proofs.Common.{◌≡◌, ◌≢◌, ℕ, zero, suc, ◌+◌, ◌*◌, ◌/◌, ◌<◌, Bool, true, false, ℤ, pos, negsuc, neg_ℤ, ◌*ℤ◌, unsigned_abs, Result, arith, refl, ap, sym, ◌∙◌, lit<, zero-mul}
+use Rattle.std.proofs.Common.{◌≡◌, ℕ, zero, suc, ◌+◌, ◌*◌, ◌/◌, ◌<◌, Bool, true, false, ℤ, pos, negsuc, ◌*ℤ◌, unsigned_abs, arith, refl, ap, sym, ◌∙◌, lit<, zero-mul}
 use Rattle.std.proofs.lemmas.Nat.{div-mul-add}
-use Rattle.sw_fixed.specs.declared.fault.NumberFault.{NumberFault}
-use Rattle.sw_fixed.specs.Arithmetic.{scale, signed, opposed, numerator_over, nearest_natural, nearest, held, product_of, quotient_of, fraction}
+use Rattle.sw_fixed.specs.Arithmetic.{scale, signed, opposed, numerator_over, nearest_natural, nearest, held, product_of, fraction}
 use Rattle.sw_fixed.proofs.Rounding.{nearest-mul}
 
 pub product_signed : (a b : ℤ) → a *ℤ b ≡ signed (opposed a b) (unsigned_abs a * unsigned_abs b)
