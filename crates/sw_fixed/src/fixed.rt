@@ -1,7 +1,7 @@
 // A number of ten decimal places, and what is computed with it.
 ghost use Rattle.std.specs.Prelude.{◌≡◌, ◌≤◌, ◌<◌, ◌^◌, ℤ, ◌-ℤ◌, ◌*ℤ◌, neg_ℤ, unsigned_abs, pos};
 ghost use Rattle.std.specs.Ordering.{int_cmp};
-ghost use Rattle.sw_fixed.specs.Arithmetic.{scale, limit, IsWithin, held, opposed, signed, nearest_natural, numerator_over, floor_of, sum_of, difference_of, product_of, quotient_of, modulo_of, floor_whole, ceiling_whole, nearest_whole, whole_of};
+ghost use Rattle.sw_fixed.specs.Arithmetic.{scale, limit, IsWithin, held, is_below_zero, opposed, signed, nearest_natural, numerator_over, floor_of, sum_of, difference_of, product_of, quotient_of, modulo_of, floor_whole, ceiling_whole, nearest_whole, whole_of};
 
 use crate::quotient::{LIMIT, nearest_quotient};
 use crate::{NumberFault, Wide};
@@ -11,8 +11,14 @@ use std::marker::Model;
 /// How many parts of the last place make one.
 pub const SCALE: u128 = 10_000_000_000;
 
-/// One has no part below zero, and the other has.
-fn opposed(left: i128, right: i128) -> bool
+pub fn is_below_zero(number: i128) -> bool
+    ensures { result ≡ is_below_zero number }
+{
+    number < 0
+}
+
+/// One of the two is below zero, and the other isn't.
+pub fn opposed(left: i128, right: i128) -> bool
     ensures { result ≡ opposed left right }
 {
     (left < 0) != (right < 0)

@@ -5,6 +5,7 @@ mod fault;
 mod fixed;
 mod quotient;
 mod reading;
+mod scaled;
 #[cfg(test)]
 mod tests;
 mod wide;
