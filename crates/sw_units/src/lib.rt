@@ -3,6 +3,8 @@
 
 mod cancelling;
 mod measure;
+mod number;
 mod units;
 
+pub use number::{Number, Slash, compare, convert, equal};
 pub use units::{UnitNames, Units, compatible};
