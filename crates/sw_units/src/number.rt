@@ -1,13 +1,11 @@
 // Numbers with units, and what is computed with them.
-ghost use Rattle.std.specs.Prelude.{◌≡◌, ℕ, ◌<◌, ◌^◌, ◌*◌, None, IfOk};
-ghost use Rattle.sw_units.specs.Units.{IsAnswer};
-ghost use Rattle.sw_units.specs.Numbers.{converted, order_in_units, comparison, are_equal, sum, difference, modulo, product, quotient};
+ghost use Rattle.std.specs.Prelude.{◌≡◌};
+ghost use Rattle.sw_units.specs.Numbers.{converted, order_in_units, comparison, are_equal};
 
-use crate::cancelling::{Cancelled, cancel, joined};
 use crate::Units;
 use std::cmp::Ordering;
 use sw_fixed::{Fixed, NumberFault};
-use sw_text::{Memory, Shared};
+use sw_text::Shared;
 
 /// A number with its units.
 #[cycle(number)]
