@@ -5,6 +5,8 @@ mod arithmetic;
 mod cancelling;
 mod measure;
 mod number;
+#[cfg(test)]
+mod tests;
 mod units;
 
 pub use arithmetic::{add, div, modulo, mul, sub};

@@ -62,7 +62,8 @@ impl UnitNames {
             (UnitNames::Empty, UnitNames::Empty) => true,
             (UnitNames::One(first), UnitNames::One(second)) => fits(first, second),
             (UnitNames::Two(first, second), UnitNames::Two(third, fourth)) => {
-                fits(first, third) && fits(second, fourth) || fits(first, fourth) && fits(second, third)
+                fits(first, third) && fits(second, fourth)
+                    || fits(first, fourth) && fits(second, third)
             }
             _ => false,
         }
