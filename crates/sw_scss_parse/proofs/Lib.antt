@@ -10,3 +10,4 @@ pub mod Returned
 pub mod Decided
 pub mod Terminals
 pub mod StatementsOf
+pub mod SheetWhole

@@ -11,3 +11,4 @@ pub mod Ends
 pub mod Reading
 pub mod Sheets
 pub mod SheetReader
+pub mod SheetReading

@@ -1,5 +1,5 @@
 -- What a token is by its kind and its text, to the grammar of sheets.
-use Rattle.std.specs.Prelude.{ℕ, Bool, true, false, List, bytes_eq, codes, if◌then◌else◌}
+use Rattle.std.specs.Prelude.{ℕ, Bool, List, bytes_eq, codes, if◌then◌else◌}
 use Rattle.sw_tokens.specs.declared.token.TokenKind.{TokenKind}
 use Rattle.sw_tokens.specs.declared.token.TokenKind.TheVariants as kinds
 use Rattle.sw_scss_parse.specs.declared.sort.Sort.{Sort}

@@ -8,6 +8,7 @@ mod flat;
 mod mark;
 mod part;
 mod reading;
+mod sheet;
 mod sort;
 mod source;
 mod terminal;
@@ -17,6 +18,7 @@ mod url;
 mod word;
 
 pub use end::ReadEnd;
+pub use sheet::{read_sheet, sheets_are_of_the_grammar};
 pub use reading::read;
 pub use tree::{Declaration, Piece, Rule, Sheet};
 
