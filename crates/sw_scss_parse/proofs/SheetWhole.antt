@@ -125,9 +125,10 @@ module _ (sheet : Text) (lexemes : List Lexeme) where
   got_states : (xs : List Statement) (j : ℕ) → reader sheet lexemes 128 (forms sheet lexemes Whole) 0 ≡ Got (map States xs) j → ReadsLexemes sheet lexemes (Ok (record { statements = xs }))
   got_states xs j e =
       let r = sheet_reads (Got (map States xs) j) e in
-      let end = sheet_end 128 j (map States xs) r.0 in
-      ((129, subst (λ (z : ℕ). Derives (forms sheet lexemes) (text_of lexemes) 129 Whole 0 z (map States xs)) end r.0),
-       (λ others d. States_inj others xs (r.2 (map States others) (subst (λ (z : ℕ). DerivesAny (forms sheet lexemes) (text_of lexemes) Whole 0 z (map States others)) (sym end) d))))
+      let end = sheet_end 128 j (map States xs) r.0 in (
+        (129, subst (λ (z : ℕ). Derives (forms sheet lexemes) (text_of lexemes) 129 Whole 0 z (map States xs)) end r.0),
+        (λ others d. States_inj others xs (r.2 (map States others) (subst (λ (z : ℕ). DerivesAny (forms sheet lexemes) (text_of lexemes) Whole 0 z (map States others)) (sym end) d))),
+      )
 
   -- the answer of the reader of a whole sheet, as the grammar says it
   lexemes_are_read : (a : Answer Part) → reader sheet lexemes 128 (forms sheet lexemes Whole) 0 ≡ a → ReadsLexemes sheet lexemes (answered sheet lexemes a)

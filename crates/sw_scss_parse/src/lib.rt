@@ -11,16 +11,18 @@ mod reading;
 mod sheet;
 mod sort;
 mod source;
-mod terminal;
 mod statement;
+mod terminal;
 mod tree;
 mod url;
 mod word;
 
 pub use end::ReadEnd;
-pub use sheet::{read_sheet, sheets_are_of_the_grammar};
 pub use reading::read;
+pub use sheet::{read_sheet, sheets_are_of_the_grammar};
 pub use tree::{Declaration, Piece, Rule, Sheet};
 
+#[cfg(test)]
+mod sheet_tests;
 #[cfg(test)]
 mod tests;

@@ -32,8 +32,7 @@ pub fn read_sheet(alloc: Global, text: &Shared<SheetText>) -> Result<Shared<Shee
 /// only one; a fault stands where no sheet can go on.
 pub fn sheets_are_of_the_grammar()
     ensures { (sheet : Text) → IsReading sheet (sheet_of sheet) }
-{
-}
+{}
 
 fn read_tokens(alloc: Global, tokens: &Tokens) -> Result<Shared<Sheet>, ReadEnd>
     ensures { Returns result (lexemes_read tokens.now.sheet (lexemes_of tokens.now.sheet.bytes tokens.now.list)) }

@@ -75,11 +75,7 @@ fn hex_sort(digits: &str) -> Sort
 fn at_sort(name: &str) -> Sort
     ensures { result ≡ at_sort name.now }
 {
-    if is_use(name) {
-        Sort::Use
-    } else {
-        Sort::Other
-    }
+    if is_use(name) { Sort::Use } else { Sort::Other }
 }
 
 fn url_sort(url: &str) -> Sort

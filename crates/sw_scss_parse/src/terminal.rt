@@ -175,7 +175,11 @@ fn is_selected(context: Context) -> bool
 fn dotted_word(owned: bool) -> Terminal
     ensures { result ≡ dotted_word owned }
 {
-    if owned { Terminal::Owner } else { Terminal::Prefix }
+    if owned {
+        Terminal::Owner
+    } else {
+        Terminal::Prefix
+    }
 }
 
 fn dotted_name(owned: bool) -> Terminal
