@@ -1,5 +1,5 @@
 -- What a load comes to: the refusals in their order, an answer at once, or a module whose body has to run (the Sass specification's modules; the limit of open loads is this project's own).
-use Rattle.std.specs.Prelude.{ℕ, ◌&&◌, not, nat_le, List, [], ◌∷◌, length, map, find, bytes_eq, Option, None, Some, Result, Ok, Err, is_some, if◌then◌else◌, Bool, true, false}
+use Rattle.std.specs.Prelude.{◌≡◌, ◌<◌, ◌≤◌, ℕ, ◌&&◌, not, nat_le, List, [], ◌∷◌, length, map, find, bytes_eq, Option, None, Some, Result, Ok, Err, is_some, if◌then◌else◌, Bool, true, false}
 use Rattle.std.specs.List.{list_any}
 use Rattle.std.specs.Map.{lookup}
 use Rattle.std.specs.FinMap.{get}
@@ -7,7 +7,7 @@ use Rattle.indexmap.specs.IndexMap.{insert_all}
 use Rattle.sw_text.specs.declared.place.Span.{Span}
 use Rattle.sw_text.specs.declared.fault.FaultCode.{FaultCode}
 use Rattle.sw_text.specs.declared.fault.FaultCode.TheVariants.{NotFound, Ambiguous, Loop, AlreadyLoaded, NotConfigurable, MemberConflict, Depth}
-use Rattle.sw_folder.specs.Files.{Files}
+use Rattle.sw_folder.specs.Files.{Files, most_bytes}
 use Rattle.sw_folder.specs.Paths.{is_path}
 use Rattle.sw_folder.specs.Resolution.{resolved, has_extension}
 use Rattle.sw_folder.specs.declared.resolve.ResolveFault.{ResolveFault}
@@ -106,3 +106,18 @@ entry_fault entry = Refused_entry (record { code = NotFound; span = record { fil
 abbrev pub entered : List ℕ → Option (List ℕ) → State → Enter × State
 entered entry None s = (entry_fault entry, s)
 entered entry (Some text) s = (Open_entry entry text, open_at entry s)
+
+-- what a load answers
+abbrev pub AnswersLoad : Answer → Type 0
+AnswersLoad (Loaded path taken) = Unit {0}
+AnswersLoad (Refused fault) = Unit {0}
+AnswersLoad _ = ⊥
+
+-- an answer leaves as many loads open as there were; a module opens one more, within the limit, and its text is a file's
+abbrev pub IsBegun : Begin → State → State → Type 0
+IsBegun (Answered answer) s t = AnswersLoad answer × (length t.opened ≡ length s.opened)
+IsBegun (Open path text config) s t = (length s.opened < 64) × (t ≡ open_at path s) × (length text ≤ most_bytes)
+
+abbrev pub IsEntered : Enter → State → State → Type 0
+IsEntered (Refused_entry fault) s t = t ≡ s
+IsEntered (Open_entry path text) s t = (t ≡ open_at path s) × (length text ≤ most_bytes)

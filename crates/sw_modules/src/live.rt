@@ -1,9 +1,10 @@
 // The live state of a compile.
-ghost use Rattle.std.specs.Prelude.{◌≡◌, ◌<◌, ◌+◌, ◌++◌, ◌∷◌, [], ℕ, length, bytes_eq, IfOk, OnOk, OnErr, None, Some, if◌then◌else◌};
+ghost use Rattle.std.specs.Prelude.{◌≡◌, ◌<◌, ◌+◌, ◌++◌, ◌∷◌, [], ℕ, length, bytes_eq, ◌≤◌, IfOk, IfSome, OnOk, OnErr, None, Some, if◌then◌else◌};
 ghost use Rattle.std.specs.Map.{lookup};
 ghost use Rattle.std.specs.Option.{option_copied};
 ghost use Rattle.sw_world.specs.Questions.{IsLoad, Fits};
 ghost use Rattle.std.specs.FinMap.{get};
+ghost use Rattle.sw_folder.specs.Files.{most_bytes};
 ghost use Rattle.sw_world.specs.declared.op.How.{How};
 ghost use Rattle.sw_modules.specs.Loads.{entry_fault, is_explicit, refused, first_untaken};
 
@@ -76,7 +77,7 @@ impl<'a> Model for Live<'a> {
 
 impl<'a> Live<'a> {
     ghost use Rattle.sw_modules.specs.State.{nothing_loaded, closed, loaded_now, path_in, with_variable};
-    ghost use Rattle.sw_modules.specs.Loads.{begun, begin_path, begin_module, used_as, used_unless, ended_by, left_by, entry_text, entered};
+    ghost use Rattle.sw_modules.specs.Loads.{begun, begin_path, begin_module, used_as, used_unless, ended_by, left_by, entry_text, entered, AnswersLoad, IsBegun, IsEntered};
 
     /// Nothing is loaded or open. Takes no memory.
     pub fn new(alloc: Global, folder: &'a Folder, paths: &'a [Name]) -> Live<'a>
@@ -112,6 +113,7 @@ impl<'a> Live<'a> {
 
     /// Opens the entry, or refuses it at its begin where it is no sheet of the folder. After `Memory` the state is as before.
     pub fn enter(&mut self, entry: &Name) -> Result<Enter, Memory>
+        ensures opens { IfOk result (λ enter. IsEntered enter self.old self.new) }
         ensures ok { IfOk result (λ enter. entered entry.now (entry_text self.old.folder entry.now) self.old ≡ (enter, self.new)) }
         ensures err { OnErr result (self.new ≡ self.old) }
     {
@@ -131,7 +133,8 @@ impl<'a> Live<'a> {
     }
 
     fn entry_text(&self, entry: &Name) -> Option<&Name>
-        ensures { option_copied result ≡ entry_text self.now.folder entry.now }
+        ensures value { option_copied result ≡ entry_text self.now.folder entry.now }
+        ensures short { IfSome result (λ text. length text.now ≤ most_bytes) }
     {
         if is_path(entry.as_str()) && has_extension(entry.as_str()) {
             self.folder.text(entry.as_str())
@@ -144,6 +147,7 @@ impl<'a> Live<'a> {
     pub fn begin(&mut self, op: &Op) -> Result<Begin, Memory>
         requires { IsLoad op.now }
         ensures ok { IfOk result (λ begin. begun op.now self.old ≡ (begin, self.new)) }
+        ensures opens { IfOk result (λ begin. IsBegun begin self.old self.new) }
         ensures err { OnErr result (self.new ≡ self.old) }
     {
         let Op::Load {
@@ -174,6 +178,7 @@ impl<'a> Live<'a> {
         config: &[Given],
     ) -> Result<Begin, Memory>
         ensures ok { IfOk result (λ begin. begin_path path span.now how.now config.now self.old ≡ (begin, self.new)) }
+        ensures opens { IfOk result (λ begin. IsBegun begin self.old self.new) }
         ensures err { OnErr result (self.new ≡ self.old) }
     {
         if is_open(&self.opened, &path) {
@@ -196,6 +201,8 @@ impl<'a> Live<'a> {
         config: &[Given],
     ) -> Result<Answer, Memory>
         ensures ok { IfOk result (λ answer. (if is_explicit config.now then (refused FaultCode.AlreadyLoaded span.now, self.old) else used_as how.now path [] span.now self.old) ≡ (answer, self.new)) }
+        ensures kind { IfOk result AnswersLoad }
+        ensures same_depth { length self.new.opened ≡ length self.old.opened }
         ensures err { OnErr result (self.new ≡ self.old) }
     {
         if is_explicit(config) {
@@ -206,6 +213,8 @@ impl<'a> Live<'a> {
     }
 
     fn begin_new(&mut self, path: Name, span: &Span, config: &[Given]) -> Result<Begin, Memory>
+        requires { length self.old.opened < 64 }
+        ensures opens { IfOk result (λ begin. IsBegun begin self.old self.new) }
         ensures ok { IfOk result (λ begin. (how : How) → begin_module None (get self.old.folder path) path span.now how config.now self.old ≡ (begin, self.new)) }
         ensures err { OnErr result (self.new ≡ self.old) }
     {
@@ -232,6 +241,8 @@ impl<'a> Live<'a> {
         span: &Span,
     ) -> Result<Answer, Memory>
         ensures ok { IfOk result (λ answer. used_as how.now path taken span.now self.old ≡ (answer, self.new)) }
+        ensures kind { IfOk result AnswersLoad }
+        ensures same_depth { length self.new.opened ≡ length self.old.opened }
         ensures err { OnErr result (self.new ≡ self.old) }
     {
         match how {
@@ -249,6 +260,8 @@ impl<'a> Live<'a> {
         span: &Span,
     ) -> Result<Answer, Memory>
         ensures ok { IfOk result (λ answer. used_as (How.Use (Some space.now)) path taken span.now self.old ≡ (answer, self.new)) }
+        ensures kind { IfOk result AnswersLoad }
+        ensures same_depth { length self.new.opened ≡ length self.old.opened }
         ensures err { OnErr result (self.new ≡ self.old) }
     {
         if has_use(&self.opened, space) {
@@ -266,7 +279,9 @@ impl<'a> Live<'a> {
     pub fn end(&mut self, op: &Op, end: &End) -> Result<Answer, Memory>
         requires is_load { IsLoad op.now }
         requires is_open { 0 < length self.old.opened }
-        ensures { IfOk result (λ answer. ended_by op.now (path_in self.old.opened) end.now self.old ≡ (answer, self.new)) }
+        ensures ok { IfOk result (λ answer. ended_by op.now (path_in self.old.opened) end.now self.old ≡ (answer, self.new)) }
+        ensures kind { IfOk result AnswersLoad }
+        ensures closes { OnOk result (length self.new.opened + 1 ≡ length self.old.opened) }
     {
         let Op::Load {
             span,
@@ -304,7 +319,9 @@ impl<'a> Live<'a> {
         taken: &List<Name>,
         span: &Span,
     ) -> Result<Answer, Memory>
-        ensures { IfOk result (λ answer. used_unless (first_untaken config.now taken.now) how.now path taken.now span.now self.old ≡ (answer, self.new)) }
+        ensures ok { IfOk result (λ answer. used_unless (first_untaken config.now taken.now) how.now path taken.now span.now self.old ≡ (answer, self.new)) }
+        ensures kind { IfOk result AnswersLoad }
+        ensures same_depth { length self.new.opened ≡ length self.old.opened }
     {
         match first_untaken(config, taken.as_slice()) {
             Some(given) => refused(FaultCode::NotConfigurable, &given.span),
@@ -371,7 +388,9 @@ impl<'a> Live<'a> {
     }
 
     fn close(&mut self)
-        ensures { self.new ≡ closed self.old }
+        requires { 0 < length self.old.opened }
+        ensures after { self.new ≡ closed self.old }
+        ensures closes { length self.new.opened + 1 ≡ length self.old.opened }
     {
         self.opened.pop();
     }
@@ -381,6 +400,7 @@ impl<'a> Live<'a> {
         requires { 0 < length self.old.opened }
         ensures path { IfOk result (λ path. path ≡ path_in self.old.opened) }
         ensures state { OnOk result (self.new ≡ loaded_now finish.now self.old) }
+        ensures closes { OnOk result (length self.new.opened + 1 ≡ length self.old.opened) }
     {
         let variables = variables_of(self.alloc, finish.get().variables.as_slice())?;
         self.outputs.push(finish.get().css.share()?)?;

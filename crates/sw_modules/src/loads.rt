@@ -61,6 +61,7 @@ pub(crate) fn has_use(opened: &[Opened], space: &Name) -> bool
 pub(crate) fn add_use(opened: &mut Vec<Opened>, space: Name, path: Name) -> Result<(), Memory>
     ensures ok { OnOk result (opened.new.items ≡ with_use space path opened.old.items) }
     ensures err { OnErr result (opened.new.items ≡ opened.old.items) }
+    ensures same_count { length opened.new.items ≡ length opened.old.items }
 {
     let count = opened.len();
     if count > 0 {

@@ -1,0 +1,5 @@
+pub mod Pairs
+pub mod Rest
+pub mod Parts
+pub mod Turns
+pub mod Loads

@@ -1,0 +1,44 @@
+-- Pairs that a body goes through.
+use Rattle.std.proofs.Common.{◌≡◌, ℕ, suc, ◌-◌, ◌<◌, ◌≤◌, List, [], ◌∷◌, ◌++◌, length, take, drop, refl, sym, ◌∙◌, ap, subst, append_assoc, append-nil, arith}
+use Rattle.std.proofs.lemmas.List.{take-append-drop, length-take, length-drop}
+use Rattle.sw_world.specs.declared.op.Op.{Op}
+use Rattle.sw_world.specs.declared.answer.Answer.{Answer}
+use Rattle.sw_world.specs.declared.end.End.{End}
+use Rattle.sw_world.specs.Body.{Pair, Job, Next, Asks, Ends, BodyOf, answers, Goes}
+use Rattle.sw_world.specs.Questions.{Fits}
+use Rattle.sw_world.specs.Laws.{EndsInTime, most_asked}
+
+pub length-answers : (ps : List Pair) → length (answers ps) ≡ length ps
+length-answers [] = refl
+length-answers (p ∷ ps) = ap suc (length-answers ps)
+
+pub goes_first : (next : List Answer → Next) (before : List Answer) (ps qs : List Pair) → Goes next before (ps ++ qs) → Goes next before ps
+goes_first next before [] qs goes = tt
+goes_first next before (p ∷ ps) qs goes = (goes.0, goes.1, goes_first next (before ++ p.1 ∷ []) ps qs goes.2)
+
+pub goes_rest : (next : List Answer → Next) (before : List Answer) (ps qs : List Pair) → Goes next before (ps ++ qs) → Goes next (before ++ answers ps) qs
+goes_rest next before [] qs goes = rw append-nil goes
+goes_rest next before (p ∷ ps) qs goes =
+    let rest = goes_rest next (before ++ p.1 ∷ []) ps qs goes.2 in rw append_assoc at rest
+
+pub goes_join : (next : List Answer → Next) (before : List Answer) (ps qs : List Pair) → Goes next before ps → Goes next (before ++ answers ps) qs → Goes next before (ps ++ qs)
+goes_join next before [] qs goes rest = rw append-nil at rest
+goes_join next before (p ∷ ps) qs goes rest =
+    (goes.0, goes.1, goes_join next (before ++ p.1 ∷ []) ps qs goes.2 (rw append_assoc rest))
+
+-- a body goes through at most as many pairs as it may ask questions
+pub within : (body : BodyOf) (job : Job) (pairs : List Pair) → EndsInTime body → Goes (body job) [] pairs → length pairs ≤ most_asked
+within body job pairs in_time goes =
+    let split : Goes (body job) [] (take most_asked pairs ++ drop most_asked pairs) = rw take-append-drop goes in
+    past (drop most_asked pairs) (length-drop most_asked pairs) (goes_rest (body job) [] (take most_asked pairs) (drop most_asked pairs) split)
+  where
+    past : (qs : List Pair) → length qs ≡ length pairs - most_asked → Goes (body job) (answers (take most_asked pairs)) qs → length pairs ≤ most_asked
+    past [] e g = omega (arith, e)
+    past (q ∷ qs) e g =
+        let lt : most_asked ≤ length pairs = omega (arith, e) in
+        let len : length (answers (take most_asked pairs)) ≡ most_asked = length-answers (take most_asked pairs) ∙ length-take most_asked pairs ∙ omega arith in
+        let ends = in_time job (answers (take most_asked pairs)) len in
+        absurd (apart (sym g.0 ∙ ends.1))
+      where
+        apart : {op : Op} {end : End} → Asks op ≡ Ends end → ⊥
+        apart e = cc
