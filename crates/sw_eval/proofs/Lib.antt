@@ -1,0 +1,10 @@
+pub mod Goes_on
+pub mod Loops
+pub mod Places
+pub mod Opens
+pub mod Depth
+pub mod Outputs
+pub mod Weighs
+pub mod Tops
+pub mod Turns
+pub mod Engines

@@ -1,0 +1,25 @@
+use Rattle.sw_eval.specs.Means.{outside}
+use Rattle.sw_eval.proofs.Goes_on.{no_memory, did_err, did_then, did_plain}
+use Rattle.sw_eval.proofs.value.outside.Goals as goal
+
+pub returns-in_err-site : goal.returns-in_err-site
+returns-in_err-site g c = λ s. no_memory _ s _ _ _ c.from_residual.ensures
+
+pub returns-in_err-name : goal.returns-in_err-name
+returns-in_err-name g c = λ s. no_memory _ s _ _ _ c.from_residual-in_err-name.ensures
+
+pub returns-in_err-a : goal.returns-in_err-a
+unfolding outside
+returns-in_err-a g c = λ s. rw (← c.in_ok-site.ensures, ← c.in_ok-name.ensures) (did_err _ (c.in_err-a.ensures s) c.from_residual-in_err-a.ensures)
+
+pub returns-in_err-found : goal.returns-in_err-found
+unfolding outside
+returns-in_err-found g c = λ s. rw (← c.in_ok-site.ensures, ← c.in_ok-name.ensures) (did_then _ (c.in_ok-a.ensures s) (did_err _ (did_plain _ s _ _ _ (c.in_err-found.ensures s)) c.from_residual-in_err-found.ensures))
+
+pub returns-in_err-b : goal.returns-in_err-b
+unfolding outside
+returns-in_err-b g c = λ s. rw (← c.in_ok-site.ensures, ← c.in_ok-name.ensures) (did_then _ (c.in_ok-a.ensures s) (did_then _ (did_plain _ s _ _ _ (c.in_ok-found.ensures s)) (did_err _ (c.in_err-b.ensures s) c.from_residual-in_err-b.ensures)))
+
+pub returns : goal.returns
+unfolding outside
+returns g c = λ s. rw (← c.in_ok-site.ensures, ← c.in_ok-name.ensures) (did_then _ (c.in_ok-a.ensures s) (did_then _ (did_plain _ s _ _ _ (c.in_ok-found.ensures s)) (did_then _ (c.in_ok-b.ensures s) (did_plain _ s _ _ _ (c.got.ensures s)))))

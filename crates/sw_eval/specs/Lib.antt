@@ -1,0 +1,13 @@
+pub mod Talk
+pub mod Ran
+pub mod Laws
+pub mod Table
+pub mod Scope
+pub mod Did
+pub mod Means
+pub mod Sources
+pub mod Leaves
+pub mod Body_laws
+pub mod Told
+pub mod Tops
+pub mod Resume

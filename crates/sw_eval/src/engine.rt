@@ -1,0 +1,211 @@
+// The engine: bodies that stop at loads and go on after their answers.
+ghost use Rattle.std.specs.Prelude.{◌≡◌, ◌<◌, true, [], ◌∷◌, ◌++◌, IfOk, OnErr, vec_len, vec_capacity};
+ghost use Rattle.sw_world.specs.declared.op.Op.{Op};
+ghost use Rattle.sw_world.specs.Progress.{Running, Waiting, stops, ran_by};
+ghost use Rattle.sw_eval.specs.Means.{body};
+ghost use Rattle.sw_eval.specs.Resume.{TurnDid, IsStep, status_of};
+ghost use Rattle.sw_eval.specs.declared.place.Place.TheVariants.{Running as At_Running};
+
+use crate::asked::Asked;
+use crate::place::Place;
+use crate::state::State;
+use crate::turn::turn;
+use std::alloc::Global;
+use std::marker::Model;
+use std::mem;
+use sw_text::{List, Memory, Name, Shared};
+use sw_tree::Sheet;
+use sw_world::{Answer, Config, Engine, Op, Turn, World};
+
+/// A body that the evaluator runs: its sheet, its pairs, and where its evaluation stands.
+#[derive(Drop)]
+pub struct Evaluation {
+    sheet: Shared<Sheet>,
+    config: Config,
+    path: Name,
+    asked: Asked,
+    started: bool,
+    place: Place,
+    state: State,
+    next: usize,
+}
+
+impl Model for Evaluation {
+    ghost use Rattle.std.specs.Prelude.{vec_len, vec_capacity};
+    ghost use Rattle.std.specs.Coded.{codes};
+    ghost use Rattle.sw_eval.specs.Resume.{Shown, Keeps};
+    ghost use Rattle.sw_tree.specs.contracts.statement.Statement as s;
+
+    ghost Value = { Shown };
+
+    ghost coded = { Prim.hlevel (codes, s.the_row.coded) };
+
+    ghost view = { λ b. record { job = record { sheet = b.sheet; config = b.config; path = b.path }; pairs = b.asked.pairs.items; started = b.started; place = b.place } };
+
+    ghost invariant = { λ b. Keeps (record { sheet = b.sheet; config = b.config; path = b.path }) b.asked.pairs.items b.asked.at b.next b.state b.place (vec_len b.asked.pairs) (vec_capacity b.asked.pairs) };
+}
+
+// The pairs, each part with one more owner.
+fn share_pairs(alloc: Global, known: &[(Op, Answer)]) -> Result<Vec<(Op, Answer)>, Memory>
+    ensures { IfOk result (λ v. v.items ≡ known.now) }
+{
+    let mut pairs = Vec::new(alloc);
+    for i in 0..known.len() {
+        let pair = &known[i];
+        let op = pair.0.share()?;
+        let answer = pair.1.share()?;
+        pairs.push((op, answer))?;
+    }
+    Ok(pairs)
+}
+
+// A turn, with what it adds to what ran. Room for the path is taken first.
+fn go_on<W: World>(
+    alloc: Global,
+    b: &mut Evaluation,
+    ran: &mut Vec<Name>,
+    world: &mut W,
+) -> Result<Turn, Memory>
+    requires { status_of b.old.place ≡ Running }
+    ensures job { (b.new.job ≡ b.old.job) × (b.new.started ≡ true) }
+    ensures did { TurnDid W.gives (body b.old.job) b.old.pairs world.old b.new.pairs world.new }
+    ensures step { IfOk result (λ t. IsStep (body b.old.job) b.new.pairs t) }
+    ensures stopped { IfOk result (λ t. status_of b.new.place ≡ stops t) }
+    ensures running { OnErr result (status_of b.new.place ≡ Running) }
+    ensures ran { IfOk result (λ t. ran.new.items ≡ ran.old.items ++ ran_by t b.old.job.path) }
+    ensures ran_same { OnErr result (ran.new.items ≡ ran.old.items) }
+{
+    b.started = true;
+    let path = b.path.share()?;
+    ran.reserve(1)?;
+    match turn(
+        alloc,
+        b.sheet.get(),
+        &b.config,
+        &b.path,
+        &mut b.next,
+        &mut b.state,
+        &mut b.asked,
+        world,
+    )? {
+        Turn::Load(op) => {
+            let shown = op.share()?;
+            b.place = Place::Waiting(op);
+            Ok(Turn::Load(shown))
+        }
+        Turn::Ended(end) => {
+            let shown = end.share()?;
+            let _ = ran.push(path);
+            b.place = Place::Ended(end);
+            Ok(Turn::Ended(shown))
+        }
+    }
+}
+
+// Hands a waiting body its answer.
+fn give_to(b: &mut Evaluation, answer: Answer)
+    requires { (op : Op) × (status_of b.old.place ≡ Waiting op) }
+    ensures { (op : Op) × (status_of b.old.place ≡ Waiting op) × (b.new ≡ record b.old { pairs = b.old.pairs ++ (op, answer) ∷ []; started = true; place = At_Running }) }
+{
+    b.started = true;
+    if let Place::Waiting(op) = mem::replace(&mut b.place, Place::Running) {
+        let _ = b.asked.pairs.push((op, answer));
+    }
+}
+
+/// The program's engine. Contracts see the paths of the bodies that ran to their ends.
+#[derive(Drop)]
+pub struct Evaluator {
+    ran: Vec<Name>,
+}
+
+impl Model for Evaluator {
+    ghost use Rattle.std.specs.Prelude.{List, ℕ};
+
+    ghost Value = { List (List ℕ) };
+
+    ghost view = { λ e. e.ran.items };
+}
+
+impl Evaluator {
+    /// An engine that has run nothing. Takes no memory.
+    pub fn new(alloc: Global) -> Evaluator
+        ensures { result ≡ [] }
+    {
+        Evaluator {
+            ran: Vec::new(alloc),
+        }
+    }
+}
+
+impl Engine for Evaluator {
+    type Body = Evaluation;
+
+    ghost use Rattle.std.specs.Prelude.{List, ℕ};
+    ghost use Rattle.sw_eval.specs.Means.{body};
+    ghost use Rattle.sw_eval.specs.Resume.{progress};
+    ghost use Rattle.sw_eval.specs.Body_laws.{ends_in_time, ends_for_good, asks_from_sources, names_once, ends_refused};
+
+    ghost body = { body };
+
+    ghost ran = { λ e. e };
+
+    ghost progress = { progress };
+
+    fn start(
+        &self,
+        alloc: Global,
+        sheet: &Shared<Sheet>,
+        config: &Config,
+        path: &Name,
+        known: &[(Op, Answer)],
+    ) -> Result<Evaluation, Memory> {
+        let pairs = share_pairs(alloc, known)?;
+        let sheet = sheet.share()?;
+        let config = config.share()?;
+        let path = path.share()?;
+        Ok(Evaluation {
+            sheet,
+            config,
+            path,
+            asked: Asked { pairs, at: 0 },
+            started: false,
+            place: Place::Running,
+            state: State::begin(alloc),
+            next: 0,
+        })
+    }
+
+    fn give(&self, running: &mut Evaluation, answer: Answer) {
+        give_to(running, answer);
+    }
+
+    fn go<W: World>(
+        &mut self,
+        alloc: Global,
+        running: &mut Evaluation,
+        world: &mut W,
+    ) -> Result<Turn, Memory> {
+        let turn = go_on(alloc, running, &mut self.ran, world)?;
+        Ok(turn)
+    }
+
+    fn close(&self, running: Evaluation) -> List<(Op, Answer)> {
+        let Evaluation { asked, started, .. } = running;
+        let Asked { mut pairs, .. } = asked;
+        if !started {
+            pairs.clear();
+        }
+        List::from_vec(pairs)
+    }
+
+    ghost ends_for_good = { ends_for_good };
+
+    ghost ends_in_time = { ends_in_time };
+
+    ghost asks_from_sources = { asks_from_sources };
+
+    ghost names_once = { names_once };
+
+    ghost ends_refused = { ends_refused };
+}

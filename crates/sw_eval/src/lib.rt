@@ -1,0 +1,19 @@
+//! The evaluator: a module's body goes through the statements of its sheet, asks the world what lies outside, and leaves variables and output behind. It takes trees from below and hands questions and ends up.
+#![tactic(auto)]
+
+mod ask;
+mod asked;
+mod engine;
+mod laws;
+mod output;
+mod place;
+mod state;
+mod stop;
+mod table;
+mod top;
+mod turn;
+mod value;
+mod walk;
+
+pub use engine::{Evaluation, Evaluator};
+pub use laws::body_laws;

@@ -1,0 +1,105 @@
+// The output of a body.
+ghost use Rattle.std.specs.Prelude.{◌≡◌, true};
+ghost use Rattle.sw_css_tree.specs.Output.{is_open, closed};
+ghost use Rattle.sw_eval.specs.Did.{IsReturn};
+ghost use Rattle.sw_eval.specs.Means.{numbered, opening, text_of, is_blank, lining, declaring, written};
+ghost use Rattle.sw_eval.specs.declared.state.State.{State};
+
+use crate::state::State;
+use crate::stop::{Stop, fails};
+use std::alloc::Global;
+use sw_css_tree::{CssTree, TreeFault};
+use sw_text::{FaultCode, Name, Span};
+use sw_values::{Node, Value, ValueFault};
+
+// What follows belongs to this statement; in an open rule it belongs to the rule's.
+#[tactic(auto, unfolding(crate::specs::Means::numbered))]
+pub(crate) fn numbered(css: &mut CssTree, number: usize)
+    ensures { css.new ≡ numbered number css.old }
+{
+    if !css.is_open() {
+        css.statement(number);
+    }
+}
+
+// Closes the innermost open rule.
+pub(crate) fn close(css: &mut CssTree)
+    ensures { css.new ≡ closed css.old }
+{
+    if css.is_open() {
+        css.close();
+    }
+}
+
+#[tactic(auto, unfolding(crate::specs::Means::opening))]
+pub(crate) fn opening(state: &mut State, selectors: Name, at: &Span) -> Result<(), Stop>
+    ensures { IsReturn result state.new (opening selectors at.now state.old) }
+{
+    match state.css.open_rule(selectors) {
+        Ok(()) => Ok(()),
+        Err(TreeFault::TooLarge) => fails(FaultCode::TooLarge, at),
+        Err(TreeFault::Memory) => Err(Stop::Memory),
+    }
+}
+
+// The value's text.
+#[tactic(auto, unfolding(crate::specs::Means::text_of))]
+fn text_of(alloc: Global, value: &Value, at: &Span) -> Result<Name, Stop>
+    ensures { (s : State) → IsReturn result s (text_of value.now at.now s) }
+{
+    match value.css_text(alloc, true) {
+        Ok(text) => Ok(text),
+        Err(ValueFault::TooLarge) => fails(FaultCode::TooLarge, at),
+        Err(ValueFault::Memory) => Err(Stop::Memory),
+    }
+}
+
+// An empty string without quotes isn't written.
+fn is_blank(value: &Value) -> bool
+    ensures { result ≡ is_blank value.now }
+{
+    match value.node() {
+        Node::Text { text, quoted } => text.as_str().is_empty() && !*quoted,
+    }
+}
+
+// A line of the open rule.
+fn lining(state: &mut State, property: Name, text: Name, at: &Span) -> Result<(), Stop>
+    requires { is_open state.old.css ≡ true }
+    ensures { IsReturn result state.new (lining property text at.now state.old) }
+{
+    match state.css.declare(property, text) {
+        Ok(()) => Ok(()),
+        Err(TreeFault::TooLarge) => fails(FaultCode::TooLarge, at),
+        Err(TreeFault::Memory) => Err(Stop::Memory),
+    }
+}
+
+#[tactic(auto, unfolding(crate::specs::Means::declaring))]
+fn declaring(state: &mut State, property: Name, text: Name, at: &Span) -> Result<(), Stop>
+    ensures { IsReturn result state.new (declaring property text at.now state.old) }
+{
+    if !state.css.is_open() {
+        return fails(FaultCode::BadPlace, at);
+    }
+    lining(state, property, text, at)
+}
+
+// A declaration of this value, whose expression stands at the first place and whose statement at the second.
+pub(crate) fn written(
+    alloc: Global,
+    state: &mut State,
+    property: &Name,
+    value: &Value,
+    value_at: &Span,
+    at: &Span,
+) -> Result<(), Stop>
+    ensures { IsReturn result state.new (written property.now value.now value_at.now at.now state.old) }
+{
+    if is_blank(value) {
+        return Ok(());
+    }
+    let property = property.share()?;
+    let text = text_of(alloc, value, value_at)?;
+    declaring(state, property, text, at)
+}
