@@ -7,6 +7,8 @@ mod loads;
 mod module;
 mod names;
 mod table;
+#[cfg(test)]
+mod tests;
 
 pub use ask::{Asked, comes_by};
 pub use live::{Begin, Enter, Finished, Live};
