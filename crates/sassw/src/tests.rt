@@ -3,9 +3,11 @@ ghost use Rattle.std.specs.Prelude.{◌≤◌};
 
 use std::alloc::{AllocError, Global};
 use std::test::Fail;
+use sw_eval::Evaluator;
 use sw_io::{MemSink, MemSource, SteadySink, SteadySource};
 use sw_session::{run, serve, serve_within};
 use sw_text::{List, Name};
+use sw_world::NoHosts;
 
 const SHEET: &[u8] = b"put a.scss 11\na { b: c; }\ncompile a.scss\nend\n";
 
@@ -27,7 +29,8 @@ fn answers(
         List::from_vec(reads.to_vec(alloc)?),
     );
     let mut sink = MemSink::new(alloc, most, List::from_vec(writes.to_vec(alloc)?));
-    let status = serve(alloc, &mut source, &mut sink);
+    let mut engine = Evaluator::new(alloc);
+    let status = serve(alloc, &mut source, &mut sink, &mut engine, &mut NoHosts);
     let bytes = sink.bytes().to_vec(alloc)?;
     Ok((status, bytes))
 }
@@ -178,10 +181,9 @@ fn one_request_too_many(rt: HostRuntime) -> Result<(), Fail> {
     ] {
         let mut source = SteadySource::new(List::from_vec(script.to_vec(alloc)?), 4096);
         let mut sink = SteadySink::new(7);
-        assert_eq!(rt;
-            serve_within(alloc, 1, &mut source, &mut sink).status(),
-            status
-        );
+        let mut engine = Evaluator::new(alloc);
+        let stop = serve_within(alloc, 1, &mut source, &mut sink, &mut engine, &mut NoHosts);
+        assert_eq!(rt; stop.status(), status);
     }
     Ok(())
 }
@@ -205,13 +207,123 @@ fn words_of_the_command_line(rt: HostRuntime) -> Result<(), Fail> {
             List::new(alloc),
         );
         let mut sink = MemSink::new(alloc, 4096, List::new(alloc));
-        assert_eq!(rt;
-            run(alloc, &words, &mut source, &mut sink),
-            status,
-            "{line}"
-        );
+        let mut engine = Evaluator::new(alloc);
+        let ended = run(alloc, &words, &mut source, &mut sink, &mut engine);
+        assert_eq!(rt; ended, status, "{line}");
         let written = if status == 0 { ANSWERS } else { b"".as_slice() };
         assert_eq!(rt; sink.bytes(), written, "{line}");
     }
+    Ok(())
+}
+
+#[test]
+fn modules(rt: HostRuntime) -> Result<(), Fail> {
+    let alloc = rt.alloc();
+    let rows: [(&[u8], &[u8]); 20] = [
+        (
+            b"put lib.scss 8\n$n: one;\nput theme.scss 24\n@use \"lib\"; lib.$n: two;\nput main.scss 42\n@use \"lib\"; @use \"theme\"; a { b: lib.$n; }\ncompile main.scss\nend\n",
+            b"ok\nok\nok\ncss 16\na {\n  b: two;\n}\n\n",
+        ),
+        (
+            b"put a.scss 15\na { @use \"b\"; }\ncompile a.scss\nend\n",
+            b"ok\nerror 40 a.scss 1:5 1:13\n",
+        ),
+        (
+            b"put a.scss 9\n@use \"b\";\nput b.scss 9\n@use \"a\";\ncompile a.scss\nend\n",
+            b"ok\nok\nerror 21 b.scss 1:6 1:9\n",
+        ),
+        (
+            b"put a.scss 9\n@use \"b\";\nput b.scss 9\n@use \"c\";\nput c.scss 9\n@use \"a\";\ncompile a.scss\nend\n",
+            b"ok\nok\nok\nerror 21 c.scss 1:6 1:9\n",
+        ),
+        (
+            b"put lib.scss 8\n$n: one;\nput main.scss 28\n@use \"lib\"; a { b: lib.$n; }\ncompile main.scss\nput _lib.scss 8\n$n: two;\ncompile main.scss\nremove _lib.scss\ncompile main.scss\nend\n",
+            b"ok\nok\ncss 16\na {\n  b: one;\n}\n\nok\nerror 20 main.scss 1:6 1:11\nok\ncss 16\na {\n  b: one;\n}\n\n",
+        ),
+        (
+            b"put src/main.scss 28\n@use \"lib\"; a { b: lib.$n; }\nput vendor/lib.scss 8\n$n: one;\ncompile src/main.scss vendor\nput src/lib.scss 8\n$n: two;\ncompile src/main.scss vendor\nend\n",
+            b"ok\nok\ncss 16\na {\n  b: one;\n}\n\nok\ncss 16\na {\n  b: two;\n}\n\n",
+        ),
+        (
+            b"put b.scss 11\nx { y: z; }\nput main.scss 21\n@use \"b\"; a { b: c; }\ncompile main.scss\nend\n",
+            b"ok\nok\ncss 29\nx {\n  y: z;\n}\n\na {\n  b: c;\n}\n\n",
+        ),
+        (
+            b"put d.scss 11\nd { e: f; }\nput b.scss 21\n@use \"d\"; b { e: f; }\nput c.scss 21\n@use \"d\"; c { e: f; }\nput main.scss 19\n@use \"b\"; @use \"c\";\ncompile main.scss\nend\n",
+            b"ok\nok\nok\nok\ncss 44\nd {\n  e: f;\n}\n\nb {\n  e: f;\n}\n\nc {\n  e: f;\n}\n\n",
+        ),
+        (
+            b"put lib.scss 8\n$n: one;\nput main.scss 43\n@use \"lib\"; @use \"lib\" as l; a { b: l.$n; }\ncompile main.scss\nend\n",
+            b"ok\nok\ncss 16\na {\n  b: one;\n}\n\n",
+        ),
+        (
+            b"put lib.scss 8\n$n: one;\nput x/lib.scss 8\n$n: two;\nput main.scss 25\n@use \"lib\"; @use \"x/lib\";\ncompile main.scss\nend\n",
+            b"ok\nok\nok\nerror 24 main.scss 1:18 1:25\n",
+        ),
+        (
+            b"put lib.scss 18\n$n: one; $-p: two;\nput main.scss 12\na { b: $x; }\ncompile main.scss\nend\n",
+            b"ok\nok\nerror 11 main.scss 1:8 1:10\n",
+        ),
+        (
+            b"put lib.scss 18\n$n: one; $-p: two;\nput main.scss 14\na { b: m.$x; }\ncompile main.scss\nend\n",
+            b"ok\nok\nerror 12 main.scss 1:8 1:9\n",
+        ),
+        (
+            b"put lib.scss 18\n$n: one; $-p: two;\nput main.scss 29\n@use \"lib\"; a { b: lib.$zz; }\ncompile main.scss\nend\n",
+            b"ok\nok\nerror 13 main.scss 1:20 1:27\n",
+        ),
+        (
+            b"put lib.scss 18\n$n: one; $-p: two;\nput main.scss 29\n@use \"lib\"; a { b: lib.$-p; }\ncompile main.scss\nend\n",
+            b"ok\nok\nerror 37 main.scss 1:20 1:27\n",
+        ),
+        (
+            b"put lib.scss 18\n$n: one; $-p: two;\nput main.scss 23\n@use \"lib\"; lib.$zz: x;\ncompile main.scss\nend\n",
+            b"ok\nok\nerror 13 main.scss 1:13 1:20\n",
+        ),
+        (
+            b"put lib.scss 18\n$n: one; $-p: two;\nput main.scss 23\na { b: c; } @use \"lib\";\ncompile main.scss\nend\n",
+            b"ok\nok\nerror 38 main.scss 1:13 1:23\n",
+        ),
+        (
+            b"put lib.scss 18\n$n: one; $-p: two;\nput main.scss 15\n@use \"nowhere\";\ncompile main.scss\nend\n",
+            b"ok\nok\nerror 19 main.scss 1:6 1:15\n",
+        ),
+        (
+            b"put lib.scss 18\n$n: one; $-p: two;\nput main.scss 17\n@use \"sass:math\";\ncompile main.scss\nend\n",
+            b"ok\nok\nerror 19 main.scss 1:6 1:17\n",
+        ),
+        (
+            b"put leaf.scss 5\n$n: ;\nput main.scss 30\n@use \"leaf\"; a { b: leaf.$n; }\ncompile main.scss\nput leaf.scss 8\n$n: one;\ncompile main.scss\nend\n",
+            b"ok\nok\nerror 10 leaf.scss 1:5 1:6\nok\ncss 16\na {\n  b: one;\n}\n\n",
+        ),
+        (
+            b"put main.scss 45\n$a: one; $b: $a; $a: two; a { b: $b; c: $a; }\ncompile main.scss\nend\n",
+            b"ok\ncss 26\na {\n  b: one;\n  c: two;\n}\n\n",
+        ),
+    ];
+    for row in rows.iter() {
+        let (status, bytes) = answers(alloc, row.0, 4096, &[], &[])?;
+        assert_eq!(rt; bytes.as_slice(), row.1);
+        assert_eq!(rt; status, 0);
+    }
+    Ok(())
+}
+
+// Each file loads the next one, up to the last, which is empty: the replies to a compile of the first one of all and of the second.
+#[test]
+fn chains_of_loads(rt: HostRuntime) -> Result<(), Fail> {
+    let alloc = rt.alloc();
+    let mut script = b"put f64.scss 0\n\n".to_vec(alloc)?;
+    for file in 0..64u32 {
+        let next = file + 1;
+        let text = format!(in alloc; "@use \"f{next}\";")?;
+        let count = text.len();
+        let line = format!(in alloc; "put f{file}.scss {count}\n{text}\n")?;
+        script.extend_from_slice(line.as_bytes())?;
+    }
+    script.extend_from_slice(b"compile f0.scss\ncompile f1.scss\nend\n")?;
+    let (status, bytes) = answers(alloc, &script, 4096, &[], &[])?;
+    assert_eq!(rt; status, 0);
+    assert_eq!(rt; bytes.ends_with(b"ok\nerror 32 f63.scss 1:6 1:11\ncss 0\n\n"), true);
     Ok(())
 }
