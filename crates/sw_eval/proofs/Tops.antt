@@ -1,5 +1,5 @@
 -- The statements of the top level, a step at a time.
-use Rattle.std.proofs.Common.{◌≡◌, ℕ, suc, ◌+◌, ◌<◌, ◌≤◌, Bool, true, false, cond, is_some, List, [], ◌∷◌, length, drop, get_or, Option, Some, None, Result, Ok, Err, refl, sym, ◌∙◌, ap, subst, add-one}
+use Rattle.std.proofs.Common.{◌≡◌, ℕ, suc, ◌+◌, ◌<◌, ◌≤◌, true, false, cond, is_some, List, [], ◌∷◌, length, drop, get_or, Option, Some, None, Result, Ok, Err, refl, sym, ◌∙◌, ap, subst, add-one}
 use Rattle.std.specs.Prelude.{IsErr, IsErrAnd, IfOk}
 use Rattle.sw_tree.specs.declared.statement.Statement.{Statement}
 use Rattle.sw_world.specs.declared.op.Op.{Op}

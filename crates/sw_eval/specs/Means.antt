@@ -1,12 +1,11 @@
 -- What a sheet means: the talk that its evaluation is (the Sass specification on variables and modules; places of faults and limits are this project's own).
-use Rattle.std.specs.Prelude.{ℕ, zero, suc, ◌+◌, Bool, true, false, ◌||◌, ◌==◌, nat_lt, nat_le, if◌then◌else◌, List, [], ◌∷◌, ◌++◌, length, take, Option, Some, None}
+use Rattle.std.specs.Prelude.{ℕ, zero, suc, ◌+◌, Bool, true, false, ◌||◌, ◌==◌, nat_lt, nat_le, if◌then◌else◌, List, [], ◌∷◌, length, take, Option, Some, None}
 use Rattle.sw_text.specs.declared.fault.Fault.{Fault}
 use Rattle.sw_text.specs.declared.fault.FaultCode.{FaultCode}
 use Rattle.sw_text.specs.declared.fault.FaultCode.TheVariants as C
 use Rattle.sw_text.specs.declared.place.Span.{Span}
 use Rattle.sw_tree.specs.declared.expr.Parts.{Parts}
 use Rattle.sw_tree.specs.declared.expr.Parts.TheVariants.{Plain}
-use Rattle.sw_tree.specs.declared.expr.Text.{Text}
 use Rattle.sw_tree.specs.declared.expr.Qualified.{Qualified}
 use Rattle.sw_tree.specs.declared.expr.Expr.{Expr}
 use Rattle.sw_tree.specs.declared.expr.Expr.TheVariants as E

@@ -1,5 +1,5 @@
 -- What a talk names in its questions is the body's own path, or was answered before.
-use Rattle.std.proofs.Common.{◌≡◌, ℕ, zero, suc, ◌+◌, Bool, true, false, nat_le, nat_lt, length, if◌then◌else◌, List, [], ◌∷◌, ◌++◌, Option, Some, None, refl, sym, ◌∙◌, ap, subst, inl, inr, append_assoc, append-nil}
+use Rattle.std.proofs.Common.{◌≡◌, ℕ, zero, suc, ◌+◌, Bool, true, false, nat_le, nat_lt, length, if◌then◌else◌, List, [], ◌∷◌, ◌++◌, Option, Some, None, refl, sym, subst, inl, inr, append_assoc, append-nil}
 use Rattle.sw_text.specs.declared.fault.FaultCode.{FaultCode}
 use Rattle.sw_text.specs.declared.fault.FaultCode.TheVariants as C
 use Rattle.sw_text.specs.declared.place.Span.{Span}
@@ -20,7 +20,7 @@ use Rattle.sw_world.specs.declared.answer.Answer.{Answer}
 use Rattle.sw_world.specs.declared.answer.Answer.TheVariants.{Loaded, Refused, Owner, Callable, BuiltIn, NoNamespace, NoMember, LeftOut, Conflict, Value, Done, Hosted}
 use Rattle.sw_world.specs.declared.end.Finish.{Finish}
 use Rattle.sw_world.specs.Questions.{Fits}
-use Rattle.sw_world.specs.Body.{Pair, Next, Asks, answers, Goes}
+use Rattle.sw_world.specs.Body.{Pair, Asks, answers, Goes}
 use Rattle.sw_world.specs.Laws.{Answered, IsOwner, HasSource}
 use Rattle.sw_eval.specs.Talk.{Talk, Gives, Fails, Asking, bind, answered, run}
 use Rattle.sw_eval.specs.Did.{Eval}

@@ -1,4 +1,3 @@
-use Rattle.std.proofs.Common.{◌≡◌, length, arith}
 use Rattle.sw_world.specs.Laws.{most_asked}
 use Rattle.sw_eval.proofs.Goes_on.{ask_asks, no_memory}
 use Rattle.sw_eval.proofs.ask.ask_world.Goals as goal

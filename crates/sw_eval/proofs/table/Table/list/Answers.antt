@@ -1,4 +1,4 @@
-use Rattle.std.proofs.Common.{◌≡◌, ℕ, suc, zero, ◌+◌, ◌++◌, List, [], ◌∷◌, ◌<◌, take, slice_get, Some, length, ap, sym, ◌∙◌, add-one}
+use Rattle.std.proofs.Common.{◌≡◌, ℕ, suc, zero, ◌++◌, List, [], ◌∷◌, take, slice_get, Some, ap, sym, ◌∙◌, add-one}
 use Rattle.sw_values.specs.declared.node.Node.{Node}
 use Rattle.sw_eval.proofs.table.Table.list.Goals as goal
 
