@@ -1,3 +1,4 @@
+pub mod More
 pub mod Pairs
 pub mod Rest
 pub mod Parts

@@ -68,3 +68,7 @@ pub record RunsOn (setting : Setting) (job : Job) (p : Progress) (old now : Outs
   pub new : List Run
   pub advances : Advances setting job [] (p.seen ++ p.left) new old now
   pub ran : ran_new ≡ ran_old ++ paths_of new
+
+-- some bodies ran, whichever they are
+abbrev pub RanMore : List (List ℕ) → List (List ℕ) → Type 0
+RanMore old now = (more : List (List ℕ)) × (now ≡ old ++ more)

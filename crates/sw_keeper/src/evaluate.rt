@@ -1,11 +1,11 @@
 // The evaluation of modules, each by its body.
-ghost use Rattle.std.specs.Prelude.{◌≡◌, ◌≤◌, ◌<◌, ◌++◌, [], length, IfOk};
+ghost use Rattle.std.specs.Prelude.{◌≡◌, ◌≤◌, ◌<◌, ◌++◌, [], length, IfOk, OnErr};
 ghost use Rattle.sw_folder.specs.Files.{most_bytes};
 ghost use Rattle.sw_world.specs.Questions.{IsLoad, Fits};
 ghost use Rattle.sw_world.specs.Progress.{Running, IsBody, stops, ran_by};
 ghost use Rattle.sw_modules.specs.Fresh.{responds, fresh, room};
 ghost use Rattle.sw_modules.specs.Loads.{AnswersLoad};
-ghost use Rattle.sw_keeper.specs.Steps.{DidLoad, DidEnd, DidEvaluate, WentOn, Turned};
+ghost use Rattle.sw_keeper.specs.Steps.{DidLoad, DidEnd, DidEvaluate, WentOn, Turned, RanMore};
 
 use crate::Reader;
 use std::alloc::Global;
@@ -31,6 +31,7 @@ fn go_asked<R: Reader, E: Engine, H: Hosts>(
     ensures is_body { IsBody E.body (E.progress body.new) }
     ensures stopped { IfOk result (λ turn. ((E.progress body.new).status ≡ stops turn) × ((E.progress body.new).left ≡ [])) }
     ensures ran { IfOk result (λ turn. E.ran engine.new ≡ E.ran engine.old ++ ran_by turn (E.progress body.new).job.path) }
+    ensures grew { OnErr result (RanMore (E.ran engine.old) (E.ran engine.new)) }
 {
     let turn = engine.go(alloc, body, asked)?;
     Ok(turn)
@@ -53,6 +54,7 @@ fn go_outside<R: Reader, E: Engine, H: Hosts>(
     ensures is_body { IsBody E.body (E.progress body.new) }
     ensures stopped { IfOk result (λ turn. ((E.progress body.new).status ≡ stops turn) × ((E.progress body.new).left ≡ [])) }
     ensures ran { IfOk result (λ turn. E.ran engine.new ≡ E.ran engine.old ++ ran_by turn (E.progress body.new).job.path) }
+    ensures grew { OnErr result (RanMore (E.ran engine.old) (E.ran engine.new)) }
 {
     let mut asked = Asked { live, hosts };
     let turn = go_asked(alloc, reader, &mut asked, engine, body)?;
@@ -74,6 +76,7 @@ fn load<R: Reader, E: Engine, H: Hosts>(
         answer (record { live = live.old; hosts = H.state hosts.old }) (record { live = live.new; hosts = H.state hosts.new }) (E.ran engine.old) (E.ran engine.new)) }
     ensures fits { IfOk result (λ answer. Fits op.now answer) }
     ensures depth { IfOk result (λ _. length live.new.opened ≡ length live.old.opened) }
+    ensures grew { OnErr result (RanMore (E.ran engine.old) (E.ran engine.new)) }
 {
     match live.begin(op)? {
         Begin::Answered(answer) => Ok(answer),
@@ -101,6 +104,7 @@ fn turn<R: Reader, E: Engine, H: Hosts>(
     ensures turned { IfOk result (λ end. Turned (record { functions = record { answer = H.answer; after = H.after }; read = R.reads; body = E.body }) (E.progress body.old) (E.progress body.new) end
         (record { live = live.old; hosts = H.state hosts.old }) (record { live = live.new; hosts = H.state hosts.new }) (E.ran engine.old) (E.ran engine.new)) }
     ensures depth { IfOk result (λ _. length live.new.opened ≡ length live.old.opened) }
+    ensures grew { OnErr result (RanMore (E.ran engine.old) (E.ran engine.new)) }
 {
     match go_outside(alloc, reader, live, hosts, engine, body)? {
         Turn::Load(op) => {
@@ -127,6 +131,7 @@ fn run_body<R: Reader, E: Engine, H: Hosts>(
     ensures did { IfOk result (λ end. DidEnd (record { functions = record { answer = H.answer; after = H.after }; read = R.reads; body = E.body }) (record { sheet = sheet.now; config = config.now; path = path.now }) end
         (record { live = live.old; hosts = H.state hosts.old }) (record { live = live.new; hosts = H.state hosts.new }) (E.ran engine.old) (E.ran engine.new)) }
     ensures depth { IfOk result (λ _. length live.new.opened ≡ length live.old.opened) }
+    ensures grew { OnErr result (RanMore (E.ran engine.old) (E.ran engine.new)) }
 {
     let mut body = engine.start(alloc, sheet, config, path, &[])?;
     loop {
@@ -153,6 +158,7 @@ pub(crate) fn evaluate<R: Reader, E: Engine, H: Hosts>(
     ensures did { IfOk result (λ end. DidEvaluate (record { functions = record { answer = H.answer; after = H.after }; read = R.reads; body = E.body }) path.now text.now config.now end
         (record { live = live.old; hosts = H.state hosts.old }) (record { live = live.new; hosts = H.state hosts.new }) (E.ran engine.old) (E.ran engine.new)) }
     ensures depth { IfOk result (λ _. length live.new.opened ≡ length live.old.opened) }
+    ensures grew { OnErr result (RanMore (E.ran engine.old) (E.ran engine.new)) }
 {
     match reader.read(alloc, path, text)? {
         Ok(sheet) => {

@@ -3,6 +3,7 @@ ghost use Rattle.std.specs.Prelude.{◌≡◌, ◌++◌, ◌≤◌, Ok, Err, IsT
 ghost use Rattle.std.specs.FinMap as files;
 ghost use Rattle.sw_folder.specs.Edits.{after_put, after_removal, IsFaultOf};
 ghost use Rattle.sw_keeper.specs.Compile.{compiled, outcome_of, paths_of};
+ghost use Rattle.sw_keeper.specs.Steps.{RanMore};
 
 use crate::Reader;
 use crate::evaluate::evaluate;
@@ -82,7 +83,7 @@ impl Keeper {
         &self.folder
     }
 
-    /// Compiles an entry with these load paths: the messages and the CSS or the fault that the evaluation of the files as they are gives from nothing. Each body that runs is told by the engine. After `Memory` the folder is as before, and the host's state is the one after the calls that were made.
+    /// Compiles an entry with these load paths: the messages and the CSS or the fault that the evaluation of the files as they are gives from nothing. Each body that runs is told by the engine. After `Memory` the folder is as before, the engine has told of some bodies more, and the host's state is the one after the calls that were made.
     pub fn compile<R: Reader, E: Engine, H: Hosts>(
         &mut self,
         reader: &R,
@@ -95,6 +96,7 @@ impl Keeper {
         ensures outcome { IfOk result (λ given. given.outcome ≡ (compiled (record { functions = record { answer = H.answer; after = H.after }; read = R.reads; body = E.body }) self.old paths.now entry.now (H.state hosts.old)).outcome) }
         ensures hosts { OnOk result (H.state hosts.new ≡ (compiled (record { functions = record { answer = H.answer; after = H.after }; read = R.reads; body = E.body }) self.old paths.now entry.now (H.state hosts.old)).hosts) }
         ensures ran { OnOk result (E.ran engine.new ≡ E.ran engine.old ++ paths_of (compiled (record { functions = record { answer = H.answer; after = H.after }; read = R.reads; body = E.body }) self.old paths.now entry.now (H.state hosts.old)).runs) }
+        ensures grew { OnErr result (RanMore (E.ran engine.old) (E.ran engine.new)) }
         ensures folder { self.new ≡ self.old }
     {
         let compiled = compile_folder(
@@ -123,6 +125,7 @@ fn compile_folder<R: Reader, E: Engine, H: Hosts>(
     ensures outcome { IfOk result (λ given. given.outcome ≡ (compiled (record { functions = record { answer = H.answer; after = H.after }; read = R.reads; body = E.body }) folder.now paths.now entry.now (H.state hosts.old)).outcome) }
     ensures hosts { OnOk result (H.state hosts.new ≡ (compiled (record { functions = record { answer = H.answer; after = H.after }; read = R.reads; body = E.body }) folder.now paths.now entry.now (H.state hosts.old)).hosts) }
     ensures ran { OnOk result (E.ran engine.new ≡ E.ran engine.old ++ paths_of (compiled (record { functions = record { answer = H.answer; after = H.after }; read = R.reads; body = E.body }) folder.now paths.now entry.now (H.state hosts.old)).runs) }
+    ensures grew { OnErr result (RanMore (E.ran engine.old) (E.ran engine.new)) }
 {
     let mut live = Live::new(alloc, folder, paths);
     match live.enter(entry)? {

@@ -4,4 +4,3 @@ pub mod Turning
 pub mod Serving
 pub mod Growing
 pub mod Whole
-pub mod RuleByRule

@@ -8,23 +8,28 @@ use Rattle.sw_session.specs.declared.stop.Stop.{Stop}
 use Rattle.sw_session.specs.declared.stop.Stop.TheVariants.{Ended, Wrong, CutOff, SourceFailed, SinkFailed, Memory, Over as Over_stop}
 use Rattle.sw_session.specs.Script.{Event, Next, Whole, Closing, NoRequest, Short, next, last, Ending, End, Bad, Over, Cut, Script, script, script_by, behind, behind_by}
 use Rattle.std.specs.FinMap.{empty}
-use Rattle.sw_folder.specs.Files.{Files}
-use Rattle.sw_session.specs.Transcript.{Mark, replies, text}
-use Rattle.sw_session.specs.Turns.{Place, place, Uses, Answers, Breaks, TurnEnds, LastEnds}
-use Rattle.sw_session.specs.Served.{Served, EndsIn, Wrote}
+use Rattle.sw_world.specs.Hosts.{HostState}
+use Rattle.sw_modules.specs.Fresh.{Setting}
+use Rattle.sw_session.specs.Transcript.{Mark, Held, held, Turn, turn_of, turns, text, ran_in, hosts_after}
+use Rattle.sw_session.specs.Turns.{Place, place, Uses, Standing, standing, Rests, Answers, Breaks, TurnEnds, LastEnds}
+use Rattle.sw_session.specs.Served.{Surroundings, surroundings, Served, EndsIn, Did, DidBy}
 use Rattle.sw_session.proofs.Writing.{appends_none, appends_on}
+use Rattle.sw_session.proofs.Turning.{at_rest}
 
--- from one place to another some requests were answered whole, and so many more may come; whatever bytes and marks follow, the
--- replies to all are those written and those to the rest
-pub record Going (most turns : ℕ) (files : Files) (old new : Place) : Type 0 where
+-- from one place to another some requests were carried out and answered whole, and so many more may come; whatever bytes and marks
+-- follow, the turns of all are those done and those of the rest
+pub record Going (setting : Setting) (most n : ℕ) (hosts : HostState) (ran : List (List ℕ)) (s : Standing) (old new : Place) : Type 0 where
   pub used : List ℕ
   pub marks : List Mark
-  pub done : List (List ℕ)
+  pub done : List Turn
   pub uses : Uses old used new
   pub sends : Appends old.written new.written (text done)
-  pub all : (rest : List ℕ) (later : List Mark) → replies empty (script most (used ++ rest)).events (marks ++ later) ≡ done ++ replies files (script turns rest).events later
-  pub ending : (rest : List ℕ) → (script most (used ++ rest)).ending ≡ (script turns rest).ending
-  pub behind : (n : ℕ) (rest : List ℕ) → behind (length done + n) (used ++ rest) ≡ behind n rest
+  pub runs : s.ran ≡ ran ++ ran_in done
+  pub hosted : s.hosts ≡ hosts_after hosts done
+  pub all : (rest : List ℕ) (later : List Mark)
+      → turns setting (held empty hosts) (script most (used ++ rest)).events (marks ++ later) ≡ done ++ turns setting (held s.folder s.hosts) (script n rest).events later
+  pub ending : (rest : List ℕ) → (script most (used ++ rest)).ending ≡ (script n rest).ending
+  pub behind : (k : ℕ) (rest : List ℕ) → behind (length done + k) (used ++ rest) ≡ behind k rest
 
 script_whole : (n : ℕ) (bytes : List ℕ) (event : Event) (rest : List ℕ) → next bytes ≡ Whole event rest
     → script (suc n) bytes ≡ script_by (script n) (Whole event rest)
@@ -47,42 +52,77 @@ behind_none : (bytes : List ℕ) → behind zero bytes ≡ bytes
 unfolding behind
 behind_none bytes = refl
 
-no_replies : (files : Files) (marks : List Mark) → replies files [] marks ≡ []
-unfolding replies
-no_replies files marks = refl
+no_turns : (setting : Setting) (h : Held) (marks : List Mark) → turns setting h [] marks ≡ []
+unfolding turns
+no_turns setting h marks = refl
 
-text_append : (xs ys : List (List ℕ)) → text (xs ++ ys) ≡ text xs ++ text ys
+first_turn : (setting : Setting) (h : Held) (event : Event) (events : List Event) (mark : Mark) (later : List Mark)
+    → turns setting h (event ∷ events) (mark ∷ later) ≡ turn_of setting h event mark ∷ turns setting (turn_of setting h event mark).held events later
+unfolding turns
+first_turn setting h event events mark later = refl
+
+text_append : (xs ys : List Turn) → text (xs ++ ys) ≡ text xs ++ text ys
 text_append [] ys = refl
-text_append (x ∷ xs) ys = ap (λ t. x ++ t) (text_append xs ys) ∙ sym (append_assoc x (text xs) (text ys))
+text_append (x ∷ xs) ys = ap (λ t. x.reply ++ t) (text_append xs ys) ∙ sym (append_assoc x.reply (text xs) (text ys))
 
-pub going_start : (most : ℕ) (p : Place) → Going most most empty p p
-going_start most p = record {
+ran_append : (xs ys : List Turn) → ran_in (xs ++ ys) ≡ ran_in xs ++ ran_in ys
+ran_append [] ys = refl
+ran_append (x ∷ xs) ys = ap (λ t. x.ran ++ t) (ran_append xs ys) ∙ sym (append_assoc x.ran (ran_in xs) (ran_in ys))
+
+hosts_append : (hosts : HostState) (xs ys : List Turn) → hosts_after hosts (xs ++ ys) ≡ hosts_after (hosts_after hosts xs) ys
+hosts_append hosts [] ys = refl
+hosts_append hosts (x ∷ xs) ys = hosts_append x.held.hosts xs ys
+
+pub going_start : (setting : Setting) (most : ℕ) (hosts : HostState) (ran : List (List ℕ)) (p : Place) → Going setting most most hosts ran (standing empty hosts ran) p p
+going_start setting most hosts ran p = record {
   used = [];
   marks = [];
   done = [];
   uses = reads_none _ _;
   sends = appends_none _;
+  runs = sym (append-nil ran);
+  hosted = refl;
   all = λ rest later. refl;
   ending = λ rest. refl;
-  behind = λ n rest. ap (λ k. behind k rest) (zero-add n);
+  behind = λ k rest. ap (λ i. behind i rest) (zero-add k);
 }
 
-pub going_on : (most turns : ℕ) (files after : Files) (old mid new : Place) → Going most (suc turns) files old mid → Answers mid files new after → Going most turns after old new
-going_on most turns files after old mid new g a = record {
-  used = g.used ++ a.used;
-  marks = g.marks ++ a.says.marks;
-  done = g.done ++ a.says.reply ∷ [];
-  uses = reads_on _ _ _ _ _ _ _ _ g.uses a.uses;
-  sends = rw (text_append g.done (a.says.reply ∷ []), append-nil a.says.reply) (appends_on _ _ _ (text g.done) a.says.reply g.sends a.says.sends);
-  all = λ rest later. rw (append_assoc g.used a.used rest, append_assoc g.marks a.says.marks later, append_assoc g.done (a.says.reply ∷ []) (replies after (script turns rest).events later))
-      (g.all (a.used ++ rest) (a.says.marks ++ later)
-      ∙ ap (λ t. g.done ++ t) (ap (λ (s : Script). replies files s.events (a.says.marks ++ later)) (script_whole turns (a.used ++ rest) a.event rest (a.whole rest))
-      ∙ a.says.replies (script turns rest).events later));
-  ending = λ rest. rw (append_assoc g.used a.used rest) (g.ending (a.used ++ rest) ∙ ap (λ (s : Script). s.ending) (script_whole turns (a.used ++ rest) a.event rest (a.whole rest)));
-  behind = λ n rest. rw (append_assoc g.used a.used rest)
-      (ap (λ k. behind k (g.used ++ (a.used ++ rest))) (longer (length g.done) n _ (length_push g.done a.says.reply))
-      ∙ g.behind (suc n) (a.used ++ rest) ∙ behind_whole n (a.used ++ rest) a.event rest (a.whole rest));
-}
+-- the replies, the bodies and the hosts of one turn more
+text_more : (done : List Turn) (turn : Turn) → text done ++ turn.reply ≡ text (done ++ turn ∷ [])
+text_more done turn = ap (λ t. text done ++ t) (sym (append-nil turn.reply)) ∙ sym (text_append done (turn ∷ []))
+
+ran_more : (ran : List (List ℕ)) (done : List Turn) (turn : Turn) (now next : List (List ℕ)) → now ≡ ran ++ ran_in done → next ≡ now ++ turn.ran → next ≡ ran ++ (ran_in done ++ turn.ran)
+ran_more ran done turn now next a b = b ∙ ap (λ t. t ++ turn.ran) a ∙ append_assoc ran (ran_in done) turn.ran
+
+ran_more_in : (done : List Turn) (turn : Turn) → ran_in done ++ turn.ran ≡ ran_in (done ++ turn ∷ [])
+ran_more_in done turn = ap (λ t. ran_in done ++ t) (sym (append-nil turn.ran)) ∙ sym (ran_append done (turn ∷ []))
+
+-- the turns of a request and of what follows it
+turns_on : (setting : Setting) (n : ℕ) (h : Held) (event : Event) (mark : Mark) (later : List Mark) (used rest : List ℕ) → next (used ++ rest) ≡ Whole event rest
+    → turns setting h (script (suc n) (used ++ rest)).events (mark ∷ later) ≡ turn_of setting h event mark ∷ turns setting (turn_of setting h event mark).held (script n rest).events later
+turns_on setting n h event mark later used rest w =
+    ap (λ (x : Script). turns setting h x.events (mark ∷ later)) (script_whole n (used ++ rest) event rest w) ∙ first_turn setting h event (script n rest).events mark later
+
+pub going_on : (setting : Setting) (most n : ℕ) (hosts : HostState) (ran : List (List ℕ)) (s t : Standing) (old mid new : Place)
+    → Going setting most (suc n) hosts ran s old mid → Answers setting mid s new t → Going setting most n hosts ran t old new
+going_on setting most n hosts ran s t old mid new g a =
+    let turn : Turn = turn_of setting (held s.folder s.hosts) a.event a.says.mark in record {
+      used = g.used ++ a.used;
+      marks = g.marks ++ a.says.mark ∷ [];
+      done = g.done ++ turn ∷ [];
+      uses = reads_on _ _ _ _ _ _ _ _ g.uses a.uses;
+      sends = subst (λ (x : List ℕ). Appends old.written new.written x) (text_more g.done turn) (appends_on _ _ _ (text g.done) turn.reply g.sends a.says.sends);
+      runs = ran_more ran g.done turn s.ran t.ran g.runs a.says.runs ∙ ap (λ x. ran ++ x) (ran_more_in g.done turn);
+      hosted = ap (λ (h : Held). h.hosts) a.says.holds ∙ sym (hosts_append hosts g.done (turn ∷ []));
+      all = λ rest later. rw (append_assoc g.used a.used rest, append_assoc g.marks (a.says.mark ∷ []) later, append_assoc g.done (turn ∷ []) (turns setting (held t.folder t.hosts) (script n rest).events later))
+          (g.all (a.used ++ rest) (a.says.mark ∷ later)
+          ∙ ap (λ x. g.done ++ x) (turns_on setting n (held s.folder s.hosts) a.event a.says.mark later a.used rest (a.whole rest)
+          ∙ ap (λ (h : Held). turn ∷ turns setting h (script n rest).events later) (sym a.says.holds)));
+      ending = λ rest. rw (append_assoc g.used a.used rest) (g.ending (a.used ++ rest) ∙ ap (λ (x : Script). x.ending) (script_whole n (a.used ++ rest) a.event rest (a.whole rest)));
+      behind = λ k rest. rw (append_assoc g.used a.used rest)
+          (ap (λ i. behind i (g.used ++ (a.used ++ rest))) (longer (length g.done) k _ (length_push g.done turn))
+          ∙ g.behind (suc k) (a.used ++ rest) ∙ behind_whole k (a.used ++ rest) a.event rest (a.whole rest));
+    }
   where
     longer : (d n k : ℕ) → k ≡ d + 1 → k + n ≡ d + suc n
     longer d n k e = omega arith
@@ -94,119 +134,136 @@ given_is old new used u e = sym (ap (λ t. t ++ u.given) e) ∙ u.bytes
 taken_is : (old new : Place) (used : List ℕ) (u : Uses old used new) → old.ahead ≡ [] → Consumes old.left new.left (used ++ new.ahead)
 taken_is old new used u e = subst (λ (t : List ℕ). Consumes old.left new.left t) (given_is old new used u e) u.source
 
+abbrev around : Place → HostState → List (List ℕ) → Surroundings
+around p hosts ran = surroundings p.left p.written ran hosts
+
 -- the rest of the script has no request
-closes : (most turns : ℕ) (files : Files) (old mid new : Place) (stop : Stop) (used : List ℕ) (ending : Ending)
-    → old.ahead ≡ [] → Going most turns files old mid → Uses mid used new → Appends mid.written new.written []
-    → script turns (used ++ new.ahead) ≡ record { events = []; ending = ending }
-    → EndsIn stop ending new.left → ((all : List (List ℕ)) (taken out : List ℕ) → out ≡ text all → Wrote stop all taken out)
-    → Served most stop old.left new.left old.written new.written
-closes most turns files old mid new stop used ending e g u a s ends wrote =
-    let nothing : g.done ++ replies files (script turns (used ++ new.ahead)).events [] ≡ g.done =
-    ap (λ (t : Script). g.done ++ replies files t.events []) s ∙ ap (λ t. g.done ++ t) (no_replies files []) ∙ append-nil g.done in
-    let whole : replies empty (script most ((g.used ++ used) ++ new.ahead)).events (g.marks ++ []) ≡ g.done =
+closes : (setting : Setting) (most n : ℕ) (hosts : HostState) (ran : List (List ℕ)) (s t : Standing) (old mid new : Place) (stop : Stop) (used : List ℕ) (ending : Ending)
+    → old.ahead ≡ [] → Going setting most n hosts ran s old mid → Uses mid used new → Appends mid.written new.written [] → Rests s t
+    → script n (used ++ new.ahead) ≡ record { events = []; ending = ending }
+    → EndsIn stop ending new.left → ((all : List Turn) (taken out : List ℕ) (from to : Surroundings) → Did all out from to → DidBy stop all taken out from to)
+    → Served setting most stop (around old hosts ran) (around new t.hosts t.ran)
+closes setting most n hosts ran s t old mid new stop used ending e g u a r is ends did =
+    let nothing : g.done ++ turns setting (held s.folder s.hosts) (script n (used ++ new.ahead)).events [] ≡ g.done =
+    ap (λ (x : Script). g.done ++ turns setting (held s.folder s.hosts) x.events []) is ∙ ap (λ x. g.done ++ x) (no_turns setting (held s.folder s.hosts) []) ∙ append-nil g.done in
+    let whole : turns setting (held empty hosts) (script most ((g.used ++ used) ++ new.ahead)).events (g.marks ++ []) ≡ g.done =
     rw (append_assoc g.used used new.ahead) (g.all (used ++ new.ahead) [] ∙ nothing) in
+    let done : Did (turns setting (held empty hosts) (script most ((g.used ++ used) ++ new.ahead)).events (g.marks ++ [])) (text g.done ++ []) (around old hosts ran) (around new t.hosts t.ran) = record {
+      written = append-nil (text g.done) ∙ ap text (sym whole);
+      ran = r.ran ∙ g.runs ∙ ap (λ x. ran ++ ran_in x) (sym whole);
+      hosts = r.hosts ∙ g.hosted ∙ ap (hosts_after hosts) (sym whole);
+    } in
     record {
       taken = (g.used ++ used) ++ new.ahead;
       marks = g.marks ++ [];
       out = text g.done ++ [];
       source = taken_is old new (g.used ++ used) (reads_on _ _ _ _ _ _ _ _ g.uses u) e;
       sink = appends_on _ _ _ (text g.done) [] g.sends a;
-      ending = rw (append_assoc g.used used new.ahead, g.ending (used ++ new.ahead), s) ends;
-      replies = wrote _ _ _ (append-nil (text g.done) ∙ ap text (sym whole));
+      ending = rw (append_assoc g.used used new.ahead, g.ending (used ++ new.ahead), is) ends;
+      did = did _ _ _ _ _ done;
     }
 
 -- want of memory: what was answered stays whole
-forgets : (most turns : ℕ) (files : Files) (old mid new : Place) (used : List ℕ)
-    → old.ahead ≡ [] → Going most turns files old mid → Uses mid used new → Appends mid.written new.written [] → Served most Memory old.left new.left old.written new.written
-forgets most turns files old mid new used e g u a = record {
+forgets : (setting : Setting) (most n : ℕ) (hosts : HostState) (ran : List (List ℕ)) (s t : Standing) (old mid new : Place) (used : List ℕ)
+    → old.ahead ≡ [] → Going setting most n hosts ran s old mid → Uses mid used new → Appends mid.written new.written [] → Rests s t
+    → Served setting most Memory (around old hosts ran) (around new t.hosts t.ran)
+forgets setting most n hosts ran s t old mid new used e g u a r = record {
   taken = (g.used ++ used) ++ new.ahead;
   marks = g.marks ++ [];
   out = text g.done ++ [];
   source = taken_is old new (g.used ++ used) (reads_on _ _ _ _ _ _ _ _ g.uses u) e;
   sink = appends_on _ _ _ (text g.done) [] g.sends a;
   ending = tt;
-  replies = (
+  did = (
     g.done,
-    replies files (script turns (used ++ new.ahead)).events [],
+    turns setting (held s.folder s.hosts) (script n (used ++ new.ahead)).events [],
     rw (append_assoc g.used used new.ahead) (g.all (used ++ new.ahead) []),
-    append-nil (text g.done),
+    record { written = append-nil (text g.done); ran = r.ran ∙ g.runs; hosts = r.hosts ∙ g.hosted },
   );
 }
 
-breaks_off : (most turns : ℕ) (files : Files) (old mid new : Place)
-    → old.ahead ≡ [] → Going most (suc turns) files old mid → Breaks mid files new → Served most SinkFailed old.left new.left old.written new.written
-breaks_off most turns files old mid new e g b = record {
-  taken = (g.used ++ b.used) ++ new.ahead;
-  marks = g.marks ++ (b.says.marks ++ []);
-  out = text g.done ++ b.says.front;
-  source = taken_is old new (g.used ++ b.used) (reads_on _ _ _ _ _ _ _ _ g.uses b.uses) e;
-  sink = appends_on _ _ _ (text g.done) b.says.front g.sends b.says.sends;
-  ending = tt;
-  replies = record {
-    whole = g.done;
-    reply = b.says.reply;
-    later = replies b.says.after (script turns new.ahead).events [];
-    front = b.says.front;
-    back = b.says.back;
-    order = rw (append_assoc g.used b.used new.ahead)
-        (g.all (b.used ++ new.ahead) (b.says.marks ++ [])
-        ∙ ap (λ t. g.done ++ t) (ap (λ (s : Script). replies files s.events (b.says.marks ++ [])) (script_whole turns (b.used ++ new.ahead) b.event new.ahead (b.whole new.ahead))
-        ∙ b.says.replies (script turns new.ahead).events []));
-    parts = b.says.parts;
-    written = refl;
-    near = rw (append_assoc g.used b.used new.ahead, g.behind 1 (b.used ++ new.ahead), behind_whole 0 (b.used ++ new.ahead) b.event new.ahead (b.whole new.ahead), behind_none new.ahead) b.near;
-  };
-}
+breaks_off : (setting : Setting) (most n : ℕ) (hosts : HostState) (ran : List (List ℕ)) (s t : Standing) (old mid new : Place)
+    → old.ahead ≡ [] → Going setting most (suc n) hosts ran s old mid → Breaks setting mid s new t → Served setting most SinkFailed (around old hosts ran) (around new t.hosts t.ran)
+breaks_off setting most n hosts ran s t old mid new e g b =
+    let turn : Turn = turn_of setting (held s.folder s.hosts) b.event b.says.mark in record {
+      taken = (g.used ++ b.used) ++ new.ahead;
+      marks = g.marks ++ b.says.mark ∷ [];
+      out = text g.done ++ b.says.front;
+      source = taken_is old new (g.used ++ b.used) (reads_on _ _ _ _ _ _ _ _ g.uses b.uses) e;
+      sink = appends_on _ _ _ (text g.done) b.says.front g.sends b.says.sends;
+      ending = tt;
+      did = record {
+        whole = g.done;
+        broken = turn;
+        later = turns setting turn.held (script n new.ahead).events [];
+        front = b.says.front;
+        back = b.says.back;
+        order = rw (append_assoc g.used b.used new.ahead)
+            (g.all (b.used ++ new.ahead) (b.says.mark ∷ [])
+            ∙ ap (λ x. g.done ++ x) (turns_on setting n (held s.folder s.hosts) b.event b.says.mark [] b.used new.ahead (b.whole new.ahead)));
+        parts = b.says.parts;
+        written = refl;
+        ran = ran_more ran g.done turn s.ran t.ran g.runs b.says.runs;
+        hosts = b.says.hosts;
+        near = rw (append_assoc g.used b.used new.ahead, g.behind 1 (b.used ++ new.ahead), behind_whole 0 (b.used ++ new.ahead) b.event new.ahead (b.whole new.ahead), behind_none new.ahead) b.near;
+      };
+    }
 
 drained : (used ahead : List ℕ) → ahead ≡ [] → used ++ ahead ≡ used
 drained used ahead e = ap (λ t. used ++ t) e ∙ append-nil used
 
-pub turn_ends : (most turns : ℕ) (files : Files) (old mid new : Place) (stop : Stop)
-    → old.ahead ≡ [] → Going most (suc turns) files old mid → TurnEnds stop mid files new → Served most stop old.left new.left old.written new.written
-turn_ends most turns files old mid new Ended e g t =
-    closes most (suc turns) files old mid new Ended t.0 End e g t.1 t.3 (script_next turns (t.0 ++ new.ahead) Closing (t.2 new.ahead)) refl (λ all taken out w. w)
-turn_ends most turns files old mid new Wrong e g t =
-    closes most (suc turns) files old mid new Wrong t.0 Bad e g t.1 t.3 (script_next turns (t.0 ++ new.ahead) NoRequest (t.2 new.ahead)) refl (λ all taken out w. w)
-turn_ends most turns files old mid new CutOff e g t =
-    let d = t.0 in
-    closes most (suc turns) files old mid new CutOff d.0 Cut e g d.1 d.4 (script_next turns (d.0 ++ new.ahead) Short (ap next (drained d.0 new.ahead d.3) ∙ d.2)) (refl, t.1) (λ all taken out w. w)
-turn_ends most turns files old mid new SourceFailed e g d =
-    closes most (suc turns) files old mid new SourceFailed d.0 Cut e g d.1 d.4 (script_next turns (d.0 ++ new.ahead) Short (ap next (drained d.0 new.ahead d.3) ∙ d.2)) refl (λ all taken out w. w)
-turn_ends most turns files old mid new SinkFailed e g b = breaks_off most turns files old mid new e g b
-turn_ends most turns files old mid new Memory e g t = forgets most (suc turns) files old mid new t.0 e g t.1 t.2
-turn_ends most turns files old mid new Over_stop e g t = absurd t
+pub turn_ends : (setting : Setting) (most n : ℕ) (hosts : HostState) (ran : List (List ℕ)) (s t : Standing) (old mid new : Place) (stop : Stop)
+    → old.ahead ≡ [] → Going setting most (suc n) hosts ran s old mid → TurnEnds setting stop mid s new t → Served setting most stop (around old hosts ran) (around new t.hosts t.ran)
+turn_ends setting most n hosts ran s t old mid new Ended e g x =
+    let d = x.0 in
+    closes setting most (suc n) hosts ran s t old mid new Ended d.0 End e g d.1 d.3 x.1 (script_next n (d.0 ++ new.ahead) Closing (d.2 new.ahead)) refl (λ all taken out from to w. w)
+turn_ends setting most n hosts ran s t old mid new Wrong e g x =
+    let d = x.0 in
+    closes setting most (suc n) hosts ran s t old mid new Wrong d.0 Bad e g d.1 d.3 x.1 (script_next n (d.0 ++ new.ahead) NoRequest (d.2 new.ahead)) refl (λ all taken out from to w. w)
+turn_ends setting most n hosts ran s t old mid new CutOff e g x =
+    let d = x.0 in
+    closes setting most (suc n) hosts ran s t old mid new CutOff d.0 Cut e g d.1 d.4 x.2 (script_next n (d.0 ++ new.ahead) Short (ap next (drained d.0 new.ahead d.3) ∙ d.2)) (refl, x.1) (λ all taken out from to w. w)
+turn_ends setting most n hosts ran s t old mid new SourceFailed e g x =
+    let d = x.0 in
+    closes setting most (suc n) hosts ran s t old mid new SourceFailed d.0 Cut e g d.1 d.4 x.1 (script_next n (d.0 ++ new.ahead) Short (ap next (drained d.0 new.ahead d.3) ∙ d.2)) refl (λ all taken out from to w. w)
+turn_ends setting most n hosts ran s t old mid new SinkFailed e g b = breaks_off setting most n hosts ran s t old mid new e g b
+turn_ends setting most n hosts ran s t old mid new Memory e g x = let d = x.0 in forgets setting most (suc n) hosts ran s t old mid new d.0 e g d.1 d.2 x.1
+turn_ends setting most n hosts ran s t old mid new Over_stop e g x = absurd x
 
-pub last_ends : (most : ℕ) (files : Files) (old mid new : Place) (stop : Stop)
-    → old.ahead ≡ [] → Going most zero files old mid → LastEnds stop mid new → Served most stop old.left new.left old.written new.written
-last_ends most files old mid new Ended e g t =
-    closes most zero files old mid new Ended t.0 End e g t.1 t.3 (script_last (t.0 ++ new.ahead) End (t.2 new.ahead)) refl (λ all taken out w. w)
-last_ends most files old mid new Wrong e g t =
-    closes most zero files old mid new Wrong t.0 Bad e g t.1 t.3 (script_last (t.0 ++ new.ahead) Bad (t.2 new.ahead)) refl (λ all taken out w. w)
-last_ends most files old mid new CutOff e g t =
+pub last_ends : (setting : Setting) (most : ℕ) (hosts : HostState) (ran : List (List ℕ)) (s : Standing) (old mid new : Place) (stop : Stop)
+    → old.ahead ≡ [] → Going setting most zero hosts ran s old mid → LastEnds stop mid new → Served setting most stop (around old hosts ran) (around new s.hosts s.ran)
+last_ends setting most hosts ran s old mid new Ended e g t =
+    closes setting most zero hosts ran s s old mid new Ended t.0 End e g t.1 t.3 (at_rest s) (script_last (t.0 ++ new.ahead) End (t.2 new.ahead)) refl (λ all taken out from to w. w)
+last_ends setting most hosts ran s old mid new Wrong e g t =
+    closes setting most zero hosts ran s s old mid new Wrong t.0 Bad e g t.1 t.3 (at_rest s) (script_last (t.0 ++ new.ahead) Bad (t.2 new.ahead)) refl (λ all taken out from to w. w)
+last_ends setting most hosts ran s old mid new CutOff e g t =
     let d = t.0 in
-    closes most zero files old mid new CutOff d.0 Cut e g d.1 d.4 (script_last (d.0 ++ new.ahead) Cut (ap last (drained d.0 new.ahead d.3) ∙ d.2)) (refl, t.1) (λ all taken out w. w)
-last_ends most files old mid new SourceFailed e g d =
-    closes most zero files old mid new SourceFailed d.0 Cut e g d.1 d.4 (script_last (d.0 ++ new.ahead) Cut (ap last (drained d.0 new.ahead d.3) ∙ d.2)) refl (λ all taken out w. w)
-last_ends most files old mid new SinkFailed e g t = absurd t
-last_ends most files old mid new Memory e g t = forgets most zero files old mid new t.0 e g t.1 t.2
-last_ends most files old mid new Over_stop e g t =
-    closes most zero files old mid new Over_stop t.0 Over e g t.1 t.3 (script_last (t.0 ++ new.ahead) Over (t.2 new.ahead)) refl (λ all taken out w. w)
+    closes setting most zero hosts ran s s old mid new CutOff d.0 Cut e g d.1 d.4 (at_rest s) (script_last (d.0 ++ new.ahead) Cut (ap last (drained d.0 new.ahead d.3) ∙ d.2)) (refl, t.1) (λ all taken out from to w. w)
+last_ends setting most hosts ran s old mid new SourceFailed e g d =
+    closes setting most zero hosts ran s s old mid new SourceFailed d.0 Cut e g d.1 d.4 (at_rest s) (script_last (d.0 ++ new.ahead) Cut (ap last (drained d.0 new.ahead d.3) ∙ d.2)) refl (λ all taken out from to w. w)
+last_ends setting most hosts ran s old mid new SinkFailed e g t = absurd t
+last_ends setting most hosts ran s old mid new Memory e g t = forgets setting most zero hosts ran s s old mid new t.0 e g t.1 t.2 (at_rest s)
+last_ends setting most hosts ran s old mid new Over_stop e g t =
+    closes setting most zero hosts ran s s old mid new Over_stop t.0 Over e g t.1 t.3 (at_rest s) (script_last (t.0 ++ new.ahead) Over (t.2 new.ahead)) refl (λ all taken out from to w. w)
 
 -- nothing was begun
-pub no_reader : (most : ℕ) (left written : Option (List ℕ)) → Served most Memory left left written written
-no_reader most left written = forgets most most empty (place [] left written) (place [] left written) (place [] left written) [] refl (going_start most (place [] left written)) (reads_none _ _) (appends_none _)
+pub no_reader : (setting : Setting) (most : ℕ) (left written : Option (List ℕ)) (ran : List (List ℕ)) (hosts : HostState)
+    → Served setting most Memory (surroundings left written ran hosts) (surroundings left written ran hosts)
+no_reader setting most left written ran hosts =
+    forgets setting most most hosts ran (standing empty hosts ran) (standing empty hosts ran) (place [] left written) (place [] left written) (place [] left written) [] refl
+    (going_start setting most hosts ran (place [] left written)) (reads_none _ _) (appends_none _) (at_rest (standing empty hosts ran))
 
-pub going_on_at : (most turns counter : ℕ) (files after : Files) (old mid new : Place) → turns + counter ≡ most → counter < most → Going most turns files old mid → Answers mid files new after
-    → (t : ℕ) × (t + (counter + 1) ≡ most) × Going most t after old new
-going_on_at most zero counter files after old mid new e lt g a = absurd (omega arith)
-going_on_at most (suc t) counter files after old mid new e lt g a = (t, omega arith, going_on most t files after old mid new g a)
+pub going_on_at : (setting : Setting) (most n counter : ℕ) (hosts : HostState) (ran : List (List ℕ)) (s t : Standing) (old mid new : Place) → n + counter ≡ most → counter < most
+    → Going setting most n hosts ran s old mid → Answers setting mid s new t → (k : ℕ) × (k + (counter + 1) ≡ most) × Going setting most k hosts ran t old new
+going_on_at setting most zero counter hosts ran s t old mid new e lt g a = absurd (omega arith)
+going_on_at setting most (suc k) counter hosts ran s t old mid new e lt g a = (k, omega arith, going_on setting most k hosts ran s t old mid new g a)
 
-pub turn_ends_at : (most turns counter : ℕ) (files : Files) (old mid new : Place) (stop : Stop) → turns + counter ≡ most → counter < most
-    → old.ahead ≡ [] → Going most turns files old mid → TurnEnds stop mid files new → Served most stop old.left new.left old.written new.written
-turn_ends_at most zero counter files old mid new stop n lt e g t = absurd (omega arith)
-turn_ends_at most (suc turns) counter files old mid new stop n lt e g t = turn_ends most turns files old mid new stop e g t
+pub turn_ends_at : (setting : Setting) (most n counter : ℕ) (hosts : HostState) (ran : List (List ℕ)) (s t : Standing) (old mid new : Place) (stop : Stop) → n + counter ≡ most → counter < most
+    → old.ahead ≡ [] → Going setting most n hosts ran s old mid → TurnEnds setting stop mid s new t → Served setting most stop (around old hosts ran) (around new t.hosts t.ran)
+turn_ends_at setting most zero counter hosts ran s t old mid new stop is lt e g x = absurd (omega arith)
+turn_ends_at setting most (suc k) counter hosts ran s t old mid new stop is lt e g x = turn_ends setting most k hosts ran s t old mid new stop e g x
 
-pub last_ends_at : (most turns counter : ℕ) (files : Files) (old mid new : Place) (stop : Stop) → turns + counter ≡ most → most ≤ counter
-    → old.ahead ≡ [] → Going most turns files old mid → LastEnds stop mid new → Served most stop old.left new.left old.written new.written
-last_ends_at most zero counter files old mid new stop n le e g t = last_ends most files old mid new stop e g t
-last_ends_at most (suc turns) counter files old mid new stop n le e g t = absurd (omega arith)
+pub last_ends_at : (setting : Setting) (most n counter : ℕ) (hosts : HostState) (ran : List (List ℕ)) (s : Standing) (old mid new : Place) (stop : Stop) → n + counter ≡ most → most ≤ counter
+    → old.ahead ≡ [] → Going setting most n hosts ran s old mid → LastEnds stop mid new → Served setting most stop (around old hosts ran) (around new s.hosts s.ran)
+last_ends_at setting most zero counter hosts ran s old mid new stop is le e g t = last_ends setting most hosts ran s old mid new stop e g t
+last_ends_at setting most (suc k) counter hosts ran s old mid new stop is le e g t = absurd (omega arith)

@@ -1,8 +1,9 @@
 -- A line that was read, and what comes of it.
-use Rattle.std.proofs.Common.{◌≡◌, ℕ, ◌≤◌, List, [], ◌∷◌, ◌++◌, length, None, Some, Ok, Err, OnOk, OnErr, refl, sym, ap, ◌∙◌, append_assoc}
+use Rattle.std.proofs.Common.{◌≡◌, ℕ, ◌≤◌, List, [], ◌∷◌, ◌++◌, length, None, Some, Ok, Err, OnOk, OnErr, refl, sym, ap, ◌∙◌, subst, append_assoc}
 use Rattle.std.specs.declared.option.Option.{Option}
 use Rattle.std.specs.declared.result.Result.{Result}
 use Rattle.std.specs.Io.KnownBytes.{Appends}
+use Rattle.std.proofs.lemmas.List.{append-nil}
 use Rattle.sw_io.specs.declared.stop.ReadStop.{ReadStop}
 use Rattle.sw_io.specs.declared.stop.ReadStop.TheVariants.{TooLong, Ended as Read_Ended, Failed as Read_Failed, Memory as Read_Memory}
 use Rattle.sw_io.specs.Ends.{LineEnds}
@@ -14,21 +15,28 @@ use Rattle.sw_wire.specs.declared.fault.LineFault.TheVariants.{NotARequest, Memo
 use Rattle.sw_wire.specs.declared.request.Request.{Request}
 use Rattle.sw_wire.specs.declared.request.Request.TheVariants.{Put as Put_line, Remove as Remove_line, Compile as Compile_line, End as End_line}
 use Rattle.sw_wire.specs.Requests.{request_of, IsRead}
-use Rattle.sw_wire.specs.Replies.{edit_text}
+use Rattle.sw_wire.specs.Replies.{edit_text, reply_text, memory_text}
+use Rattle.sw_world.specs.Hosts.{HostState}
+use Rattle.sw_modules.specs.Fresh.{Setting}
+use Rattle.sw_keeper.specs.Compile.{Compile as Compiled, compiled, paths_of}
+use Rattle.sw_keeper.specs.Steps.{RanMore}
 use Rattle.sw_session.specs.declared.stop.Stop.{Stop}
 use Rattle.sw_session.specs.declared.stop.Stop.TheVariants.{Ended, Wrong, CutOff, SourceFailed, SinkFailed, Memory, Over as Over_stop}
 use Rattle.sw_session.specs.Script.{Event, Put, Remove, Compile, Next, Whole, next_by_line, next, last, last_by_line}
-use Rattle.sw_session.specs.Transcript.{Mark, marked, compile_text, replies}
+use Rattle.sw_session.specs.Transcript.{Mark, Answered, Refused, Held, held, Turn, told, edit_turn, compile_turn, turn_of}
 use Rattle.sw_session.specs.Status.{stop_of, stop_of_line, last_stop}
-use Rattle.sw_session.specs.Turns.{Place, Uses, Replies, Says, SaysSome, Answers, Breaks, Finds, TurnEnds, LastEnds, PutAnswers, PutStops}
+use Rattle.sw_session.specs.Turns.{Place, Uses, Standing, standing, Rests, Says, SaysSome, Answers, Breaks, Finds, TurnEnds, LastEnds, PutAnswers, PutStops}
 use Rattle.sw_session.proofs.Nexts.{IsLine, next_line, last_line, next_long, next_short, last_long, last_short, put_of, put_whole, put_wrong, put_short}
 
-pub line_stops : (stop : ReadStop) (used : List ℕ) (before now : ℕ) (old new : Place) (files : Files)
-    → Uses old used new → Appends old.written new.written [] → LineEnds stop used new.ahead new.left before now → TurnEnds (stop_of stop) old files new
-line_stops TooLong used before now old new files u a h = (used, u, λ rest. next_long (used ++ rest) (h rest), a)
-line_stops Read_Ended used before now old new files u a h = ((used, u, next_short used h.0, h.1, a), h.2)
-line_stops Read_Failed used before now old new files u a h = (used, u, next_short used h.0, h.1, a)
-line_stops Read_Memory used before now old new files u a h = (used, u, a)
+pub at_rest : (s : Standing) → Rests s s
+at_rest s = record { ran = refl; hosts = refl }
+
+pub line_stops : (setting : Setting) (stop : ReadStop) (used : List ℕ) (before now : ℕ) (old new : Place) (s : Standing)
+    → Uses old used new → Appends old.written new.written [] → LineEnds stop used new.ahead new.left before now → TurnEnds setting (stop_of stop) old s new s
+line_stops setting TooLong used before now old new s u a h = ((used, u, λ rest. next_long (used ++ rest) (h rest), a), at_rest s)
+line_stops setting Read_Ended used before now old new s u a h = ((used, u, next_short used h.0, h.1, a), h.2, at_rest s)
+line_stops setting Read_Failed used before now old new s u a h = ((used, u, next_short used h.0, h.1, a), at_rest s)
+line_stops setting Read_Memory used before now old new s u a h = ((used, u, a), at_rest s)
 
 pub last_stops : (stop : ReadStop) (used : List ℕ) (before now : ℕ) (old new : Place)
     → Uses old used new → Appends old.written new.written [] → LineEnds stop used new.ahead new.left before now → LastEnds (stop_of stop) old new
@@ -47,10 +55,10 @@ pub last_finds : (line : List ℕ) (asked : Option Request) (old new : Place) �
 last_finds line asked old new u a l e = (line ++ 10 ∷ [], u, λ rest. last_line line l rest ∙ ap last_by_line e, a)
 
 -- no request came of the line
-pub request_stops : (fault : LineFault) (line read : List ℕ) (old new : Place) (files : Files) → Uses old (line ++ 10 ∷ []) new → Appends old.written new.written []
-    → IsLine line → read ≡ line → IsRead {T = Request} (Err fault) (request_of read) → TurnEnds (stop_of_line fault) old files new
-request_stops NotARequest line read old new files u a l r e = line_finds line None _ old new u a l (sym (ap request_of r) ∙ e) (λ rest. refl)
-request_stops Line_Memory line read old new files u a l r e = (line ++ 10 ∷ [], u, a)
+pub request_stops : (setting : Setting) (fault : LineFault) (line read : List ℕ) (old new : Place) (s : Standing) → Uses old (line ++ 10 ∷ []) new → Appends old.written new.written []
+    → IsLine line → read ≡ line → IsRead {T = Request} (Err fault) (request_of read) → TurnEnds setting (stop_of_line fault) old s new s
+request_stops setting NotARequest line read old new s u a l r e = (line_finds line None _ old new u a l (sym (ap request_of r) ∙ e) (λ rest. refl), at_rest s)
+request_stops setting Line_Memory line read old new s u a l r e = ((line ++ 10 ∷ [], u, a), at_rest s)
 
 pub last_request_stops : (fault : LineFault) (line read : List ℕ) (old new : Place) → Uses old (line ++ 10 ∷ []) new → Appends old.written new.written []
     → IsLine line → read ≡ line → IsRead {T = Request} (Err fault) (request_of read) → LastEnds (stop_of_line fault) old new
@@ -73,9 +81,9 @@ event_whole : (line : List ℕ) (request : Request) (event : Event) → IsLine l
     → (rest : List ℕ) → next ((line ++ 10 ∷ []) ++ rest) ≡ Whole event rest
 event_whole line request event l e w rest = next_line line l rest ∙ ap (λ s. next_by_line s rest) e ∙ w rest
 
-pub event_answers : (line : List ℕ) (request : Request) (event : Event) (files after : Files) (old new : Place) → Uses old (line ++ 10 ∷ []) new → IsLine line
-    → request_of line ≡ Some request → IsEvent request event → Says event files after old.written new.written → Answers old files new after
-event_answers line request event files after old new u l e w s = record {
+pub event_answers : (setting : Setting) (line : List ℕ) (request : Request) (event : Event) (before after : Standing) (old new : Place) → Uses old (line ++ 10 ∷ []) new → IsLine line
+    → request_of line ≡ Some request → IsEvent request event → Says setting event before after old.written new.written → Answers setting old before new after
+event_answers setting line request event before after old new u l e w s = record {
   used = line ++ 10 ∷ [];
   event = event;
   uses = u;
@@ -83,9 +91,9 @@ event_answers line request event files after old new u l e w s = record {
   says = s;
 }
 
-pub event_breaks : (line : List ℕ) (request : Request) (event : Event) (files : Files) (old new : Place) → Uses old (line ++ 10 ∷ []) new → IsLine line
-    → request_of line ≡ Some request → IsEvent request event → SaysSome event files old.written new.written → length new.ahead ≤ 4096 → Breaks old files new
-event_breaks line request event files old new u l e w s near = record {
+pub event_breaks : (setting : Setting) (line : List ℕ) (request : Request) (event : Event) (before after : Standing) (old new : Place) → Uses old (line ++ 10 ∷ []) new → IsLine line
+    → request_of line ≡ Some request → IsEvent request event → SaysSome setting event before after old.written new.written → length new.ahead ≤ 4096 → Breaks setting old before new after
+event_breaks setting line request event before after old new u l e w s near = record {
   used = line ++ 10 ∷ [];
   event = event;
   uses = u;
@@ -94,66 +102,90 @@ event_breaks line request event files old new u l e w s near = record {
   near = near;
 }
 
-replies_compile : (files : Files) (entry : List ℕ) (paths : List (List ℕ)) (mark : Mark)
-    → Replies files (Compile entry paths) (mark ∷ []) (marked mark (compile_text files entry paths)) files
-unfolding replies
-replies_compile files entry paths mark = λ events later. refl
+compile_is : (setting : Setting) (h : Held) (entry : List ℕ) (paths : List (List ℕ)) (mark : Mark) → turn_of setting h (Compile entry paths) mark ≡ compile_turn setting h entry paths mark
+unfolding turn_of
+compile_is setting h entry paths mark = refl
 
-replies_removal : (files : Files) (path : List ℕ) → Replies files (Remove path) [] (edit_text (after_removal path files)) (folder_after (after_removal path files) files)
-unfolding replies
-replies_removal files path = λ events later. refl
+removal_is : (setting : Setting) (h : Held) (path : List ℕ) → turn_of setting h (Remove path) Answered ≡ edit_turn h (after_removal path h.folder)
+unfolding turn_of
+removal_is setting h path = refl
 
-replies_put : (files : Files) (path bytes : List ℕ) → Replies files (Put path bytes) [] (edit_text (after_put path bytes files)) (folder_after (after_put path bytes files) files)
-unfolding replies
-replies_put files path bytes = λ events later. refl
-
-pub compile_says : (files : Files) (entry : List ℕ) (paths : List (List ℕ)) (mark : Mark) (reply : List ℕ) (written now : Option (List ℕ))
-    → reply ≡ marked mark (compile_text files entry paths) → Appends written now reply → Says (Compile entry paths) files files written now
-compile_says files entry paths mark reply written now e a = record {
-  marks = mark ∷ [];
-  reply = reply;
-  replies = rw e (replies_compile files entry paths mark);
-  sends = a;
-}
+put_is : (setting : Setting) (h : Held) (path bytes : List ℕ) → turn_of setting h (Put path bytes) Answered ≡ edit_turn h (after_put path bytes h.folder)
+unfolding turn_of
+put_is setting h path bytes = refl
 
 -- a front of a reply was written
 abbrev pub SendsSome : List ℕ → Option (List ℕ) → Option (List ℕ) → Type 0
 SendsSome reply written now = (front : List ℕ) × (back : List ℕ) × (reply ≡ front ++ back) × Appends written now front
 
-pub compile_says_some : (files : Files) (entry : List ℕ) (paths : List (List ℕ)) (mark : Mark) (reply : List ℕ) (written now : Option (List ℕ))
-    → reply ≡ marked mark (compile_text files entry paths) → SendsSome reply written now → SaysSome (Compile entry paths) files written now
-compile_says_some files entry paths mark reply written now e s = record {
-  marks = mark ∷ [];
-  reply = marked mark (compile_text files entry paths);
-  after = files;
+-- a request was carried out as this turn
+says : (setting : Setting) (event : Event) (mark : Mark) (before after : Standing) (t : Turn) (reply : List ℕ) (written now : Option (List ℕ))
+    → turn_of setting (held before.folder before.hosts) event mark ≡ t → held after.folder after.hosts ≡ t.held → after.ran ≡ before.ran ++ t.ran
+    → reply ≡ t.reply → Appends written now reply → Says setting event before after written now
+says setting event mark before after t reply written now is h r e a = record {
+  mark = mark;
+  holds = h ∙ ap (λ (x : Turn). x.held) (sym is);
+  runs = r ∙ ap (λ (x : Turn). before.ran ++ x.ran) (sym is);
+  sends = subst (λ (x : List ℕ). Appends written now x) (e ∙ ap (λ (x : Turn). x.reply) (sym is)) a;
+}
+
+says_some : (setting : Setting) (event : Event) (mark : Mark) (before after : Standing) (t : Turn) (reply : List ℕ) (written now : Option (List ℕ))
+    → turn_of setting (held before.folder before.hosts) event mark ≡ t → after.hosts ≡ t.held.hosts → after.ran ≡ before.ran ++ t.ran
+    → reply ≡ t.reply → SendsSome reply written now → SaysSome setting event before after written now
+says_some setting event mark before after t reply written now is h r e s = record {
+  mark = mark;
   front = s.0;
   back = s.1;
-  replies = replies_compile files entry paths mark;
-  parts = sym e ∙ s.2;
+  hosts = h ∙ ap (λ (x : Turn). x.held.hosts) (sym is);
+  runs = r ∙ ap (λ (x : Turn). before.ran ++ x.ran) (sym is);
+  parts = ap (λ (x : Turn). x.reply) is ∙ sym e ∙ s.2;
   sends = s.3;
 }
 
-pub removal_says : (files after : Files) (path reply : List ℕ) (written now : Option (List ℕ)) → reply ≡ edit_text (after_removal path files)
-    → after ≡ folder_after (after_removal path files) files → Appends written now reply → Says (Remove path) files after written now
-removal_says files after path reply written now r f a = record {
-  marks = [];
-  reply = reply;
-  replies = rw (r, f) (replies_removal files path);
-  sends = a;
-}
+held_same : (f f' : Files) (h h' : HostState) → f ≡ f' → h ≡ h' → held f h ≡ held f' h'
+held_same f f' h h' a b = ap (λ (x : Files). held x h) a ∙ ap (λ (x : HostState). held f' x) b
 
-pub removal_says_some : (files : Files) (path reply : List ℕ) (written now : Option (List ℕ)) → reply ≡ edit_text (after_removal path files)
-    → SendsSome reply written now → SaysSome (Remove path) files written now
-removal_says_some files path reply written now r s = record {
-  marks = [];
-  reply = edit_text (after_removal path files);
-  after = folder_after (after_removal path files) files;
-  front = s.0;
-  back = s.1;
-  replies = replies_removal files path;
-  parts = sym r ∙ s.2;
-  sends = s.3;
-}
+-- a compile that gave this was answered
+abbrev pub IsCompiled : Compiled → Standing → Standing → List ℕ → Type 0
+IsCompiled c before after reply =
+    (after.folder ≡ before.folder) × (after.hosts ≡ c.hosts) × (after.ran ≡ before.ran ++ paths_of c.runs) × (reply ≡ reply_text (record { outcome = told c.outcome }))
+
+pub compile_says : (setting : Setting) (entry : List ℕ) (paths : List (List ℕ)) (before after : Standing) (reply : List ℕ) (written now : Option (List ℕ))
+    → IsCompiled (compiled setting before.folder paths entry before.hosts) before after reply → Appends written now reply → Says setting (Compile entry paths) before after written now
+compile_says setting entry paths before after reply written now c a =
+    says setting (Compile entry paths) Answered before after (compile_turn setting (held before.folder before.hosts) entry paths Answered) reply written now
+    (compile_is setting (held before.folder before.hosts) entry paths Answered) (held_same _ _ _ _ c.0 c.1) c.2 c.3 a
+
+pub compile_says_some : (setting : Setting) (entry : List ℕ) (paths : List (List ℕ)) (before after : Standing) (reply : List ℕ) (written now : Option (List ℕ))
+    → IsCompiled (compiled setting before.folder paths entry before.hosts) before after reply → SendsSome reply written now → SaysSome setting (Compile entry paths) before after written now
+compile_says_some setting entry paths before after reply written now c s =
+    says_some setting (Compile entry paths) Answered before after (compile_turn setting (held before.folder before.hosts) entry paths Answered) reply written now
+    (compile_is setting (held before.folder before.hosts) entry paths Answered) c.1 c.2 c.3 s
+
+-- a compile was refused for want of memory
+pub refusal_says : (setting : Setting) (entry : List ℕ) (paths : List (List ℕ)) (before after : Standing) (reply : List ℕ) (written now : Option (List ℕ))
+    → after.folder ≡ before.folder → RanMore before.ran after.ran → reply ≡ memory_text → Appends written now reply → Says setting (Compile entry paths) before after written now
+refusal_says setting entry paths before after reply written now f m e a =
+    says setting (Compile entry paths) (Refused m.0 after.hosts) before after (compile_turn setting (held before.folder before.hosts) entry paths (Refused m.0 after.hosts)) reply written now
+    (compile_is setting (held before.folder before.hosts) entry paths (Refused m.0 after.hosts)) (held_same _ _ _ _ f refl) m.1 e a
+
+pub refusal_says_some : (setting : Setting) (entry : List ℕ) (paths : List (List ℕ)) (before after : Standing) (reply : List ℕ) (written now : Option (List ℕ))
+    → RanMore before.ran after.ran → reply ≡ memory_text → SendsSome reply written now → SaysSome setting (Compile entry paths) before after written now
+refusal_says_some setting entry paths before after reply written now m e s =
+    says_some setting (Compile entry paths) (Refused m.0 after.hosts) before after (compile_turn setting (held before.folder before.hosts) entry paths (Refused m.0 after.hosts)) reply written now
+    (compile_is setting (held before.folder before.hosts) entry paths (Refused m.0 after.hosts)) refl m.1 e s
+
+pub removal_says : (setting : Setting) (hosts : HostState) (ran : List (List ℕ)) (files after : Files) (path reply : List ℕ) (written now : Option (List ℕ)) → reply ≡ edit_text (after_removal path files)
+    → after ≡ folder_after (after_removal path files) files → Appends written now reply → Says setting (Remove path) (standing files hosts ran) (standing after hosts ran) written now
+removal_says setting hosts ran files after path reply written now r f a =
+    says setting (Remove path) Answered (standing files hosts ran) (standing after hosts ran) (edit_turn (held files hosts) (after_removal path files)) reply written now
+    (removal_is setting (held files hosts) path) (held_same _ _ _ _ f refl) (sym (append-nil ran)) r a
+
+pub removal_says_some : (setting : Setting) (hosts : HostState) (ran : List (List ℕ)) (files after : Files) (path reply : List ℕ) (written now : Option (List ℕ)) → reply ≡ edit_text (after_removal path files)
+    → SendsSome reply written now → SaysSome setting (Remove path) (standing files hosts ran) (standing after hosts ran) written now
+removal_says_some setting hosts ran files after path reply written now r s =
+    says_some setting (Remove path) Answered (standing files hosts ran) (standing after hosts ran) (edit_turn (held files hosts) (after_removal path files)) reply written now
+    (removal_is setting (held files hosts) path) refl (sym (append-nil ran)) r s
 
 pub on_ok : {T E P Q : Type 0} → (r : Result T E) → (P → Q) → OnOk r P → OnOk r Q
 on_ok (Ok x) f p = f p
@@ -172,51 +204,52 @@ put_line_end : (line path : List ℕ) (count : ℕ) → IsLine line → request_
     → next ((line ++ 10 ∷ []) ++ bytes) ≡ put_of path count bytes
 put_line_end line path count l e bytes = next_line line l bytes ∙ ap (λ s. next_by_line s bytes) e
 
-pub put_answers : (line path : List ℕ) (count : ℕ) (old mid new : Place) (files after : Files) → Uses old (line ++ 10 ∷ []) mid → IsLine line
-    → request_of line ≡ Some (Put_line path count) → mid.written ≡ old.written → PutAnswers path count mid files new after → Answers old files new after
-put_answers line path count old mid new files after u l e w p = record {
+pub put_answers : (setting : Setting) (hosts : HostState) (ran : List (List ℕ)) (line path : List ℕ) (count : ℕ) (old mid new : Place) (files after : Files) → Uses old (line ++ 10 ∷ []) mid → IsLine line
+    → request_of line ≡ Some (Put_line path count) → mid.written ≡ old.written → PutAnswers path count mid files new after
+    → Answers setting old (standing files hosts ran) new (standing after hosts ran)
+put_answers setting hosts ran line path count old mid new files after u l e w p = record {
   used = (line ++ 10 ∷ []) ++ (p.bytes ++ 10 ∷ []);
   event = Put path p.bytes;
   uses = reads_on _ _ _ _ _ _ _ _ u p.uses;
   whole = λ rest. put_line line path count l e (p.bytes ++ 10 ∷ []) rest ∙ put_whole path p.bytes count p.long rest;
-  says = record {
-    marks = [];
-    reply = p.reply;
-    replies = rw (p.is, p.folder) (replies_put files path p.bytes);
-    sends = rw (← w) p.sends;
-  };
+  says = says setting (Put path p.bytes) Answered (standing files hosts ran) (standing after hosts ran) (edit_turn (held files hosts) (after_put path p.bytes files)) p.reply old.written new.written
+      (put_is setting (held files hosts) path p.bytes) (held_same _ _ _ _ p.folder refl) (sym (append-nil ran)) p.is
+      (subst (λ (x : Option (List ℕ)). Appends x new.written p.reply) w p.sends);
 }
 
-pub put_ends : (stop : Stop) (line path : List ℕ) (count : ℕ) (old mid new : Place) (files : Files) → Uses old (line ++ 10 ∷ []) mid → IsLine line
-    → request_of line ≡ Some (Put_line path count) → mid.written ≡ old.written → PutStops stop path count mid files new → TurnEnds stop old files new
-put_ends Ended line path count old mid new files u l e w p = absurd p
-put_ends Wrong line path count old mid new files u l e w p =
+pub put_ends : (setting : Setting) (hosts : HostState) (ran : List (List ℕ)) (stop : Stop) (line path : List ℕ) (count : ℕ) (old mid new : Place) (files after : Files) → Uses old (line ++ 10 ∷ []) mid → IsLine line
+    → request_of line ≡ Some (Put_line path count) → mid.written ≡ old.written → PutStops stop path count mid files new
+    → TurnEnds setting stop old (standing files hosts ran) new (standing after hosts ran)
+put_ends setting hosts ran Ended line path count old mid new files after u l e w p = absurd p
+put_ends setting hosts ran Wrong line path count old mid new files after u l e w p =
     let b = p.2 in (
-      (line ++ 10 ∷ []) ++ p.0,
-      reads_on _ _ _ _ _ _ _ _ u p.1,
-      (λ rest. put_line line path count l e p.0 rest ∙ ap (λ t. put_of path count (t ++ rest)) b.2 ∙ put_wrong path b.0 b.1 count b.3 b.4 rest),
-      rw (← w) p.3,
+      (
+        (line ++ 10 ∷ []) ++ p.0,
+        reads_on _ _ _ _ _ _ _ _ u p.1,
+        (λ rest. put_line line path count l e p.0 rest ∙ ap (λ t. put_of path count (t ++ rest)) b.2 ∙ put_wrong path b.0 b.1 count b.3 b.4 rest),
+        rw (← w) p.3,
+      ),
+      record { ran = refl; hosts = refl },
     )
-put_ends CutOff line path count old mid new files u l e w p =
-    (((line ++ 10 ∷ []) ++ p.0, reads_on _ _ _ _ _ _ _ _ u p.1, put_line_end line path count l e p.0 ∙ put_short path p.0 count p.2.0, p.2.1, rw (← w) p.3), p.2.2)
-put_ends SourceFailed line path count old mid new files u l e w p =
-    ((line ++ 10 ∷ []) ++ p.0, reads_on _ _ _ _ _ _ _ _ u p.1, put_line_end line path count l e p.0 ∙ put_short path p.0 count p.2.0, p.2.1, rw (← w) p.3)
-put_ends SinkFailed line path count old mid new files u l e w p = record {
+put_ends setting hosts ran CutOff line path count old mid new files after u l e w p = (
+    ((line ++ 10 ∷ []) ++ p.0, reads_on _ _ _ _ _ _ _ _ u p.1, put_line_end line path count l e p.0 ∙ put_short path p.0 count p.2.0, p.2.1, rw (← w) p.3),
+    p.2.2,
+    record { ran = refl; hosts = refl },
+  )
+put_ends setting hosts ran SourceFailed line path count old mid new files after u l e w p = (
+    ((line ++ 10 ∷ []) ++ p.0, reads_on _ _ _ _ _ _ _ _ u p.1, put_line_end line path count l e p.0 ∙ put_short path p.0 count p.2.0, p.2.1, rw (← w) p.3),
+    record { ran = refl; hosts = refl },
+  )
+put_ends setting hosts ran SinkFailed line path count old mid new files after u l e w p = record {
   used = (line ++ 10 ∷ []) ++ (p.bytes ++ 10 ∷ []);
   event = Put path p.bytes;
   uses = reads_on _ _ _ _ _ _ _ _ u p.uses;
   whole = λ rest. put_line line path count l e (p.bytes ++ 10 ∷ []) rest ∙ put_whole path p.bytes count p.long rest;
-  says = record {
-    marks = [];
-    reply = edit_text (after_put path p.bytes files);
-    after = folder_after (after_put path p.bytes files) files;
-    front = p.front;
-    back = p.back;
-    replies = replies_put files path p.bytes;
-    parts = sym p.is ∙ p.parts;
-    sends = rw (← w) p.sends;
-  };
+  says = says_some setting (Put path p.bytes) Answered (standing files hosts ran) (standing after hosts ran) (edit_turn (held files hosts) (after_put path p.bytes files)) p.reply old.written new.written
+      (put_is setting (held files hosts) path p.bytes) refl (sym (append-nil ran)) p.is
+      (p.front, p.back, p.parts, subst (λ (x : Option (List ℕ)). Appends x new.written p.front) w p.sends);
   near = p.near;
 }
-put_ends Memory line path count old mid new files u l e w p = ((line ++ 10 ∷ []) ++ p.0, reads_on _ _ _ _ _ _ _ _ u p.1, rw (← w) p.2)
-put_ends Over_stop line path count old mid new files u l e w p = absurd p
+put_ends setting hosts ran Memory line path count old mid new files after u l e w p =
+    (((line ++ 10 ∷ []) ++ p.0, reads_on _ _ _ _ _ _ _ _ u p.1, rw (← w) p.2), record { ran = refl; hosts = refl })
+put_ends setting hosts ran Over_stop line path count old mid new files after u l e w p = absurd p

@@ -1,5 +1,4 @@
-pub mod Printed
-pub mod Compiled
+pub mod Sheets
 pub mod Script
 pub mod Transcript
 pub mod Status

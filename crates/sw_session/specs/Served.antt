@@ -2,11 +2,23 @@
 use Rattle.std.specs.Prelude.{◌≡◌, ℕ, ◌+◌, ◌≤◌, List, ◌∷◌, ◌++◌, length, ⊤, Option}
 use Rattle.std.specs.Io.KnownBytes.{Appends, Consumes, IsAtEnd}
 use Rattle.std.specs.FinMap.{empty}
+use Rattle.sw_world.specs.Hosts.{HostState}
+use Rattle.sw_modules.specs.Fresh.{Setting}
 use Rattle.sw_session.specs.declared.stop.Stop.{Stop}
 use Rattle.sw_session.specs.declared.stop.Stop.TheVariants.{Ended, Wrong, CutOff, SourceFailed, SinkFailed, Memory, Over as Over_stop}
 use Rattle.sw_session.specs.Script.{Ending, End, Bad, Over, Cut, script, behind}
-use Rattle.sw_session.specs.Transcript.{Mark, replies, text}
+use Rattle.sw_session.specs.Transcript.{Mark, Turn, held, turns, text, ran_in, hosts_after}
 use Rattle.sw_session.specs.Status.{status_of}
+
+-- what is around a session: the bytes left in the source, those written into the sink, the paths of the bodies that ran, and what the host's functions are
+pub record Surroundings : Type 0 where
+  pub left : Option (List ℕ)
+  pub written : Option (List ℕ)
+  pub ran : List (List ℕ)
+  pub hosts : HostState
+
+abbrev pub surroundings : Option (List ℕ) → Option (List ℕ) → List (List ℕ) → HostState → Surroundings
+surroundings left written ran hosts = record { left = left; written = written; ran = ran; hosts = hosts }
 
 -- how the script of what was taken ends
 abbrev pub EndsIn : Stop → Ending → Option (List ℕ) → Type 0
@@ -18,42 +30,50 @@ EndsIn SinkFailed ending left = ⊤
 EndsIn Memory ending left = ⊤
 EndsIn Over_stop ending left = ending ≡ Over
 
--- whole replies to the first requests were written, and a front of the next one; little was taken past its request
-pub record BreaksOff (all : List (List ℕ)) (taken out : List ℕ) : Type 0 where
-  pub whole : List (List ℕ)
-  pub reply : List ℕ
-  pub later : List (List ℕ)
+-- these turns were carried out: their replies were written, their bodies ran, and the host's functions are as they left them
+pub record Did (done : List Turn) (out : List ℕ) (old new : Surroundings) : Type 0 where
+  pub written : out ≡ text done
+  pub ran : new.ran ≡ old.ran ++ ran_in done
+  pub hosts : new.hosts ≡ hosts_after old.hosts done
+
+-- the first turns were carried out, and the next one too, but only a front of its reply was written; little was taken past its request
+pub record BreaksOff (all : List Turn) (taken out : List ℕ) (old new : Surroundings) : Type 0 where
+  pub whole : List Turn
+  pub broken : Turn
+  pub later : List Turn
   pub front : List ℕ
   pub back : List ℕ
-  pub order : all ≡ whole ++ reply ∷ later
-  pub parts : reply ≡ front ++ back
+  pub order : all ≡ whole ++ broken ∷ later
+  pub parts : broken.reply ≡ front ++ back
   pub written : out ≡ text whole ++ front
+  pub ran : new.ran ≡ old.ran ++ (ran_in whole ++ broken.ran)
+  pub hosts : new.hosts ≡ broken.held.hosts
   pub near : length (behind (length whole + 1) taken) ≤ 4096
 
--- whole replies to the first requests were written
-abbrev pub WritesSome : List (List ℕ) → List ℕ → Type 0
-WritesSome all out = (whole : List (List ℕ)) × (later : List (List ℕ)) × (all ≡ whole ++ later) × (out ≡ text whole)
+-- the first turns were carried out
+abbrev pub DidSome : List Turn → List ℕ → Surroundings → Surroundings → Type 0
+DidSome all out old new = (whole : List Turn) × (later : List Turn) × (all ≡ whole ++ later) × Did whole out old new
 
--- what was written, of all replies
-abbrev pub Wrote : Stop → List (List ℕ) → List ℕ → List ℕ → Type 0
-Wrote Ended all taken out = out ≡ text all
-Wrote Wrong all taken out = out ≡ text all
-Wrote CutOff all taken out = out ≡ text all
-Wrote SourceFailed all taken out = out ≡ text all
-Wrote SinkFailed all taken out = BreaksOff all taken out
-Wrote Memory all taken out = WritesSome all out
-Wrote Over_stop all taken out = out ≡ text all
+-- what was done, of all turns
+abbrev pub DidBy : Stop → List Turn → List ℕ → List ℕ → Surroundings → Surroundings → Type 0
+DidBy Ended all taken out old new = Did all out old new
+DidBy Wrong all taken out old new = Did all out old new
+DidBy CutOff all taken out old new = Did all out old new
+DidBy SourceFailed all taken out old new = Did all out old new
+DidBy SinkFailed all taken out old new = BreaksOff all taken out old new
+DidBy Memory all taken out old new = DidSome all out old new
+DidBy Over_stop all taken out old new = Did all out old new
 
--- the source gave some bytes; their script ends as the stop says, and its replies over an empty folder are what was written
-pub record Served (most : ℕ) (stop : Stop) (left left_now written written_now : Option (List ℕ)) : Type 0 where
+-- the source gave some bytes; their script ends as the stop says, and its turns, from an empty folder, are what was done
+pub record Served (setting : Setting) (most : ℕ) (stop : Stop) (old new : Surroundings) : Type 0 where
   pub taken : List ℕ
   pub marks : List Mark
   pub out : List ℕ
-  pub source : Consumes left left_now taken
-  pub sink : Appends written written_now out
-  pub ending : EndsIn stop (script most taken).ending left_now
-  pub replies : Wrote stop (replies empty (script most taken).events marks) taken out
+  pub source : Consumes old.left new.left taken
+  pub sink : Appends old.written new.written out
+  pub ending : EndsIn stop (script most taken).ending new.left
+  pub did : DidBy stop (turns setting (held empty old.hosts) (script most taken).events marks) taken out old new
 
 -- a session of at most 1,000,000 requests ended with this status
-abbrev pub ServedWith : ℕ → Option (List ℕ) → Option (List ℕ) → Option (List ℕ) → Option (List ℕ) → Type 0
-ServedWith status left left_now written written_now = (stop : Stop) × (status ≡ status_of stop) × Served 1000000 stop left left_now written written_now
+abbrev pub ServedWith : Setting → ℕ → Surroundings → Surroundings → Type 0
+ServedWith setting status old new = (stop : Stop) × (status ≡ status_of stop) × Served setting 1000000 stop old new

@@ -6,10 +6,12 @@ use Rattle.sw_io.specs.Causes.{Rose}
 use Rattle.sw_folder.specs.Files.{Files}
 use Rattle.sw_folder.specs.Edits.{after_put, folder_after}
 use Rattle.sw_wire.specs.Replies.{edit_text}
+use Rattle.sw_world.specs.Hosts.{HostState}
+use Rattle.sw_modules.specs.Fresh.{Setting}
 use Rattle.sw_session.specs.declared.stop.Stop.{Stop}
 use Rattle.sw_session.specs.declared.stop.Stop.TheVariants.{Ended, Wrong, CutOff, SourceFailed, SinkFailed, Memory, Over as Over_stop}
 use Rattle.sw_session.specs.Script.{Event, Whole, Closing, NoRequest, Short, next, End, Bad, Over, Cut, last}
-use Rattle.sw_session.specs.Transcript.{Mark, replies}
+use Rattle.sw_session.specs.Transcript.{Mark, Held, held, turn_of}
 
 -- where a session stands: the bytes taken ahead, those left in the source, and those written
 pub record Place : Type 0 where
@@ -24,44 +26,52 @@ place ahead left written = record { ahead = ahead; left = left; written = writte
 abbrev pub Uses : Place → List ℕ → Place → Type 0
 Uses old used new = Reads old.ahead old.left used new.ahead new.left
 
--- over the first folder this is the reply to the request, and the second folder is left
-abbrev pub Replies : Files → Event → List Mark → List ℕ → Files → Type 0
-Replies old event marks reply new =
-    (events : List Event) (later : List Mark) → replies old (event ∷ events) (marks ++ later) ≡ reply ∷ replies new events later
+-- what a session holds, and the paths of the bodies that ran
+pub record Standing : Type 0 where
+  pub folder : Files
+  pub hosts : HostState
+  pub ran : List (List ℕ)
 
--- the reply to a request was written
-pub record Says (event : Event) (before after : Files) (written written_now : Option (List ℕ)) : Type 0 where
-  pub marks : List Mark
-  pub reply : List ℕ
-  pub replies : Replies before event marks reply after
-  pub sends : Appends written written_now reply
+abbrev pub standing : Files → HostState → List (List ℕ) → Standing
+standing folder hosts ran = record { folder = folder; hosts = hosts; ran = ran }
 
--- a front of the reply to a request was written
-pub record SaysSome (event : Event) (before : Files) (written written_now : Option (List ℕ)) : Type 0 where
-  pub marks : List Mark
-  pub reply : List ℕ
-  pub after : Files
+-- no body ran, and the host's functions are as before
+pub record Rests (before after : Standing) : Type 0 where
+  pub ran : after.ran ≡ before.ran
+  pub hosts : after.hosts ≡ before.hosts
+
+-- a request was carried out, and its reply was written
+pub record Says (setting : Setting) (event : Event) (before after : Standing) (written written_now : Option (List ℕ)) : Type 0 where
+  pub mark : Mark
+  pub holds : held after.folder after.hosts ≡ (turn_of setting (held before.folder before.hosts) event mark).held
+  pub runs : after.ran ≡ before.ran ++ (turn_of setting (held before.folder before.hosts) event mark).ran
+  pub sends : Appends written written_now (turn_of setting (held before.folder before.hosts) event mark).reply
+
+-- a request was carried out, and a front of its reply was written
+pub record SaysSome (setting : Setting) (event : Event) (before after : Standing) (written written_now : Option (List ℕ)) : Type 0 where
+  pub mark : Mark
   pub front : List ℕ
   pub back : List ℕ
-  pub replies : Replies before event marks reply after
-  pub parts : reply ≡ front ++ back
+  pub hosts : after.hosts ≡ (turn_of setting (held before.folder before.hosts) event mark).held.hosts
+  pub runs : after.ran ≡ before.ran ++ (turn_of setting (held before.folder before.hosts) event mark).ran
+  pub parts : (turn_of setting (held before.folder before.hosts) event mark).reply ≡ front ++ back
   pub sends : Appends written written_now front
 
--- a request was read and answered
-pub record Answers (old : Place) (before : Files) (new : Place) (after : Files) : Type 0 where
+-- a request was read and carried out, and its reply was written
+pub record Answers (setting : Setting) (old : Place) (before : Standing) (new : Place) (after : Standing) : Type 0 where
   pub used : List ℕ
   pub event : Event
   pub uses : Uses old used new
   pub whole : (rest : List ℕ) → next (used ++ rest) ≡ Whole event rest
-  pub says : Says event before after old.written new.written
+  pub says : Says setting event before after old.written new.written
 
--- a request was read, and a front of its reply was written
-pub record Breaks (old : Place) (before : Files) (new : Place) : Type 0 where
+-- a request was read and carried out, and a front of its reply was written
+pub record Breaks (setting : Setting) (old : Place) (before : Standing) (new : Place) (after : Standing) : Type 0 where
   pub used : List ℕ
   pub event : Event
   pub uses : Uses old used new
   pub whole : (rest : List ℕ) → next (used ++ rest) ≡ Whole event rest
-  pub says : SaysSome event before old.written new.written
+  pub says : SaysSome setting event before after old.written new.written
   pub near : length new.ahead ≤ 4096
 
 -- bytes were used that begin as the definition says, however they go on, and nothing was written
@@ -77,14 +87,14 @@ abbrev pub Forgets : Place → Place → Type 0
 Forgets old new = (used : List ℕ) × Uses old used new × Appends old.written new.written []
 
 -- how a turn ends that doesn't answer its request whole
-abbrev pub TurnEnds : Stop → Place → Files → Place → Type 0
-TurnEnds Ended old files new = Finds next Closing old new
-TurnEnds Wrong old files new = Finds next NoRequest old new
-TurnEnds CutOff old files new = Drains next Short old new × IsAtEnd new.left
-TurnEnds SourceFailed old files new = Drains next Short old new
-TurnEnds SinkFailed old files new = Breaks old files new
-TurnEnds Memory old files new = Forgets old new
-TurnEnds Over_stop old files new = ⊥
+abbrev pub TurnEnds : Setting → Stop → Place → Standing → Place → Standing → Type 0
+TurnEnds setting Ended old before new after = Finds next Closing old new × Rests before after
+TurnEnds setting Wrong old before new after = Finds next NoRequest old new × Rests before after
+TurnEnds setting CutOff old before new after = Drains next Short old new × IsAtEnd new.left × Rests before after
+TurnEnds setting SourceFailed old before new after = Drains next Short old new × Rests before after
+TurnEnds setting SinkFailed old before new after = Breaks setting old before new after
+TurnEnds setting Memory old before new after = Forgets old new × Rests before after
+TurnEnds setting Over_stop old before new after = ⊥
 
 -- how the session ends where no more requests are answered
 abbrev pub LastEnds : Stop → Place → Place → Type 0
@@ -120,7 +130,7 @@ abbrev pub PutEnds : Stop → ℕ → List ℕ → Option (List ℕ) → List �
 PutEnds stop count ahead left ahead_now left_now =
     (used : List ℕ) × Reads ahead left used ahead_now left_now × BodyEnds stop count used ahead_now left_now
 
--- a put was answered
+-- a put was carried out, and its reply was written
 pub record PutAnswers (path : List ℕ) (count : ℕ) (old : Place) (before : Files) (new : Place) (after : Files) : Type 0 where
   pub bytes : List ℕ
   pub uses : Uses old (bytes ++ 10 ∷ []) new
@@ -130,7 +140,7 @@ pub record PutAnswers (path : List ℕ) (count : ℕ) (old : Place) (before : Fi
   pub folder : after ≡ folder_after (after_put path bytes before) before
   pub sends : Appends old.written new.written reply
 
--- a put was judged, and a front of its reply was written
+-- a put was carried out, and a front of its reply was written
 pub record PutBreaks (path : List ℕ) (count : ℕ) (old : Place) (before : Files) (new : Place) : Type 0 where
   pub bytes : List ℕ
   pub uses : Uses old (bytes ++ 10 ∷ []) new

@@ -1,42 +1,52 @@
-// A request is answered: its reply is made, and sent.
-ghost use Rattle.std.specs.Prelude.{IfErr, OnOk, OnErr};
+// A request is carried out: its reply is made, and sent.
+ghost use Rattle.std.specs.Prelude.{List, ℕ, IfErr, OnOk, OnErr};
 ghost use Rattle.sw_io.specs.Causes.{HasCause};
+ghost use Rattle.sw_world.specs.Hosts.{HostState};
+ghost use Rattle.sw_modules.specs.Fresh.{Setting};
 ghost use Rattle.sw_session.specs.Script.{Compile, Remove};
-ghost use Rattle.sw_session.specs.Turns.{place, Says, SaysSome, PutAnswers, PutStops, Causes};
+ghost use Rattle.sw_session.specs.Sheets.{setting_of};
+ghost use Rattle.sw_session.specs.Turns.{place, standing, Says, SaysSome, PutAnswers, PutStops, Causes};
 
 use crate::compiling::compile_text;
 use crate::edits;
 use crate::sending::send;
 use crate::stop::Stop;
 use std::alloc::Global;
-use sw_folder::Folder;
 use sw_io::{Failed, Reader, Sink, Source};
+use sw_keeper::Keeper;
 use sw_text::{List, Memory, Name};
 use sw_wire::memory_reply;
+use sw_world::{Engine, Hosts};
 
-pub fn answer_compile<K: Sink>(
+pub fn answer_compile<K: Sink, E: Engine, H: Hosts>(
     alloc: Global,
-    folder: &Folder,
+    keeper: &mut Keeper,
     entry: &Name,
     paths: &List<Name>,
     sink: &mut K,
+    engine: &mut E,
+    hosts: &mut H,
 ) -> Result<(), Failed>
-    ensures ok { OnOk result (Says (Compile entry.now paths.now) folder.now folder.now (K.written sink.old) (K.written sink.new)) }
-    ensures err { OnErr result (SaysSome (Compile entry.now paths.now) folder.now (K.written sink.old) (K.written sink.new)) }
+    ensures ok { OnOk result (Says (setting_of E.body H.answer H.after) (Compile entry.now paths.now) (standing keeper.old (H.state hosts.old) (E.ran engine.old))
+        (standing keeper.new (H.state hosts.new) (E.ran engine.new)) (K.written sink.old) (K.written sink.new)) }
+    ensures err { OnErr result (SaysSome (setting_of E.body H.answer H.after) (Compile entry.now paths.now) (standing keeper.old (H.state hosts.old) (E.ran engine.old))
+        (standing keeper.new (H.state hosts.new) (E.ran engine.new)) (K.written sink.old) (K.written sink.new)) }
     ensures cause { HasCause (K.faults sink.old) (K.faults sink.new) result }
 {
-    match compile_text(alloc, folder, entry, paths) {
+    match compile_text(alloc, keeper, entry, paths, engine, hosts) {
         Ok(text) => send(sink, &text),
         Err(Memory) => send(sink, memory_reply()),
     }
 }
 
-pub fn answer_removal<K: Sink>(folder: &mut Folder, path: &Name, sink: &mut K) -> Result<(), Failed>
-    ensures ok { OnOk result (Says (Remove path.now) folder.old folder.new (K.written sink.old) (K.written sink.new)) }
-    ensures err { OnErr result (SaysSome (Remove path.now) folder.old (K.written sink.old) (K.written sink.new)) }
+pub fn answer_removal<K: Sink>(keeper: &mut Keeper, path: &Name, sink: &mut K) -> Result<(), Failed>
+    ensures ok { OnOk result ((setting : Setting) (hosts : HostState) (ran : List (List ℕ))
+        → Says setting (Remove path.now) (standing keeper.old hosts ran) (standing keeper.new hosts ran) (K.written sink.old) (K.written sink.new)) }
+    ensures err { OnErr result ((setting : Setting) (hosts : HostState) (ran : List (List ℕ))
+        → SaysSome setting (Remove path.now) (standing keeper.old hosts ran) (standing keeper.new hosts ran) (K.written sink.old) (K.written sink.new)) }
     ensures cause { HasCause (K.faults sink.old) (K.faults sink.new) result }
 {
-    let reply = edits::remove(folder, path.as_str());
+    let reply = edits::remove(keeper, path.as_str());
     send(sink, reply)
 }
 
@@ -45,17 +55,17 @@ pub fn answer_put<S: Source, K: Sink>(
     path: &Name,
     count: u32,
     reader: &mut Reader,
-    folder: &mut Folder,
+    keeper: &mut Keeper,
     source: &mut S,
     sink: &mut K,
 ) -> Result<(), Stop>
-    ensures ok { OnOk result (PutAnswers path.now count (place reader.old (S.left source.old) (K.written sink.old)) folder.old
-        (place reader.new (S.left source.new) (K.written sink.new)) folder.new) }
-    ensures err { IfErr result (λ stop. PutStops stop path.now count (place reader.old (S.left source.old) (K.written sink.old)) folder.old
+    ensures ok { OnOk result (PutAnswers path.now count (place reader.old (S.left source.old) (K.written sink.old)) keeper.old
+        (place reader.new (S.left source.new) (K.written sink.new)) keeper.new) }
+    ensures err { IfErr result (λ stop. PutStops stop path.now count (place reader.old (S.left source.old) (K.written sink.old)) keeper.old
         (place reader.new (S.left source.new) (K.written sink.new))) }
     ensures causes { Causes (S.faults source.old) (S.faults source.new) (K.faults sink.old) (K.faults sink.new) result }
 {
-    let reply = edits::put(alloc, path, count, reader, folder, source)?;
+    let reply = edits::put(alloc, path, count, reader, keeper, source)?;
     match send(sink, reply) {
         Ok(()) => Ok(()),
         Err(Failed) => Err(Stop::SinkFailed),

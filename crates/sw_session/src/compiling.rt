@@ -1,93 +1,57 @@
 // A compile of a file of the folder.
-ghost use Rattle.std.specs.Prelude.{◌≡◌, ◌≤◌, length, IfOk};
-ghost use Rattle.sw_session.specs.Compiled.{answer, file_outcome, sheet_outcome, has_ending, fault_at_start};
-ghost use Rattle.sw_folder.specs.Files.{most_bytes};
+ghost use Rattle.std.specs.Prelude.{◌≡◌, ◌++◌, IfOk, OnOk, OnErr};
+ghost use Rattle.sw_keeper.specs.Compile.{compiled, paths_of};
+ghost use Rattle.sw_keeper.specs.Steps.{RanMore};
 ghost use Rattle.sw_wire.specs.Replies.{reply_text};
+ghost use Rattle.sw_session.specs.Sheets.{setting_of};
+ghost use Rattle.sw_session.specs.Transcript.{told};
 
-use crate::printing::print;
+use crate::reading::SheetReader;
 use std::alloc::Global;
-use sw_folder::Folder;
-use sw_scss_parse::{ReadEnd, read};
-use sw_text::{Fault, FaultCode, List, Memory, Name, Pos, Shared, SheetText, Span};
+use sw_keeper::Keeper;
+use sw_text::{List, Memory, Name};
 use sw_wire::{Outcome, Reply, write_reply};
+use sw_world::{Engine, Hosts};
 
-/// The reply to a compile of this file: the CSS of its text, or the first fault. A file that the folder doesn't hold, or whose
-/// path ends in none of `.scss`, `.sass` and `.css`, is `NotFound` at its first place.
-#[tactic(auto, unfolding(crate::specs::Compiled::answer))]
-pub fn compile(
+/// The bytes of the reply to a compile of this file. After `Memory` the folder is as before, and the engine has told of some
+/// bodies more.
+pub fn compile_text<E: Engine, H: Hosts>(
     alloc: Global,
-    folder: &Folder,
+    keeper: &mut Keeper,
     entry: &Name,
     paths: &List<Name>,
-) -> Result<Reply, Memory>
-    ensures { IfOk result (λ reply. reply ≡ answer folder.now entry.now paths.now) }
-{
-    let _ = paths;
-    let outcome = match folder.text(entry.as_str()) {
-        None => fault_at_start(FaultCode::NotFound, entry)?,
-        Some(text) => compile_file(alloc, entry, text)?,
-    };
-    Ok(Reply { outcome })
-}
-
-fn compile_file(alloc: Global, path: &Name, text: &Name) -> Result<Outcome, Memory>
-    requires { length text.now ≤ most_bytes }
-    ensures { IfOk result (λ outcome. outcome ≡ file_outcome path.now text.now) }
-{
-    if has_ending(path, ".scss") {
-        compile_sheet(alloc, path, text)
-    } else if has_ending(path, ".sass") || has_ending(path, ".css") {
-        fault_at_start(FaultCode::Syntax, path)
-    } else {
-        fault_at_start(FaultCode::NotFound, path)
-    }
-}
-
-fn compile_sheet(alloc: Global, path: &Name, text: &Name) -> Result<Outcome, Memory>
-    requires { length text.now ≤ most_bytes }
-    ensures { IfOk result (λ outcome. outcome ≡ sheet_outcome path.now text.now) }
-{
-    let sheet_text = SheetText::new(alloc, path.share()?, text.share()?)?;
-    let sheet_text = Shared::new(alloc, sheet_text)?;
-    match read(alloc, &sheet_text) {
-        Ok(sheet) => {
-            let css = print(alloc, text.as_str().as_bytes(), sheet.get())?;
-            Ok(Outcome::Css(css))
-        }
-        Err(ReadEnd::Fault(fault)) => Ok(Outcome::Error(fault)),
-        Err(ReadEnd::Memory) => Err(Memory),
-    }
-}
-
-fn has_ending(path: &Name, ending: &str) -> bool
-    ensures { result ≡ has_ending path.now ending.now }
-{
-    path.as_str().as_bytes().ends_with(ending.as_bytes())
-}
-
-fn fault_at_start(code: FaultCode, path: &Name) -> Result<Outcome, Memory>
-    ensures { IfOk result (λ outcome. outcome ≡ fault_at_start code path.now) }
-{
-    let start = Pos { line: 1, column: 1 };
-    let span = Span {
-        file: path.share()?,
-        from: start,
-        to: start,
-    };
-    Ok(Outcome::Error(Fault { code, span }))
-}
-
-/// The bytes of that reply.
-pub fn compile_text(
-    alloc: Global,
-    folder: &Folder,
-    entry: &Name,
-    paths: &List<Name>,
+    engine: &mut E,
+    hosts: &mut H,
 ) -> Result<Vec<u8>, Memory>
-    ensures { IfOk result (λ text. text.items ≡ reply_text (answer folder.now entry.now paths.now)) }
+    ensures text { IfOk result (λ text. text.items ≡ reply_text (record { outcome = told (compiled (setting_of E.body H.answer H.after) keeper.old paths.now entry.now (H.state hosts.old)).outcome })) }
+    ensures hosts { OnOk result (H.state hosts.new ≡ (compiled (setting_of E.body H.answer H.after) keeper.old paths.now entry.now (H.state hosts.old)).hosts) }
+    ensures ran { OnOk result (E.ran engine.new ≡ E.ran engine.old ++ paths_of (compiled (setting_of E.body H.answer H.after) keeper.old paths.now entry.now (H.state hosts.old)).runs) }
+    ensures folder { keeper.new ≡ keeper.old }
+    ensures grew { OnErr result (RanMore (E.ran engine.old) (E.ran engine.new)) }
 {
-    let reply = compile(alloc, folder, entry, paths)?;
+    let reader = SheetReader;
+    let compiled = keeper.compile(&reader, entry, paths.as_slice(), engine, hosts)?;
+    let text = reply_text(alloc, compiled.outcome)?;
+    Ok(text)
+}
+
+fn reply_text(alloc: Global, outcome: sw_keeper::Outcome) -> Result<Vec<u8>, Memory>
+    ensures { IfOk result (λ text. text.items ≡ reply_text (record { outcome = told outcome })) }
+{
+    let reply = Reply {
+        outcome: told(outcome),
+    };
     let mut text = Vec::new(alloc);
     write_reply(alloc, &reply, &mut text)?;
     Ok(text)
+}
+
+// the outcome, as a reply has it
+fn told(outcome: sw_keeper::Outcome) -> Outcome
+    ensures { result ≡ told outcome }
+{
+    match outcome {
+        sw_keeper::Outcome::Css(css) => Outcome::Css(css),
+        sw_keeper::Outcome::Error(fault) => Outcome::Error(fault),
+    }
 }

@@ -7,8 +7,9 @@ ghost use Rattle.sw_session.specs.Turns.{Puts, PutEnds, SourceCause};
 use crate::body::read_body;
 use crate::stop::Stop;
 use std::alloc::Global;
-use sw_folder::{EditFault, Folder, unread_fault};
+use sw_folder::{EditFault, unread_fault};
 use sw_io::{Reader, Source};
+use sw_keeper::Keeper;
 use sw_text::Name;
 use sw_wire::edit_reply;
 
@@ -19,11 +20,11 @@ pub fn put<S: Source>(
     path: &Name,
     count: u32,
     reader: &mut Reader,
-    folder: &mut Folder,
+    keeper: &mut Keeper,
     source: &mut S,
 ) -> Result<&'static [u8], Stop>
-    ensures ok { IfOk result (λ reply. Puts path.now count reader.old (S.left source.old) folder.old
-        reader.new (S.left source.new) folder.new reply.now) }
+    ensures ok { IfOk result (λ reply. Puts path.now count reader.old (S.left source.old) keeper.old
+        reader.new (S.left source.new) keeper.new reply.now) }
     ensures err { IfErr result (λ stop. PutEnds stop count reader.old (S.left source.old) reader.new (S.left source.new)) }
     ensures bound { OnOk result (length reader.new ≤ 4096) }
     ensures cause { SourceCause (S.faults source.old) (S.faults source.new) result }
@@ -36,18 +37,18 @@ pub fn put<S: Source>(
         }
         None => {
             read_body(reader, source, count, true, &mut body)?;
-            keep(folder, path.as_str(), &body)
+            keep(keeper, path.as_str(), &body)
         }
     }
 }
 
 // puts the file into the folder, and gives the reply
-fn keep(folder: &mut Folder, path: &str, body: &[u8]) -> Result<&'static [u8], Stop>
-    ensures reply { IfOk result (λ reply. reply.now ≡ edit_text (after_put path.now body.now folder.old)) }
-    ensures folder { OnOk result (folder.new ≡ folder_after (after_put path.now body.now folder.old) folder.old) }
+fn keep(keeper: &mut Keeper, path: &str, body: &[u8]) -> Result<&'static [u8], Stop>
+    ensures reply { IfOk result (λ reply. reply.now ≡ edit_text (after_put path.now body.now keeper.old)) }
+    ensures folder { OnOk result (keeper.new ≡ folder_after (after_put path.now body.now keeper.old) keeper.old) }
     ensures err { IfErr result (λ stop. stop ≡ Stop.Memory) }
 {
-    match folder.put(path, body) {
+    match keeper.put(path, body) {
         Ok(()) => Ok(edit_reply(Ok(()))),
         Err(EditFault::Memory) => Err(Stop::Memory),
         Err(fault) => Ok(edit_reply(Err(fault))),
@@ -55,11 +56,11 @@ fn keep(folder: &mut Folder, path: &str, body: &[u8]) -> Result<&'static [u8], S
 }
 
 /// Takes a file out of the folder, and gives the reply.
-pub fn remove(folder: &mut Folder, path: &str) -> &'static [u8]
-    ensures reply { result.now ≡ edit_text (after_removal path.now folder.old) }
-    ensures folder { folder.new ≡ folder_after (after_removal path.now folder.old) folder.old }
+pub fn remove(keeper: &mut Keeper, path: &str) -> &'static [u8]
+    ensures reply { result.now ≡ edit_text (after_removal path.now keeper.old) }
+    ensures folder { keeper.new ≡ folder_after (after_removal path.now keeper.old) keeper.old }
 {
-    match folder.remove(path) {
+    match keeper.remove(path) {
         Ok(()) => edit_reply(Ok(())),
         Err(fault) => edit_reply(Err(fault)),
     }

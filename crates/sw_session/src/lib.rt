@@ -1,5 +1,5 @@
 //! A session: reads requests from a source, answers each over a folder, and writes the replies into a sink.
-//! Lines and bytes flow in and become requests; edits go to the folder, compiles ask it; replies flow out.
+//! Lines and bytes flow in and become requests; edits go to the folder, compiles go over it with an engine and the host's functions; replies flow out.
 #![tactic(auto)]
 
 mod answers;
@@ -8,14 +8,14 @@ mod command;
 mod compiling;
 mod edits;
 mod laws;
-mod printing;
+mod reading;
 mod sending;
 mod service;
 mod stop;
 mod turns;
 
 pub use command::run;
-pub use compiling::compile;
 pub use laws::{answers_all, ends_exactly};
+pub use reading::SheetReader;
 pub use service::{serve, serve_within};
 pub use stop::Stop;

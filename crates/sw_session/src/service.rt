@@ -1,60 +1,78 @@
 // The loop of a session.
 ghost use Rattle.std.specs.Prelude.{◌≡◌, []};
 ghost use Rattle.sw_io.specs.Causes.{Rose};
-ghost use Rattle.sw_session.specs.Served.{Served, ServedWith};
+ghost use Rattle.sw_session.specs.Sheets.{setting_of};
+ghost use Rattle.sw_session.specs.Served.{surroundings, Served, ServedWith};
 
 use crate::stop::Stop;
 use crate::turns::{last, turn};
 use std::alloc::Global;
-use sw_folder::Folder;
 use sw_io::{Reader, Sink, Source};
+use sw_keeper::Keeper;
+use sw_world::{Engine, Hosts};
 
 const MOST_REQUESTS: u32 = 1_000_000;
 
 /// Answers the requests of the source until the session ends, and gives the status: 0 after the line `end`; 2 at what is no
 /// request; 3 where the input ends before; 4 and 5 where the source or the sink failed; 6 for want of memory outside a
-/// compile; 9 where a request comes after 1,000,000 that were answered. The sink is flushed after each reply.
-pub fn serve<S: Source, K: Sink>(alloc: Global, source: &mut S, sink: &mut K) -> u8
-    ensures served { ServedWith result (S.left source.old) (S.left source.new) (K.written sink.old) (K.written sink.new) }
+/// compile; 9 where a request comes after 1,000,000 that were answered. Compiles go over the folder with this engine and these
+/// functions of a host. The sink is flushed after each reply.
+pub fn serve<S: Source, K: Sink, E: Engine, H: Hosts>(
+    alloc: Global,
+    source: &mut S,
+    sink: &mut K,
+    engine: &mut E,
+    hosts: &mut H,
+) -> u8
+    ensures served { ServedWith (setting_of E.body H.answer H.after) result (surroundings (S.left source.old) (K.written sink.old) (E.ran engine.old) (H.state hosts.old))
+        (surroundings (S.left source.new) (K.written sink.new) (E.ran engine.new) (H.state hosts.new)) }
     ensures source_fault { result ≡ 4 → Rose (S.faults source.old) (S.faults source.new) }
     ensures sink_fault { result ≡ 5 → Rose (K.faults sink.old) (K.faults sink.new) }
 {
-    serve_within(alloc, MOST_REQUESTS, source, sink).status()
+    serve_within(alloc, MOST_REQUESTS, source, sink, engine, hosts).status()
 }
 
 /// The same with at most so many requests, and tells how the session ended.
-pub fn serve_within<S: Source, K: Sink>(
+pub fn serve_within<S: Source, K: Sink, E: Engine, H: Hosts>(
     alloc: Global,
     most: u32,
     source: &mut S,
     sink: &mut K,
+    engine: &mut E,
+    hosts: &mut H,
 ) -> Stop
-    ensures served { Served most result (S.left source.old) (S.left source.new) (K.written sink.old) (K.written sink.new) }
+    ensures served { Served (setting_of E.body H.answer H.after) most result (surroundings (S.left source.old) (K.written sink.old) (E.ran engine.old) (H.state hosts.old))
+        (surroundings (S.left source.new) (K.written sink.new) (E.ran engine.new) (H.state hosts.new)) }
     ensures source_fault { result ≡ Stop.SourceFailed → Rose (S.faults source.old) (S.faults source.new) }
     ensures sink_fault { result ≡ Stop.SinkFailed → Rose (K.faults sink.old) (K.faults sink.new) }
 {
     match Reader::new(alloc) {
         Err(_) => Stop::Memory,
-        Ok(mut reader) => answer_all(alloc, most, &mut reader, source, sink),
+        Ok(mut reader) => answer_all(alloc, most, &mut reader, source, sink, engine, hosts),
     }
 }
 
-fn answer_all<S: Source, K: Sink>(
+fn answer_all<S: Source, K: Sink, E: Engine, H: Hosts>(
     alloc: Global,
     most: u32,
     reader: &mut Reader,
     source: &mut S,
     sink: &mut K,
+    engine: &mut E,
+    hosts: &mut H,
 ) -> Stop
     requires { reader.old ≡ [] }
-    ensures served { Served most result (S.left source.old) (S.left source.new) (K.written sink.old) (K.written sink.new) }
+    ensures served { Served (setting_of E.body H.answer H.after) most result (surroundings (S.left source.old) (K.written sink.old) (E.ran engine.old) (H.state hosts.old))
+        (surroundings (S.left source.new) (K.written sink.new) (E.ran engine.new) (H.state hosts.new)) }
     ensures source_fault { result ≡ Stop.SourceFailed → Rose (S.faults source.old) (S.faults source.new) }
     ensures sink_fault { result ≡ Stop.SinkFailed → Rose (K.faults sink.old) (K.faults sink.new) }
 {
     let mut line = Vec::new(alloc);
-    let mut folder = Folder::new(alloc);
+    let mut keeper = Keeper::new(alloc);
     'requests: for _ in 0..most {
-        if let Err(stop) = turn(alloc, &mut line, reader, &mut folder, source, sink) {
+        if let Err(stop) = turn(
+            alloc, &mut line, reader, &mut keeper, source, sink, engine, hosts,
+        ) {
             return stop;
         }
     }

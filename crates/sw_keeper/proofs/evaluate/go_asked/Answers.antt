@@ -1,6 +1,7 @@
 use Rattle.sw_keeper.proofs.Parts.{went_on, led_keeps}
 use Rattle.sw_keeper.proofs.Turns.{runs_end}
 use Rattle.sw_keeper.proofs.Loads.{did_opened}
+use Rattle.sw_keeper.proofs.More.{on_err, ran_none}
 use Rattle.sw_keeper.proofs.evaluate.go_asked.Goals as goal
 
 pub returns-clause-went : goal.returns-clause-went
@@ -19,3 +20,6 @@ pub returns-clause-same_hosts : goal.returns-clause-same_hosts
 returns-clause-same_hosts g c =
     let went = c.in_ok-turn.ensures.went in
     led_keeps _ (λ w. w.hosts.ghost_name) (λ w op a t h. h.2) c.args.asked.now went.1 c.go.new.world went.2.led
+
+pub returns-in_err-turn-clause-grew : goal.returns-in_err-turn-clause-grew
+returns-in_err-turn-clause-grew g c = on_err c.from_residual.result (ran_none (g.E.Engine.ran c.args.engine.now) (g.E.Engine.ran c.go.new.self) c.in_err-turn.ensures.ran_same)
