@@ -289,7 +289,7 @@ fn modules(rt: HostRuntime) -> Result<(), Fail> {
             b"ok\nok\nerror 19 main.scss 1:6 1:15\n",
         ),
         (
-            b"put lib.scss 18\n$n: one; $-p: two;\nput main.scss 17\n@use \"sass:math\";\ncompile main.scss\nend\n",
+            b"put lib.scss 18\n$n: one; $-p: two;\nput main.scss 22\n@use \"sass:math\" as m;\ncompile main.scss\nend\n",
             b"ok\nok\nerror 19 main.scss 1:6 1:17\n",
         ),
         (
@@ -324,6 +324,9 @@ fn chains_of_loads(rt: HostRuntime) -> Result<(), Fail> {
     script.extend_from_slice(b"compile f0.scss\ncompile f1.scss\nend\n")?;
     let (status, bytes) = answers(alloc, &script, 4096, &[], &[])?;
     assert_eq!(rt; status, 0);
-    assert_eq!(rt; bytes.ends_with(b"ok\nerror 32 f63.scss 1:6 1:11\ncss 0\n\n"), true);
+    assert_eq!(rt;
+        bytes.ends_with(b"ok\nerror 32 f63.scss 1:6 1:11\ncss 0\n\n"),
+        true
+    );
     Ok(())
 }
