@@ -4,6 +4,8 @@
 mod evaluate;
 mod keeper;
 mod reader;
+#[cfg(test)]
+mod tests;
 
 pub use keeper::{Compiled, Keeper, Outcome};
 pub use reader::Reader;
