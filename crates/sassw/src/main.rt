@@ -8,6 +8,7 @@ mod words;
 
 use crate::words::words;
 use std::process::ExitCode;
+use sw_eval::Evaluator;
 use sw_io::{StdSink, StdSource};
 use sw_session::run;
 
@@ -19,5 +20,12 @@ fn main(rt: HostRuntime) -> ExitCode {
     };
     let mut source = StdSource::new(rt.stdin());
     let mut sink = StdSink::new(rt.stdout());
-    ExitCode::from(run(alloc, words.as_slice(), &mut source, &mut sink))
+    let mut engine = Evaluator::new(alloc);
+    ExitCode::from(run(
+        alloc,
+        words.as_slice(),
+        &mut source,
+        &mut sink,
+        &mut engine,
+    ))
 }

@@ -3,9 +3,11 @@ ghost use Rattle.std.specs.Prelude.{◌≤◌};
 
 use std::alloc::{AllocError, Global};
 use std::test::Fail;
+use sw_eval::Evaluator;
 use sw_io::{MemSink, MemSource, SteadySink, SteadySource};
 use sw_session::{run, serve, serve_within};
 use sw_text::{List, Name};
+use sw_world::NoHosts;
 
 const SHEET: &[u8] = b"put a.scss 11\na { b: c; }\ncompile a.scss\nend\n";
 
@@ -27,7 +29,8 @@ fn answers(
         List::from_vec(reads.to_vec(alloc)?),
     );
     let mut sink = MemSink::new(alloc, most, List::from_vec(writes.to_vec(alloc)?));
-    let status = serve(alloc, &mut source, &mut sink);
+    let mut engine = Evaluator::new(alloc);
+    let status = serve(alloc, &mut source, &mut sink, &mut engine, &mut NoHosts);
     let bytes = sink.bytes().to_vec(alloc)?;
     Ok((status, bytes))
 }
@@ -109,6 +112,39 @@ fn scripts_in_any_pieces(rt: HostRuntime) -> Result<(), Fail> {
 }
 
 #[test]
+fn modules(rt: HostRuntime) -> Result<(), Fail> {
+    let alloc = rt.alloc();
+    let rows: [(&[u8], &[u8]); 5] = [
+        (
+            b"put lib.scss 8\n$n: one;\nput theme.scss 24\n@use \"lib\"; lib.$n: two;\nput main.scss 42\n@use \"lib\"; @use \"theme\"; a { b: lib.$n; }\ncompile main.scss\nend\n",
+            b"ok\nok\nok\ncss 16\na {\n  b: two;\n}\n\n",
+        ),
+        (
+            b"put a.scss 9\n@use \"b\";\nput b.scss 9\n@use \"a\";\ncompile a.scss\nend\n",
+            b"ok\nok\nerror 21 b.scss 1:6 1:9\n",
+        ),
+        (
+            b"put a.scss 15\na { @use \"b\"; }\ncompile a.scss\nend\n",
+            b"ok\nerror 40 a.scss 1:5 1:13\n",
+        ),
+        (
+            b"put x/lib.scss 8\n$n: one;\nput y/_lib.scss 8\n$n: two;\nput main.scss 28\n@use \"lib\"; a { b: lib.$n; }\ncompile main.scss\ncompile main.scss x\ncompile main.scss y x\nend\n",
+            b"ok\nok\nok\nerror 19 main.scss 1:6 1:11\ncss 16\na {\n  b: one;\n}\n\ncss 16\na {\n  b: two;\n}\n\n",
+        ),
+        (
+            b"put lib.scss 8\n$n: one;\nput main.scss 28\n@use \"lib\"; a { b: lib.$n; }\ncompile main.scss\nput lib.scss 7\n$n: be;\ncompile main.scss\nremove lib.scss\ncompile main.scss\nend\n",
+            b"ok\nok\ncss 16\na {\n  b: one;\n}\n\nok\ncss 15\na {\n  b: be;\n}\n\nok\nerror 19 main.scss 1:6 1:11\n",
+        ),
+    ];
+    for row in rows.iter() {
+        let (status, bytes) = answers(alloc, row.0, 4096, &[], &[])?;
+        assert_eq!(rt; bytes.as_slice(), row.1);
+        assert_eq!(rt; status, 0);
+    }
+    Ok(())
+}
+
+#[test]
 fn a_call_fails_at_each_place(rt: HostRuntime) -> Result<(), Fail> {
     let alloc = rt.alloc();
     // Five bytes a read: the put is whole after the sixth, the compile after the ninth, which is the last.
@@ -178,8 +214,9 @@ fn one_request_too_many(rt: HostRuntime) -> Result<(), Fail> {
     ] {
         let mut source = SteadySource::new(List::from_vec(script.to_vec(alloc)?), 4096);
         let mut sink = SteadySink::new(7);
+        let mut engine = Evaluator::new(alloc);
         assert_eq!(rt;
-            serve_within(alloc, 1, &mut source, &mut sink).status(),
+            serve_within(alloc, 1, &mut source, &mut sink, &mut engine, &mut NoHosts).status(),
             status
         );
     }
@@ -205,8 +242,9 @@ fn words_of_the_command_line(rt: HostRuntime) -> Result<(), Fail> {
             List::new(alloc),
         );
         let mut sink = MemSink::new(alloc, 4096, List::new(alloc));
+        let mut engine = Evaluator::new(alloc);
         assert_eq!(rt;
-            run(alloc, &words, &mut source, &mut sink),
+            run(alloc, &words, &mut source, &mut sink, &mut engine),
             status,
             "{line}"
         );
