@@ -21,11 +21,5 @@ fn main(rt: HostRuntime) -> ExitCode {
     let mut source = StdSource::new(rt.stdin());
     let mut sink = StdSink::new(rt.stdout());
     let mut engine = Evaluator::new(alloc);
-    ExitCode::from(run(
-        alloc,
-        words.as_slice(),
-        &mut source,
-        &mut sink,
-        &mut engine,
-    ))
+    ExitCode::from(run(alloc, words.as_slice(), &mut source, &mut sink, &mut engine))
 }

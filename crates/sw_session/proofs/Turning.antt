@@ -232,14 +232,14 @@ put_ends setting hosts ran Wrong line path count old mid new files after u l e w
       record { ran = refl; hosts = refl },
     )
 put_ends setting hosts ran CutOff line path count old mid new files after u l e w p = (
-    ((line ++ 10 ∷ []) ++ p.0, reads_on _ _ _ _ _ _ _ _ u p.1, put_line_end line path count l e p.0 ∙ put_short path p.0 count p.2.0, p.2.1, rw (← w) p.3),
-    p.2.2,
-    record { ran = refl; hosts = refl },
-  )
+  ((line ++ 10 ∷ []) ++ p.0, reads_on _ _ _ _ _ _ _ _ u p.1, put_line_end line path count l e p.0 ∙ put_short path p.0 count p.2.0, p.2.1, rw (← w) p.3),
+  p.2.2,
+  record { ran = refl; hosts = refl },
+)
 put_ends setting hosts ran SourceFailed line path count old mid new files after u l e w p = (
-    ((line ++ 10 ∷ []) ++ p.0, reads_on _ _ _ _ _ _ _ _ u p.1, put_line_end line path count l e p.0 ∙ put_short path p.0 count p.2.0, p.2.1, rw (← w) p.3),
-    record { ran = refl; hosts = refl },
-  )
+  ((line ++ 10 ∷ []) ++ p.0, reads_on _ _ _ _ _ _ _ _ u p.1, put_line_end line path count l e p.0 ∙ put_short path p.0 count p.2.0, p.2.1, rw (← w) p.3),
+  record { ran = refl; hosts = refl },
+)
 put_ends setting hosts ran SinkFailed line path count old mid new files after u l e w p = record {
   used = (line ++ 10 ∷ []) ++ (p.bytes ++ 10 ∷ []);
   event = Put path p.bytes;

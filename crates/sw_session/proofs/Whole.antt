@@ -60,10 +60,10 @@ module _ (setting : Setting) (most : ℕ) (bytes before now : List ℕ) (left : 
       → Exactly most Ended bytes s.taken → AnswersAll setting most bytes s.marks before now ran ran_now hosts hosts_now
   ended_all s (inl broken) = absurd broken
   ended_all s (inr same) = (
-      s.sink ∙ ap (λ t. before ++ t) (s.did.written ∙ ap (λ (t : Script). text (turns setting (held empty hosts) t.events s.marks)) same.1),
-      s.did.ran ∙ ap (λ (t : Script). ran ++ ran_in (turns setting (held empty hosts) t.events s.marks)) same.1,
-      s.did.hosts ∙ ap (λ (t : Script). hosts_after hosts (turns setting (held empty hosts) t.events s.marks)) same.1,
-    )
+    s.sink ∙ ap (λ t. before ++ t) (s.did.written ∙ ap (λ (t : Script). text (turns setting (held empty hosts) t.events s.marks)) same.1),
+    s.did.ran ∙ ap (λ (t : Script). ran ++ ran_in (turns setting (held empty hosts) t.events s.marks)) same.1,
+    s.did.hosts ∙ ap (λ (t : Script). hosts_after hosts (turns setting (held empty hosts) t.events s.marks)) same.1,
+  )
 
   pub all_answered : (stop : Stop) (s : Served setting most stop (surroundings (Some bytes) (Some before) ran hosts) (surroundings left (Some now) ran_now hosts_now)) → (script most bytes).ending ≡ End
       → IsBrokenOff stop ⊎ ((stop ≡ Ended) × AnswersAll setting most bytes s.marks before now ran ran_now hosts hosts_now)

@@ -71,7 +71,14 @@ fn answer_all<S: Source, K: Sink, E: Engine, H: Hosts>(
     let mut keeper = Keeper::new(alloc);
     'requests: for _ in 0..most {
         if let Err(stop) = turn(
-            alloc, &mut line, reader, &mut keeper, source, sink, engine, hosts,
+            alloc,
+            &mut line,
+            reader,
+            &mut keeper,
+            source,
+            sink,
+            engine,
+            hosts,
         ) {
             return stop;
         }

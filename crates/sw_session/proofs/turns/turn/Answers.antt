@@ -23,9 +23,11 @@ returns-in_err-read_request-clause-err g c =
 
 pub returns-in-End-clause-err : goal.returns-in-End-clause-err
 returns-in-End-clause-err g c =
-    let r = c.in_ok-line.ensures.ok in
-    (line_finds c.line.new.line.items (Some End_line) _ _ _ r.0 (appends_none _) r.1
-    (sym (ap request_of c.deref.ensures.value) ∙ c.in_ok-read_request.ensures ∙ ap Some c.in-End.is) (λ rest. refl), at_rest _)
+    let r = c.in_ok-line.ensures.ok in (
+      line_finds c.line.new.line.items (Some End_line) _ _ _ r.0 (appends_none _) r.1
+          (sym (ap request_of c.deref.ensures.value) ∙ c.in_ok-read_request.ensures ∙ ap Some c.in-End.is) (λ rest. refl),
+      at_rest _,
+    )
 
 pub returns-in-Ok-clause-ok : goal.returns-in-Ok-clause-ok
 returns-in-Ok-clause-ok g c =
