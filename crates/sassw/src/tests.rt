@@ -112,39 +112,6 @@ fn scripts_in_any_pieces(rt: HostRuntime) -> Result<(), Fail> {
 }
 
 #[test]
-fn modules(rt: HostRuntime) -> Result<(), Fail> {
-    let alloc = rt.alloc();
-    let rows: [(&[u8], &[u8]); 5] = [
-        (
-            b"put lib.scss 8\n$n: one;\nput theme.scss 24\n@use \"lib\"; lib.$n: two;\nput main.scss 42\n@use \"lib\"; @use \"theme\"; a { b: lib.$n; }\ncompile main.scss\nend\n",
-            b"ok\nok\nok\ncss 16\na {\n  b: two;\n}\n\n",
-        ),
-        (
-            b"put a.scss 9\n@use \"b\";\nput b.scss 9\n@use \"a\";\ncompile a.scss\nend\n",
-            b"ok\nok\nerror 21 b.scss 1:6 1:9\n",
-        ),
-        (
-            b"put a.scss 15\na { @use \"b\"; }\ncompile a.scss\nend\n",
-            b"ok\nerror 40 a.scss 1:5 1:13\n",
-        ),
-        (
-            b"put x/lib.scss 8\n$n: one;\nput y/_lib.scss 8\n$n: two;\nput main.scss 28\n@use \"lib\"; a { b: lib.$n; }\ncompile main.scss\ncompile main.scss x\ncompile main.scss y x\nend\n",
-            b"ok\nok\nok\nerror 19 main.scss 1:6 1:11\ncss 16\na {\n  b: one;\n}\n\ncss 16\na {\n  b: two;\n}\n\n",
-        ),
-        (
-            b"put lib.scss 8\n$n: one;\nput main.scss 28\n@use \"lib\"; a { b: lib.$n; }\ncompile main.scss\nput lib.scss 7\n$n: be;\ncompile main.scss\nremove lib.scss\ncompile main.scss\nend\n",
-            b"ok\nok\ncss 16\na {\n  b: one;\n}\n\nok\ncss 15\na {\n  b: be;\n}\n\nok\nerror 19 main.scss 1:6 1:11\n",
-        ),
-    ];
-    for row in rows.iter() {
-        let (status, bytes) = answers(alloc, row.0, 4096, &[], &[])?;
-        assert_eq!(rt; bytes.as_slice(), row.1);
-        assert_eq!(rt; status, 0);
-    }
-    Ok(())
-}
-
-#[test]
 fn a_call_fails_at_each_place(rt: HostRuntime) -> Result<(), Fail> {
     let alloc = rt.alloc();
     // Five bytes a read: the put is whole after the sixth, the compile after the ninth, which is the last.
