@@ -219,7 +219,11 @@ fn words_of_the_command_line(rt: HostRuntime) -> Result<(), Fail> {
 #[test]
 fn modules(rt: HostRuntime) -> Result<(), Fail> {
     let alloc = rt.alloc();
-    let rows: [(&[u8], &[u8]); 20] = [
+    let rows: [(&[u8], &[u8]); 21] = [
+        (
+            b"put lib.scss 8\n$n: one;\nput other.scss 8\n$n: two;\nput main.scss 68\n@use \"lib\"; @use \"other\"; lib.$n: six; a { b: lib.$n; c: other.$n; }\ncompile main.scss\nend\n",
+            b"ok\nok\nok\ncss 26\na {\n  b: six;\n  c: two;\n}\n\n",
+        ),
         (
             b"put lib.scss 8\n$n: one;\nput theme.scss 24\n@use \"lib\"; lib.$n: two;\nput main.scss 42\n@use \"lib\"; @use \"theme\"; a { b: lib.$n; }\ncompile main.scss\nend\n",
             b"ok\nok\nok\ncss 16\na {\n  b: two;\n}\n\n",

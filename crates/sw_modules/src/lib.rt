@@ -7,8 +7,6 @@ mod loads;
 mod module;
 mod names;
 mod table;
-#[cfg(test)]
-mod tests;
 
 pub use ask::{Asked, comes_by};
 pub use live::{Begin, Enter, Finished, Live};
