@@ -46,40 +46,56 @@ fn gives(
     Ok(())
 }
 
+// The word at a place of a row, where `.` stands for none.
+fn word<'a>(words: &[&'a str], at: usize) -> &'a str {
+    match words.get(at) {
+        Some(word) if *word != "." => word,
+        _ => "",
+    }
+}
+
+// Three words of a row are a number with the units over and under the line.
+fn amount_at(alloc: Global, words: &[&str], at: usize) -> Result<Number, Fail>
+    requires { at < 100 }
+{
+    amount(
+        alloc,
+        word(words, at),
+        word(words, at + 1),
+        word(words, at + 2),
+    )
+}
+
+// A row is two numbers with an operator between, and the answer.
+fn holds(rt: &impl Abort, alloc: Global, row: &str) -> Result<(), Fail> {
+    let words: Vec<&str> = row.split(' ').collect(alloc)?;
+    let left = amount_at(alloc, &words, 0)?;
+    let sign = word(&words, 3).chars().next().unwrap_or('+');
+    let right = amount_at(alloc, &words, 4)?;
+    let answer = amount_at(alloc, &words, 7)?;
+    gives(rt, &left, sign, &right, &answer)
+}
+
 #[test]
 fn operations_take_units_along(rt: HostRuntime) -> Result<(), Fail> {
-    for (
-        left,
-        over,
-        under,
-        sign,
-        right,
-        right_over,
-        right_under,
-        answer,
-        answer_over,
-        answer_under,
-    ) in [
-        ("1", "in", "", '+', "96", "px", "", "2", "in", ""),
-        ("96", "px", "", '+', "1", "in", "", "192", "px", ""),
-        ("1", "in", "", '+', "1", "px", "", "1.0104166667", "in", ""),
-        ("1", "", "", '+', "1", "px", "", "2", "px", ""),
-        ("1", "px", "", '-', "2", "", "", "-1", "px", ""),
-        ("10", "px", "", '%', "3", "", "", "1", "px", ""),
-        ("-7", "", "", '%', "3", "", "", "2", "", ""),
-        ("1", "in", "", '%', "36", "px", "", "0.25", "in", ""),
-        ("2", "px", "", '*', "3", "", "px", "6", "", ""),
-        ("1", "in", "", '/', "96", "px", "", "1", "", ""),
-        ("1", "in", "", '*', "2", "s", "px", "192", "s", ""),
-        ("6", "px", "", '/', "2", "s", "", "3", "px", "s"),
-        ("1", "", "", '/', "4", "s", "", "0.25", "", "s"),
-        ("1", "px", "s", '*', "1", "ms", "", "0.001", "px", ""),
-        ("1", "px", "", '/', "3", "", "", "0.3333333333", "px", ""),
+    for row in [
+        "1 in . + 96 px . 2 in .",
+        "96 px . + 1 in . 192 px .",
+        "1 in . + 1 px . 1.0104166667 in .",
+        "1 . . + 1 px . 2 px .",
+        "1 px . - 2 . . -1 px .",
+        "10 px . % 3 . . 1 px .",
+        "-7 . . % 3 . . 2 . .",
+        "1 in . % 36 px . 0.25 in .",
+        "2 px . * 3 . px 6 . .",
+        "1 in . / 96 px . 1 . .",
+        "1 in . * 2 s px 192 s .",
+        "6 px . / 2 s . 3 px s",
+        "1 . . / 4 s . 0.25 . s",
+        "1 px s * 1 ms . 0.001 px .",
+        "1 px . / 3 . . 0.3333333333 px .",
     ] {
-        let left = amount(rt.alloc(), left, over, under)?;
-        let right = amount(rt.alloc(), right, right_over, right_under)?;
-        let answer = amount(rt.alloc(), answer, answer_over, answer_under)?;
-        gives(&rt, &left, sign, &right, &answer)?;
+        holds(&rt, rt.alloc(), row)?;
     }
     Ok(())
 }
