@@ -1,0 +1,4 @@
+pub mod Attributes
+pub mod Holds
+pub mod Reading
+pub mod Simples
