@@ -4,11 +4,19 @@
 mod attribute;
 mod fault;
 mod holds;
+mod misfits;
+mod nesting;
+mod parents;
+mod prepare;
 mod reader;
 mod selector;
 mod simple;
+mod splice;
 mod turn;
+mod units;
+mod write;
 
 pub use fault::SelectorFault;
+pub use nesting::nest;
 pub use reader::read;
 pub use selector::{Combinator, Complex, Part, Selectors};

@@ -15,7 +15,7 @@ use sw_scan::{Class, begins_name, byte_at, run_end};
 use sw_text::{List, Name, Shared};
 
 // At most so many pseudos with selectors stand in each other.
-const LEVELS: u8 = 128;
+pub(crate) const LEVELS: u8 = 128;
 
 /// The selectors of a text without comments. `BadSelector` comes exactly where the text is none, also where more than 128
 /// pseudos with selectors stand in each other; else `TooLarge` exactly where there are more than 10,000 complex selectors.
