@@ -1,0 +1,4 @@
+pub mod Brackets
+pub mod Bytes
+pub mod Pieces
+pub mod Runs

@@ -1,0 +1,6 @@
+pub mod Attributes
+pub mod Holds
+pub mod Nesting
+pub mod Reading
+pub mod Simples
+pub mod Writing

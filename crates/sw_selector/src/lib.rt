@@ -1,0 +1,22 @@
+//! Selectors: read from a text, nested in each other, written out, and taken apart. Texts flow in from the evaluator; texts flow back.
+#![tactic(auto)]
+
+mod attribute;
+mod fault;
+mod holds;
+mod misfits;
+mod nesting;
+mod parents;
+mod prepare;
+mod reader;
+mod selector;
+mod simple;
+mod splice;
+mod turn;
+mod units;
+mod write;
+
+pub use fault::SelectorFault;
+pub use nesting::nest;
+pub use reader::read;
+pub use selector::{Combinator, Complex, Part, Selectors};

@@ -1,0 +1,197 @@
+// Simple selectors that hold no other selectors.
+ghost use Rattle.std.specs.Prelude.{◌≡◌, ◌<◌, ◌++◌, length, IfOk};
+ghost use Rattle.std.specs.String.{string_bytes};
+ghost use Rattle.sw_scan.specs.Pieces.{piece};
+ghost use Rattle.sw_selector.specs.Simples.{IsRead, text_at, class_at, placeholder_at, type_behind, type_at, attribute_at, parent_at, takes_list, takes_scope, takes_selectors, with_argument, argument_text, raw_by, raw_at, colons_end};
+
+use crate::attribute::{attribute_end, name_end, prefix_end, white};
+use crate::{Part, SelectorFault};
+use std::alloc::Global;
+use sw_scan::{Stops, begins_name, byte_at, piece, stop_at, trimmed_end};
+use sw_text::{Memory, Name};
+
+/// What stands between two places.
+pub fn text_of(alloc: Global, text: &str, from: usize, to: usize) -> Result<Name, Memory>
+    ensures { IfOk result (λ name. name ≡ piece text.now from to) }
+{
+    Name::new(alloc, piece(text, from, to))
+}
+
+#[tactic(auto, unfolding(crate::specs::Simples::text_at))]
+fn text_at(
+    alloc: Global,
+    text: &str,
+    from: usize,
+    at: usize,
+) -> Result<(Name, usize), SelectorFault>
+    ensures { IsRead result (text_at text.now from at) }
+{
+    if !begins_name(text.as_bytes(), at) {
+        return Err(SelectorFault::BadSelector);
+    }
+    let to = name_end(text.as_bytes(), at);
+    let name = text_of(alloc, text, from, to)?;
+    Ok((name, to))
+}
+
+/// A class or an id.
+pub fn class_at(alloc: Global, text: &str, at: usize) -> Result<(Part, usize), SelectorFault>
+    requires { at < length text.now }
+    ensures { IsRead result (class_at text.now at) }
+{
+    let (name, to) = text_at(alloc, text, at, at + 1)?;
+    Ok((Part::Named(name), to))
+}
+
+pub fn placeholder_at(
+    alloc: Global,
+    text: &str,
+    at: usize,
+) -> Result<(Part, usize), SelectorFault>
+    requires { at < length text.now }
+    ensures { IsRead result (placeholder_at text.now at) }
+{
+    let (name, to) = text_at(alloc, text, at, at + 1)?;
+    Ok((Part::Placeholder(name), to))
+}
+
+#[tactic(auto, unfolding(crate::specs::Simples::type_behind))]
+fn type_behind(
+    alloc: Global,
+    text: &str,
+    from: usize,
+    at: usize,
+) -> Result<(Part, usize), SelectorFault>
+    ensures { IsRead result (type_behind text.now from at) }
+{
+    if byte_at(text.as_bytes(), at) == 42 {
+        let name = text_of(alloc, text, from, at + 1)?;
+        return Ok((Part::Closed(name), at + 1));
+    }
+    let (name, to) = text_at(alloc, text, from, at)?;
+    Ok((Part::Named(name), to))
+}
+
+/// A type or `*`, with its namespace prefix.
+pub fn type_at(alloc: Global, text: &str, at: usize) -> Result<(Part, usize), SelectorFault>
+    ensures { IsRead result (type_at text.now at) }
+{
+    type_behind(alloc, text, at, prefix_end(text.as_bytes(), at))
+}
+
+pub fn attribute_at(
+    alloc: Global,
+    text: &str,
+    at: usize,
+) -> Result<(Part, usize), SelectorFault>
+    requires { at < length text.now }
+    ensures { IsRead result (attribute_at text.now at) }
+{
+    match attribute_end(text.as_bytes(), at) {
+        None => Err(SelectorFault::BadSelector),
+        Some(to) => {
+            let name = text_of(alloc, text, at, to)?;
+            Ok((Part::Closed(name), to))
+        }
+    }
+}
+
+/// `&` with the name characters behind it.
+#[tactic(auto, unfolding(crate::specs::Simples::parent_at))]
+pub fn parent_at(alloc: Global, text: &str, at: usize) -> Result<(Part, usize), SelectorFault>
+    requires { at < length text.now }
+    ensures { IsRead result (parent_at text.now at) }
+{
+    let to = name_end(text.as_bytes(), at + 1);
+    let suffix = text_of(alloc, text, at + 1, to)?;
+    Ok((Part::Parent(suffix), to))
+}
+
+fn takes_list(name: &str) -> bool
+    ensures { result ≡ takes_list name.now }
+{
+    name == ":not" || name == ":is" || name == ":where" || name == ":has" || name == ":matches"
+}
+
+fn takes_scope(name: &str) -> bool
+    ensures { result ≡ takes_scope name.now }
+{
+    name == ":any"
+        || name == ":current"
+        || name == ":host"
+        || name == ":host-context"
+        || name == "::slotted"
+}
+
+/// Whether the arguments of a pseudo are selectors.
+#[tactic(auto, unfolding(crate::specs::Simples::takes_selectors))]
+pub fn takes_selectors(name: &str) -> bool
+    ensures { result ≡ takes_selectors name.now }
+{
+    takes_list(name) || takes_scope(name)
+}
+
+fn with_argument(alloc: Global, name: &str, argument: &str) -> Result<Name, Memory>
+    ensures { IfOk result (λ text. text ≡ with_argument name.now argument.now) }
+{
+    let mut text = String::new(alloc);
+    text.push_str(name)?;
+    text.push_str("(")?;
+    text.push_str(argument)?;
+    text.push_str(")")?;
+    Name::new(alloc, text.as_str())
+}
+
+fn argument_text(text: &str, from: usize, to: usize) -> &str
+    ensures { result.now ≡ argument_text text.now from to }
+{
+    let start = white(text.as_bytes(), from);
+    piece(text, start, trimmed_end(text.as_bytes(), start, to))
+}
+
+#[tactic(auto, unfolding(crate::specs::Simples::raw_by))]
+fn raw_by(
+    alloc: Global,
+    text: &str,
+    name: &str,
+    at: usize,
+    end: Option<usize>,
+) -> Result<(Part, usize), SelectorFault>
+    ensures { IsRead result (raw_by text.now name.now at end) }
+{
+    match end {
+        None => Err(SelectorFault::BadSelector),
+        Some(end) => {
+            if byte_at(text.as_bytes(), end) != 41 || white(text.as_bytes(), at) >= end {
+                return Err(SelectorFault::BadSelector);
+            }
+            let whole = with_argument(alloc, name, argument_text(text, at, end))?;
+            Ok((Part::Closed(whole), end + 1))
+        }
+    }
+}
+
+/// A pseudo of this name with an argument of another kind, which begins at a place.
+pub fn raw_at(
+    alloc: Global,
+    text: &str,
+    name: &str,
+    at: usize,
+) -> Result<(Part, usize), SelectorFault>
+    ensures { IsRead result (raw_at text.now name.now at) }
+{
+    let end = stop_at(alloc, text.as_bytes(), Stops::Argument, at)?;
+    raw_by(alloc, text, name, at, end)
+}
+
+/// Where the name of the pseudo begins whose first colon stands at a place.
+pub fn colons_end(bytes: &[u8], at: usize) -> usize
+    requires { at < length bytes.now }
+    ensures { result ≡ colons_end bytes.now at }
+{
+    if byte_at(bytes, at + 1) == 58 {
+        at + 2
+    } else {
+        at + 1
+    }
+}

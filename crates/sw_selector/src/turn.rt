@@ -1,0 +1,57 @@
+// Where in a complex selector a reader stands.
+ghost use Rattle.std.specs.Prelude.{◌≡◌};
+ghost use Rattle.sw_selector.specs.Reading.{is_simple, is_joined, combinator_of, ends_complex};
+
+use crate::{Combinator, Part};
+
+/// What stands before a place in a complex selector.
+#[derive(Clone, Copy, Debug, PartialEq, Eq)]
+pub enum Before {
+    Nothing,
+    Combinator,
+    Simple,
+}
+
+/// What stands at a place in a complex selector: its end, or one more part, with what is before the place behind it.
+#[derive(Drop)]
+pub enum Turn {
+    Stops(usize),
+    Takes(Part, Before, usize),
+}
+
+pub fn is_simple(before: Before) -> bool
+    ensures { result ≡ is_simple before }
+{
+    match before {
+        Before::Simple => true,
+        _ => false,
+    }
+}
+
+pub fn is_joined(before: Before) -> bool
+    ensures { result ≡ is_joined before }
+{
+    match before {
+        Before::Combinator => true,
+        _ => false,
+    }
+}
+
+/// The combinator that a sign is.
+pub fn combinator_of(byte: u16) -> Option<Combinator>
+    ensures { result ≡ combinator_of byte }
+{
+    match byte {
+        62 => Some(Combinator::Child),
+        43 => Some(Combinator::Next),
+        126 => Some(Combinator::Subsequent),
+        _ => None,
+    }
+}
+
+/// Whether a complex selector ends before this byte.
+pub fn ends_complex(byte: u16) -> bool
+    ensures { result ≡ ends_complex byte }
+{
+    byte == 256 || byte == 44 || byte == 41
+}
