@@ -5,7 +5,7 @@ use Rattle.std.proofs.lemmas.Bool.Decides.{nat_tests}
 use Rattle.std.proofs.lemmas.Option.{slice_get_past}
 use Rattle.sw_tokens.specs.declared.runs.Class.{Class}
 use Rattle.sw_tokens.specs.declared.runs.Class.TheVariants as classes
-use Rattle.sw_tokens.specs.Bytes.{byte, byte_in, is_break, is_white, is_digit, is_letter, is_hex_digit, starts_plainly, is_name_byte, is_url_byte, is_range_byte, opens_at}
+use Rattle.sw_tokens.specs.Bytes.{byte, byte_in, is_break, is_white, is_digit, is_letter, is_hex_digit, starts_plainly, is_name_byte, is_url_byte, is_range_byte, opens_at, ends_loud}
 use Rattle.sw_tokens.specs.Names.{hex_from, hex_end, white_end, escape_end, text_next, next, run_from, run_end, fraction_end, is_exponent, is_plus_or_minus, exponent_end, unit_end}
 
 lt_or_le : (a b : ℕ) → (a < b) ⊎ (b ≤ a)
@@ -154,6 +154,11 @@ module _ (bs : List ℕ) where
       (λ m. one_on (in_text is_url_byte bs i refl (and_left (is_url_byte (byte bs i)) (not (byte bs i == 125)) (and_left (is_url_byte (byte bs i) && not (byte bs i == 125)) (not (opens_at bs i)) m))))
       (λ _. escape_onward i l)
   next_onward classes.Range i l = passed is_range_byte i refl l
+  next_onward classes.Line i l =
+      choose (is_break (byte bs i) || (byte bs i == 256)) i (i + 1) (λ _. stay l) (λ m. one_on (not_end bs i (or_right (is_break (byte bs i)) (byte bs i == 256) m)))
+  next_onward classes.Comment i l =
+      choose (ends_loud bs i || (opens_at bs i || (byte bs i == 256))) i (i + 1) (λ _. stay l)
+      (λ m. one_on (not_end bs i (or_right (opens_at bs i) (byte bs i == 256) (or_right (ends_loud bs i) (opens_at bs i || (byte bs i == 256)) m))))
 
   run_from_onward : (c : Class) (n i : ℕ) → i ≤ length bs → Onward bs i (run_from c bs n i)
   run_from_onward c zero i l = stay l

@@ -13,9 +13,9 @@ use Rattle.sw_tokens.specs.declared.pieces.Before.{Before}
 use Rattle.sw_tokens.specs.declared.pieces.Change.{Change}
 use Rattle.sw_tokens.specs.declared.pieces.Change.TheVariants as changes
 use Rattle.sw_tokens.specs.declared.pieces.Piece.{Piece}
-use Rattle.sw_tokens.specs.Bytes.{byte, is_break, is_white, is_digit, is_letter, is_hex_digit, is_wide, starts_plainly, is_name_byte, is_url_byte, is_range_byte, opens_at}
-use Rattle.sw_tokens.specs.Names.{next, run_from, run_end, text_next, escape_end, starts_at, begins_name, fraction_end, is_exponent, is_plus_or_minus, exponent_end, unit_end}
-use Rattle.sw_tokens.specs.Pieces.{made, text_piece, quote_piece, sign_piece, name_piece, is_hex_form, number_piece, begins_range, begins_url, url_close, after_dollar, after_hash, word_piece, in_interpolation, code_piece, piece, url_inside, opens_url, url_piece}
+use Rattle.sw_tokens.specs.Bytes.{byte, is_break, is_white, is_digit, is_letter, is_hex_digit, is_wide, starts_plainly, is_name_byte, is_url_byte, is_range_byte, opens_at, begins_silent, begins_loud, ends_loud}
+use Rattle.sw_tokens.specs.Names.{next, run_from, run_end, text_next, escape_end, starts_at, begins_name, fraction_end, is_exponent, is_plus_or_minus, exponent_end, unit_end, begins_range, begins_url, url_close}
+use Rattle.sw_tokens.specs.Pieces.{made, text_piece, quote_piece, sign_piece, name_piece, is_hex_form, number_piece, url_class, after_dollar, after_hash, word_piece, comment_piece, loud_piece, in_interpolation, code_piece, piece, url_inside, opens_url, url_piece}
 use Rattle.sw_tokens.specs.Skips.{closes_url}
 use Rattle.sw_tokens.proofs.Bounds.{in_text, and_left, and_right, or_left, or_right, run_onward, next_onward, fraction_onward, exponent_onward}
 use Rattle.sw_tokens.proofs.Forward.{either, at_quote}
@@ -148,12 +148,34 @@ module _ (bs : List ℕ) (text : IsText bs) where
       go : (b : ℕ) (brace : Bool) → ((is_url_byte b && not (b == 125)) && not ((b == 35) && brace)) ≡ false → is_wide b ≡ false
       go b brace e = grind (arith, nat_tests)
 
+  left_then : (b : Bool) (i : ℕ) → (if b then i else i + 1) ≤ i → b ≡ true
+  left_then true i l = refl
+  left_then false i l = absurd (omega arith)
+
+  line_stop : (j : ℕ) → next classes.Line bs j ≤ j → is_wide (byte bs j) ≡ false
+  line_stop j l = go (byte bs j) (left_then (is_break (byte bs j) || (byte bs j == 256)) j l)
+    where
+      go : (b : ℕ) → (is_break b || (b == 256)) ≡ true → is_wide b ≡ false
+      go b e = grind (arith, nat_tests)
+
+  comment_stop : (j : ℕ) → next classes.Comment bs j ≤ j → is_wide (byte bs j) ≡ false
+  comment_stop j l = go (byte bs j) (byte bs (j + 1) == 47) (byte bs (j + 1) == 123) (left_then (ends_loud bs j || (opens_at bs j || (byte bs j == 256))) j l)
+    where
+      go : (b : ℕ) (slash brace : Bool) → (((b == 42) && slash) || (((b == 35) && brace) || (b == 256))) ≡ true → is_wide b ≡ false
+      go b slash brace e = grind (arith, nat_tests)
+
   -- such a run, from any place
   name_cut : (i : ℕ) → i ≤ length bs → IsCharBoundary bs (run_end classes.Name bs i)
   name_cut i l = cut_plain (run_end classes.Name bs i) (run_onward bs classes.Name i l).within (name_stop (run_end classes.Name bs i) (run_stops classes.Name i l))
 
   unit_cut : (i : ℕ) → i ≤ length bs → IsCharBoundary bs (run_end classes.Unit bs i)
   unit_cut i l = cut_plain (run_end classes.Unit bs i) (run_onward bs classes.Unit i l).within (unit_stop (run_end classes.Unit bs i) (run_stops classes.Unit i l))
+
+  line_cut : (i : ℕ) → i ≤ length bs → IsCharBoundary bs (run_end classes.Line bs i)
+  line_cut i l = cut_plain (run_end classes.Line bs i) (run_onward bs classes.Line i l).within (line_stop (run_end classes.Line bs i) (run_stops classes.Line i l))
+
+  comment_run_cut : (i : ℕ) → i ≤ length bs → IsCharBoundary bs (run_end classes.Comment bs i)
+  comment_run_cut i l = cut_plain (run_end classes.Comment bs i) (run_onward bs classes.Comment i l).within (comment_stop (run_end classes.Comment bs i) (run_stops classes.Comment i l))
 
   text_cut : (q i : ℕ) → q < 128 → i ≤ length bs → IsCharBoundary bs (run_end (classes.Text q) bs i)
   text_cut q i small l = cut_plain (run_end (classes.Text q) bs i) (run_onward bs (classes.Text q) i l).within (text_stop q (run_end (classes.Text q) bs i) small (run_stops (classes.Text q) i l))
@@ -202,6 +224,7 @@ abbrev pub IsPlain : Inside → Type 0
 IsPlain (insides.Quotes q) = q < 128
 IsPlain insides.Sheet = Unit {0}
 IsPlain insides.Interpolation = Unit {0}
+IsPlain insides.Comment = Unit {0}
 IsPlain insides.Url = Unit {0}
 IsPlain insides.UrlInside = Unit {0}
 
@@ -291,6 +314,7 @@ module _ (bs : List ℕ) (text : IsText bs) (at : ℕ) (lt : at < length bs) (cu
   plain_url : (top : Inside) → IsPlain (url_inside top)
   plain_url insides.Sheet = tt
   plain_url insides.Interpolation = tt
+  plain_url insides.Comment = tt
   plain_url (insides.Quotes q) = tt
   plain_url insides.Url = tt
   plain_url insides.UrlInside = tt
@@ -327,9 +351,28 @@ module _ (bs : List ℕ) (text : IsText bs) (at : ℕ) (lt : at < length bs) (cu
       (λ _. either (Cut bs at) (not (after_dollar before) && begins_range bs at) _ _
       (λ m. let plus = second 43 (omega arith) (and_left (byte bs (at + 1) == 43) (is_range_byte (byte bs (at + 2))) (and_right ((byte bs at == 117) || (byte bs at == 85)) ((byte bs (at + 1) == 43) && is_range_byte (byte bs (at + 2))) (and_right (not (after_dollar before)) (begins_range bs at) m))) in
       keep (run_cut bs text classes.Range (range_steps bs text) (at + 2) plus.0 plus))
-      (λ _. either (Cut bs at) (begins_url bs at && (byte bs (url_close bs top at) == 41)) _ _ (λ m. keep (cut_at bs text (url_close bs top at) 41 (omega arith) (and_right (begins_url bs at) (byte bs (url_close bs top at) == 41) m)))
+      (λ _. either (Cut bs at) (begins_url bs at && (byte bs (url_close bs (url_class top) at) == 41)) _ _ (λ m. keep (cut_at bs text (url_close bs (url_class top) at) 41 (omega arith) (and_right (begins_url bs at) (byte bs (url_close bs (url_class top) at) == 41) m)))
       (λ _. either (Cut bs at) (opens_url bs top at) _ _ (λ m. opens_url_cut top m)
       (λ _. name_piece_cut)))))
+
+  comment_cut : Cut bs at (comment_piece bs at)
+  unfolding comment_piece
+  comment_cut =
+      either (Cut bs at) (ends_loud bs at) _ _ (λ m. something (second 47 (omega arith) (and_right (byte bs at == 42) (byte bs (at + 1) == 47) m)) tt)
+      (λ _. either (Cut bs at) (opens_at bs at) _ _ (λ m. opened m)
+      (λ _. either (Cut bs at) (nat_lt at (run_end classes.Comment bs at)) _ _ (λ _. keep (comment_run_cut bs text at (omega arith))) (λ _. nothing)))
+
+  loud_cut : begins_loud bs at ≡ true → Cut bs at (loud_piece bs at)
+  unfolding loud_piece
+  loud_cut m =
+      either (Cut bs at) (ends_loud bs (run_end classes.Comment bs (at + 2))) _ _ (λ e. keep (behind (run_end classes.Comment bs (at + 2)) e))
+      (λ _. something (second 42 (omega arith) (and_right (byte bs at == 47) (byte bs (at + 1) == 42) m)) ((slash (byte bs at) (and_left (byte bs at == 47) (byte bs (at + 1) == 42) m), tt)))
+    where
+      slash : (b : ℕ) → (b == 47) ≡ true → b < 128
+      slash b e = grind (arith, nat_tests)
+
+      behind : (i : ℕ) → ends_loud bs i ≡ true → IsCharBoundary bs (i + 2)
+      behind i e = let same : i + 1 + 1 ≡ i + 2 = omega arith in subst (IsCharBoundary bs) same (cut_at bs text (i + 1) 47 (omega arith) (and_right (byte bs i == 42) (byte bs (i + 1) == 47) e))
 
   code_cut : (top : Inside) (before : Before) → Cut bs at (code_piece bs top before at)
   unfolding code_piece
@@ -338,7 +381,9 @@ module _ (bs : List ℕ) (text : IsText bs) (at : ℕ) (lt : at < length bs) (cu
       (λ _. either (Cut bs at) ((byte bs at == 34) || (byte bs at == 39)) _ _ (λ m. quote_cut (byte bs at) refl (ascii_quote (byte bs at) m))
       (λ _. either (Cut bs at) (opens_at bs at) _ _ (λ m. opened m)
       (λ _. either (Cut bs at) ((byte bs at == 125) && in_interpolation top) _ _ (λ m. something (cut_at bs text at 125 (omega arith) (and_left (byte bs at == 125) (in_interpolation top) m)) tt)
-      (λ _. word_cut top before))))
+      (λ _. either (Cut bs at) (begins_silent bs at) _ _ (λ m. let room = second 47 (omega arith) (and_right (byte bs at == 47) (byte bs (at + 1) == 47) m) in something (line_cut bs text (at + 2) room.0) tt)
+      (λ _. either (Cut bs at) (begins_loud bs at) _ _ (λ m. loud_cut m)
+      (λ _. word_cut top before))))))
     where
       ascii_quote : (q : ℕ) → ((q == 34) || (q == 39)) ≡ true → q < 128
       ascii_quote q e = grind (arith, nat_tests)
@@ -346,6 +391,7 @@ module _ (bs : List ℕ) (text : IsText bs) (at : ℕ) (lt : at < length bs) (cu
   pub piece_cut : (top : Inside) (before : Before) → IsPlain top → Cut bs at (piece bs top before at)
   piece_cut insides.Url before plain = url_piece_cut classes.Url (url_stop bs text)
   piece_cut insides.UrlInside before plain = url_piece_cut classes.UrlInside (url_inside_stop bs text)
+  piece_cut insides.Comment before plain = comment_cut
   piece_cut insides.Sheet before plain = code_cut insides.Sheet before
   piece_cut insides.Interpolation before plain = code_cut insides.Interpolation before
   piece_cut (insides.Quotes q) before plain = text_piece_cut q plain
@@ -388,8 +434,12 @@ module _ (bs : List ℕ) (at : ℕ) where
       either Stands (after_hash before && is_hex_form bs at) _ _ (λ _ e. some_by e)
       (λ _. either Stands (is_digit (byte bs at) || ((byte bs at == 46) && is_digit (byte bs (at + 1)))) _ _ (λ _. number_stands)
       (λ _. either Stands (not (after_dollar before) && begins_range bs at) _ _ (λ _ e. some_by e)
-      (λ _. either Stands (begins_url bs at && (byte bs (url_close bs top at) == 41)) _ _ (λ _ e. some_by e)
+      (λ _. either Stands (begins_url bs at && (byte bs (url_close bs (url_class top) at) == 41)) _ _ (λ _ e. some_by e)
       (λ _. either Stands (opens_url bs top at) _ _ (λ _ e. some_by e) (λ _. name_stands)))))
+
+  loud_stands : Stands (loud_piece bs at)
+  unfolding loud_piece
+  loud_stands = either Stands (ends_loud bs (run_end classes.Comment bs (at + 2))) _ _ (λ _ e. some_by e) (λ _ e. some_by e)
 
   pub code_stands : (top : Inside) (before : Before) → code_piece bs top before at ≡ None → ⊥
   unfolding code_piece
@@ -397,4 +447,6 @@ module _ (bs : List ℕ) (at : ℕ) where
       either Stands (is_white (byte bs at)) _ _ (λ _ e. cc)
       (λ _. either Stands ((byte bs at == 34) || (byte bs at == 39)) _ _ (λ _. quote_stands (byte bs at))
       (λ _. either Stands (opens_at bs at) _ _ (λ _ e. some_by e)
-      (λ _. either Stands ((byte bs at == 125) && in_interpolation top) _ _ (λ _ e. some_by e) (λ _. word_stands top before))))
+      (λ _. either Stands ((byte bs at == 125) && in_interpolation top) _ _ (λ _ e. some_by e)
+      (λ _. either Stands (begins_silent bs at) _ _ (λ _ e. cc)
+      (λ _. either Stands (begins_loud bs at) _ _ (λ _. loud_stands) (λ _. word_stands top before))))))

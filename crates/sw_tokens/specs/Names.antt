@@ -2,7 +2,7 @@
 use Rattle.std.specs.Prelude.{ℕ, zero, suc, ◌+◌, ◌-◌, List, length, Bool, not, ◌&&◌, ◌||◌, ◌==◌, nat_lt, if◌then◌else◌}
 use Rattle.sw_tokens.specs.declared.runs.Class.{Class}
 use Rattle.sw_tokens.specs.declared.runs.Class.TheVariants as classes
-use Rattle.sw_tokens.specs.Bytes.{byte, is_break, is_white, is_digit, is_letter, is_hex_digit, starts_plainly, is_name_byte, is_url_byte, is_range_byte, opens_at}
+use Rattle.sw_tokens.specs.Bytes.{byte, is_break, is_white, is_digit, is_letter, is_hex_digit, starts_plainly, is_name_byte, is_url_byte, is_range_byte, opens_at, ends_loud}
 
 -- behind the hexadecimal digits from i on, of which n at most are taken
 abbrev pub hex_from : List ℕ → ℕ → ℕ → ℕ
@@ -50,6 +50,8 @@ next (classes.Text q) bs i = text_next bs q i
 next classes.Url bs i = if is_url_byte (byte bs i) && not (opens_at bs i) then i + 1 else escape_end bs i
 next classes.UrlInside bs i = if (is_url_byte (byte bs i) && not (byte bs i == 125)) && not (opens_at bs i) then i + 1 else escape_end bs i
 next classes.Range bs i = if is_range_byte (byte bs i) then i + 1 else i
+next classes.Line bs i = if is_break (byte bs i) || (byte bs i == 256) then i else i + 1
+next classes.Comment bs i = if ends_loud bs i || (opens_at bs i || (byte bs i == 256)) then i else i + 1
 
 -- behind the longest run from i on
 abbrev pub run_from : Class → List ℕ → ℕ → ℕ → ℕ
@@ -85,3 +87,28 @@ exponent_end bs e =
 
 abbrev pub unit_end : List ℕ → ℕ → ℕ
 unit_end bs u = if byte bs u == 37 then u + 1 else (if starts_plainly (byte bs u) then run_end classes.Unit bs u else u)
+
+abbrev pub begins_number : List ℕ → ℕ → Bool
+begins_number bs at = is_digit (byte bs at) || ((byte bs at == 46) && is_digit (byte bs (at + 1)))
+
+-- where the unit of a number begins
+abbrev pub unit_start : List ℕ → ℕ → ℕ
+unit_start bs at = exponent_end bs (fraction_end bs (run_end classes.Digit bs at))
+
+-- `u+` and what may follow it
+abbrev pub begins_range : List ℕ → ℕ → Bool
+begins_range bs at = ((byte bs at == 117) || (byte bs at == 85)) && ((byte bs (at + 1) == 43) && is_range_byte (byte bs (at + 2)))
+
+-- `url(` in any case
+abbrev pub begins_url : List ℕ → ℕ → Bool
+begins_url bs at =
+    ((byte bs at == 117) || (byte bs at == 85)) && (((byte bs (at + 1) == 114) || (byte bs (at + 1) == 82))
+    && (((byte bs (at + 2) == 108) || (byte bs (at + 2) == 76)) && (byte bs (at + 3) == 40)))
+
+-- behind the first characters in a `url(`, of a class
+unfoldable pub url_text_end : List ℕ → Class → ℕ → ℕ
+url_text_end bs class at = run_end class bs (run_end classes.White bs (at + 4))
+
+-- where the `)` of a `url(` stands, if what is between is no expression and has no `#{`
+abbrev pub url_close : List ℕ → Class → ℕ → ℕ
+url_close bs class at = run_end classes.White bs (url_text_end bs class at)

@@ -1,4 +1,4 @@
--- What begins at a place of a text: white space, a token, or what opens or closes a string or `#{}`.
+-- What begins at a place of a text: white space, a token, or what opens or closes a string, a comment, a url or `#{}`.
 use Rattle.std.specs.Prelude.{ℕ, ◌+◌, ◌-◌, List, Option, Some, None, Bool, true, false, not, ◌&&◌, ◌||◌, ◌==◌, nat_lt, if◌then◌else◌}
 use Rattle.sw_tokens.specs.declared.token.TokenKind.{TokenKind}
 use Rattle.sw_tokens.specs.declared.token.TokenKind.TheVariants as kinds
@@ -11,9 +11,9 @@ use Rattle.sw_tokens.specs.declared.pieces.Before.TheVariants as befores
 use Rattle.sw_tokens.specs.declared.pieces.Change.{Change}
 use Rattle.sw_tokens.specs.declared.pieces.Change.TheVariants as changes
 use Rattle.sw_tokens.specs.declared.pieces.Piece.{Piece}
-use Rattle.sw_tokens.specs.Bytes.{byte, is_white, is_digit, is_letter, is_range_byte, opens_at}
+use Rattle.sw_tokens.specs.Bytes.{byte, is_white, is_letter, opens_at, begins_silent, begins_loud, ends_loud}
 use Rattle.sw_tokens.specs.Skips.{closes_url}
-use Rattle.sw_tokens.specs.Names.{next, run_end, begins_name, fraction_end, exponent_end, unit_end}
+use Rattle.sw_tokens.specs.Names.{next, run_end, begins_name, unit_start, unit_end, begins_number, begins_range, begins_url, url_close}
 
 abbrev pub made : TokenKind → ℕ → Change → Option Piece
 made kind to change = Some (record { token = Some kind; to = to; change = change })
@@ -120,27 +120,12 @@ number_kind bs whole unit = if (whole == unit) && not (byte bs unit == 37) then 
 
 unfoldable pub number_piece : List ℕ → ℕ → Option Piece
 number_piece bs at =
-    made (number_kind bs (run_end classes.Digit bs at) (exponent_end bs (fraction_end bs (run_end classes.Digit bs at))))
-    (unit_end bs (exponent_end bs (fraction_end bs (run_end classes.Digit bs at)))) changes.Keep
-
--- `u+` and what may follow it
-abbrev pub begins_range : List ℕ → ℕ → Bool
-begins_range bs at = ((byte bs at == 117) || (byte bs at == 85)) && ((byte bs (at + 1) == 43) && is_range_byte (byte bs (at + 2)))
-
--- `url(` in any case
-abbrev pub begins_url : List ℕ → ℕ → Bool
-begins_url bs at =
-    ((byte bs at == 117) || (byte bs at == 85)) && (((byte bs (at + 1) == 114) || (byte bs (at + 1) == 82))
-    && (((byte bs (at + 2) == 108) || (byte bs (at + 2) == 76)) && (byte bs (at + 3) == 40)))
+    made (number_kind bs (run_end classes.Digit bs at) (unit_start bs at)) (unit_end bs (unit_start bs at)) changes.Keep
 
 -- inside `#{}` the `}` ends it
 abbrev pub url_class : Inside → Class
 url_class insides.Sheet = classes.Url
 url_class _ = classes.UrlInside
-
--- where the `)` of a `url(` stands, if what is between is no expression
-unfoldable pub url_close : List ℕ → Inside → ℕ → ℕ
-url_close bs top at = run_end classes.White bs (run_end (url_class top) bs (run_end classes.White bs (at + 4)))
 
 -- what a `url(..)` is that begins there
 abbrev pub url_inside : Inside → Inside
@@ -171,28 +156,45 @@ after_hash _ = false
 unfoldable pub word_piece : List ℕ → Inside → Before → ℕ → Option Piece
 word_piece bs top before at =
     if after_hash before && is_hex_form bs at then made kinds.Hex (run_end classes.HexDigit bs at) changes.Keep
-    else (if is_digit (byte bs at) || ((byte bs at == 46) && is_digit (byte bs (at + 1))) then number_piece bs at
+    else (if begins_number bs at then number_piece bs at
     else (if not (after_dollar before) && begins_range bs at then made kinds.UnicodeRange (run_end classes.Range bs (at + 2)) changes.Keep
-    else (if begins_url bs at && (byte bs (url_close bs top at) == 41) then made kinds.Url (url_close bs top at + 1) changes.Keep
+    else (if begins_url bs at && (byte bs (url_close bs (url_class top) at) == 41) then made kinds.Url (url_close bs (url_class top) at + 1) changes.Keep
     else (if opens_url bs top at then made kinds.UrlTemplate (run_end classes.White bs (at + 4)) (changes.Push (url_inside top))
     else name_piece bs at))))
+
+-- in a loud comment with `#{}`
+unfoldable pub comment_piece : List ℕ → ℕ → Option Piece
+comment_piece bs at =
+    if ends_loud bs at then made kinds.CommentEnd (at + 2) changes.Pop
+    else (if opens_at bs at then made kinds.OpenInterpolation (at + 2) (changes.Push insides.Interpolation)
+    else (if nat_lt at (run_end classes.Comment bs at) then made kinds.Piece (run_end classes.Comment bs at) changes.Keep
+    else None))
+
+-- at the `/*` that opens a loud comment: it ends at the first `*/` behind these two
+unfoldable pub loud_piece : List ℕ → ℕ → Option Piece
+loud_piece bs at =
+    if ends_loud bs (run_end classes.Comment bs (at + 2)) then made kinds.Comment (run_end classes.Comment bs (at + 2) + 2) changes.Keep
+    else made kinds.CommentTemplate (at + 2) (changes.Push insides.Comment)
 
 abbrev pub in_interpolation : Inside → Bool
 in_interpolation insides.Interpolation = true
 in_interpolation _ = false
 
--- outside strings
+-- outside strings, comments and urls; a silent comment is white space up to the end of its line
 unfoldable pub code_piece : List ℕ → Inside → Before → ℕ → Option Piece
 code_piece bs top before at =
     if is_white (byte bs at) then made_white (run_end classes.White bs at)
     else (if (byte bs at == 34) || (byte bs at == 39) then quote_piece bs (byte bs at) at
     else (if opens_at bs at then made kinds.OpenInterpolation (at + 2) (changes.Push insides.Interpolation)
     else (if (byte bs at == 125) && in_interpolation top then made kinds.CloseInterpolation (at + 1) changes.Pop
-    else word_piece bs top before at)))
+    else (if begins_silent bs at then made_white (run_end classes.Line bs (at + 2))
+    else (if begins_loud bs at then loud_piece bs at
+    else word_piece bs top before at)))))
 
 abbrev pub piece : List ℕ → Inside → Before → ℕ → Option Piece
 piece bs (insides.Quotes q) before at = text_piece bs q at
 piece bs insides.Url before at = url_piece bs classes.Url at
 piece bs insides.UrlInside before at = url_piece bs classes.UrlInside at
+piece bs insides.Comment before at = comment_piece bs at
 piece bs insides.Sheet before at = code_piece bs insides.Sheet before at
 piece bs insides.Interpolation before at = code_piece bs insides.Interpolation before at

@@ -1,4 +1,4 @@
-// The first token of a string with `#{}` reaches to behind the token that closes it.
+// The first token of a string, a comment or a `url(..)` with `#{}` reaches to behind the token that closes it.
 ghost use Rattle.std.specs.Prelude.{◌≡◌, ◌<◌, length, IfOk, slice_get, Some};
 ghost use Rattle.sw_tokens.specs.Ends.{opens, closes, last_end, reaching, ends_before, reached};
 
@@ -9,13 +9,19 @@ use sw_text::{List, Memory};
 fn opens(kind: TokenKind) -> bool
     ensures { result ≡ opens kind }
 {
-    matches!(kind, TokenKind::Template | TokenKind::UrlTemplate)
+    matches!(
+        kind,
+        TokenKind::Template | TokenKind::UrlTemplate | TokenKind::CommentTemplate
+    )
 }
 
 fn closes(kind: TokenKind) -> bool
     ensures { result ≡ closes kind }
 {
-    matches!(kind, TokenKind::TemplateEnd | TokenKind::UrlEnd)
+    matches!(
+        kind,
+        TokenKind::TemplateEnd | TokenKind::UrlEnd | TokenKind::CommentEnd
+    )
 }
 
 fn last_end(ends: &[u32], to: u32) -> u32

@@ -1,4 +1,4 @@
-//! The text of a sheet as its one list of tokens, which every reader reads. Text flows in from `sw_text`; tokens, or the first string or `#{` that isn't closed, flow out.
+//! The text of a sheet as its one list of tokens, which every reader reads. Text flows in from `sw_text`; tokens, or the first string, comment or `#{` that isn't closed, flow out.
 #![tactic(auto)]
 
 mod bytes;

@@ -1,9 +1,14 @@
 // What begins at a place of a text.
 ghost use Rattle.std.specs.Prelude.{◌≡◌, ◌+◌, ◌<◌, ◌≤◌, length, IsTrue};
-ghost use Rattle.sw_tokens.specs.Pieces.{made, made_white, text_piece, quote_piece, sign_of, mark_of, operator_of, comparison_of, sign_piece, letter_kind, dash_kind, name_piece, has_hex_length, is_hex_form, number_kind, number_piece, begins_range, begins_url, url_class, url_close, url_inside, opens_url, url_piece, after_dollar, after_hash, word_piece, in_interpolation, code_piece, piece};
+ghost use Rattle.sw_tokens.specs.Pieces.{made, made_white, text_piece, quote_piece, sign_of, mark_of, operator_of, comparison_of, sign_piece, letter_kind, dash_kind, name_piece, has_hex_length, is_hex_form, number_kind, number_piece, url_class, url_inside, opens_url, url_piece, after_dollar, after_hash, word_piece, comment_piece, loud_piece, in_interpolation, code_piece, piece};
 
-use crate::bytes::{byte_at, is_digit, is_letter, is_range_byte, is_white, opens_at};
-use crate::runs::{Class, begins_name, exponent_end, fraction_end, next_at, run_end, unit_end};
+use crate::bytes::{
+    begins_loud, begins_silent, byte_at, ends_loud, is_letter, is_white, opens_at,
+};
+use crate::runs::{
+    Class, begins_name, begins_number, begins_range, begins_url, next_at, run_end, unit_end,
+    unit_start, url_close,
+};
 use crate::skips::{Inside, closes_url};
 use crate::token::TokenKind;
 
@@ -245,38 +250,9 @@ fn number_piece(bytes: &[u8], at: usize) -> Option<Piece>
     ensures { result ≡ number_piece bytes.now at }
 {
     let whole = run_end(bytes, Class::Digit, at);
-    let unit = exponent_end(bytes, fraction_end(bytes, whole));
+    let unit = unit_start(bytes, at);
     let kind = number_kind(bytes, whole, unit);
     made(kind, unit_end(bytes, unit), Change::Keep)
-}
-
-fn begins_range(bytes: &[u8], at: usize) -> bool
-    requires { at < length bytes.now }
-    ensures test { result ≡ begins_range bytes.now at }
-    ensures room { IsTrue result → at + 2 < length bytes.now }
-{
-    let byte = byte_at(bytes, at);
-    if byte != 117 && byte != 85 {
-        return false;
-    }
-    byte_at(bytes, at + 1) == 43 && is_range_byte(byte_at(bytes, at + 2))
-}
-
-fn begins_url(bytes: &[u8], at: usize) -> bool
-    requires { at < length bytes.now }
-    ensures test { result ≡ begins_url bytes.now at }
-    ensures room { IsTrue result → at + 4 ≤ length bytes.now }
-{
-    let first = byte_at(bytes, at);
-    if first != 117 && first != 85 {
-        return false;
-    }
-    let second = byte_at(bytes, at + 1);
-    if second != 114 && second != 82 {
-        return false;
-    }
-    let third = byte_at(bytes, at + 2);
-    (third == 108 || third == 76) && byte_at(bytes, at + 3) == 40
 }
 
 fn url_class(top: Inside) -> Class
@@ -286,17 +262,6 @@ fn url_class(top: Inside) -> Class
         Inside::Sheet => Class::Url,
         _ => Class::UrlInside,
     }
-}
-
-/// Where the `)` of a `url(` stands, if what is between is no expression.
-#[tactic(auto, unfolding(crate::specs::Pieces::url_close))]
-fn url_close(bytes: &[u8], top: Inside, at: usize) -> usize
-    requires { at + 4 ≤ length bytes.now }
-    ensures { result ≡ url_close bytes.now top at }
-{
-    let inner = run_end(bytes, Class::White, at + 4);
-    let outer = run_end(bytes, url_class(top), inner);
-    run_end(bytes, Class::White, outer)
 }
 
 fn url_inside(top: Inside) -> Inside
@@ -362,7 +327,6 @@ fn word_piece(bytes: &[u8], top: Inside, before: Before, at: usize) -> Option<Pi
     requires { at < length bytes.now }
     ensures { result ≡ word_piece bytes.now top before at }
 {
-    let byte = byte_at(bytes, at);
     if after_hash(before) && is_hex_form(bytes, at) {
         return made(
             TokenKind::Hex,
@@ -370,7 +334,7 @@ fn word_piece(bytes: &[u8], top: Inside, before: Before, at: usize) -> Option<Pi
             Change::Keep,
         );
     }
-    if is_digit(byte) || (byte == 46 && is_digit(byte_at(bytes, at + 1))) {
+    if begins_number(bytes, at) {
         return number_piece(bytes, at);
     }
     if !after_dollar(before) && begins_range(bytes, at) {
@@ -378,7 +342,7 @@ fn word_piece(bytes: &[u8], top: Inside, before: Before, at: usize) -> Option<Pi
         return made(TokenKind::UnicodeRange, to, Change::Keep);
     }
     if begins_url(bytes, at) {
-        let close = url_close(bytes, top, at);
+        let close = url_close(bytes, url_class(top), at);
         if byte_at(bytes, close) == 41 {
             return made(TokenKind::Url, close + 1, Change::Keep);
         }
@@ -388,6 +352,38 @@ fn word_piece(bytes: &[u8], top: Inside, before: Before, at: usize) -> Option<Pi
         return made(TokenKind::UrlTemplate, to, Change::Push(url_inside(top)));
     }
     name_piece(bytes, at)
+}
+
+#[tactic(auto, unfolding(crate::specs::Pieces::comment_piece))]
+fn comment_piece(bytes: &[u8], at: usize) -> Option<Piece>
+    requires { at < length bytes.now }
+    ensures { result ≡ comment_piece bytes.now at }
+{
+    if ends_loud(bytes, at) {
+        return made(TokenKind::CommentEnd, at + 2, Change::Pop);
+    }
+    if opens_at(bytes, at) {
+        let change = Change::Push(Inside::Interpolation);
+        return made(TokenKind::OpenInterpolation, at + 2, change);
+    }
+    let to = run_end(bytes, Class::Comment, at);
+    if at < to {
+        return made(TokenKind::Piece, to, Change::Keep);
+    }
+    None
+}
+
+#[tactic(auto, unfolding(crate::specs::Pieces::loud_piece))]
+fn loud_piece(bytes: &[u8], at: usize) -> Option<Piece>
+    requires { at + 2 ≤ length bytes.now }
+    ensures { result ≡ loud_piece bytes.now at }
+{
+    let end = run_end(bytes, Class::Comment, at + 2);
+    if ends_loud(bytes, end) {
+        return made(TokenKind::Comment, end + 2, Change::Keep);
+    }
+    let change = Change::Push(Inside::Comment);
+    made(TokenKind::CommentTemplate, at + 2, change)
 }
 
 fn in_interpolation(top: Inside) -> bool
@@ -418,6 +414,12 @@ fn code_piece(bytes: &[u8], top: Inside, before: Before, at: usize) -> Option<Pi
     if byte == 125 && in_interpolation(top) {
         return made(TokenKind::CloseInterpolation, at + 1, Change::Pop);
     }
+    if begins_silent(bytes, at) {
+        return made_white(run_end(bytes, Class::Line, at + 2));
+    }
+    if begins_loud(bytes, at) {
+        return loud_piece(bytes, at);
+    }
     word_piece(bytes, top, before, at)
 }
 
@@ -430,6 +432,7 @@ pub fn piece_at(bytes: &[u8], top: Inside, before: Before, at: usize) -> Option<
         Inside::Quotes(quote) => text_piece(bytes, quote, at),
         Inside::Url => url_piece(bytes, Class::Url, at),
         Inside::UrlInside => url_piece(bytes, Class::UrlInside, at),
+        Inside::Comment => comment_piece(bytes, at),
         Inside::Sheet => code_piece(bytes, Inside::Sheet, before, at),
         Inside::Interpolation => code_piece(bytes, Inside::Interpolation, before, at),
     }

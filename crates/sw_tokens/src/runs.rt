@@ -1,10 +1,10 @@
 // Escapes, names, numbers and other runs of characters.
-ghost use Rattle.std.specs.Prelude.{◌≡◌, ◌+◌, ◌^◌, ◌≤◌, ◌<◌, length, if◌then◌else◌};
-ghost use Rattle.sw_tokens.specs.Names.{hex_end, white_end, escape_end, text_next, next, run_end, starts_at, begins_name, fraction_end, is_exponent, is_plus_or_minus, exponent_end, unit_end};
+ghost use Rattle.std.specs.Prelude.{◌≡◌, ◌+◌, ◌^◌, ◌≤◌, ◌<◌, length, IsTrue, if◌then◌else◌};
+ghost use Rattle.sw_tokens.specs.Names.{hex_end, white_end, escape_end, text_next, next, run_end, starts_at, begins_name, fraction_end, is_exponent, is_plus_or_minus, exponent_end, unit_end, begins_number, unit_start, begins_range, begins_url, url_text_end, url_close};
 
 use crate::bytes::{
-    byte_at, is_break, is_digit, is_hex_digit, is_letter, is_name_byte, is_range_byte, is_url_byte,
-    is_white, opens_at, starts_plainly,
+    byte_at, ends_loud, is_break, is_digit, is_hex_digit, is_letter, is_name_byte, is_range_byte,
+    is_url_byte, is_white, opens_at, starts_plainly,
 };
 
 /// What a run is made of.
@@ -24,6 +24,10 @@ pub enum Class {
     UrlInside,
     /// What follows `u+`.
     Range,
+    /// What stands in a line.
+    Line,
+    /// What a loud comment holds up to its `*/` or a `#{`.
+    Comment,
 }
 
 #[tactic(auto, using(crate::proofs::Bounds::hex_step, crate::proofs::Bounds::hex_stop), unfolding(crate::specs::Names::hex_end))]
@@ -138,6 +142,16 @@ fn url_inside_next(bytes: &[u8], at: usize) -> usize
     escape_end(bytes, at)
 }
 
+fn comment_next(bytes: &[u8], at: usize) -> usize
+    requires { at ≤ length bytes.now }
+    ensures { result ≡ next Class.Comment bytes.now at }
+{
+    if ends_loud(bytes, at) || opens_at(bytes, at) || byte_at(bytes, at) == 256 {
+        return at;
+    }
+    at + 1
+}
+
 /// The place behind one byte, if it passes.
 fn past(passes: bool, at: usize) -> usize
     requires { at < 2 ^ 63 }
@@ -167,6 +181,8 @@ pub fn next_at(bytes: &[u8], class: Class, at: usize) -> usize
         Class::Url => url_next(bytes, at),
         Class::UrlInside => url_inside_next(bytes, at),
         Class::Range => past(is_range_byte(byte), at),
+        Class::Line => past(!(is_break(byte) || byte == 256), at),
+        Class::Comment => comment_next(bytes, at),
     }
 }
 
@@ -265,4 +281,71 @@ pub fn unit_end(bytes: &[u8], at: usize) -> usize
         return run_end(bytes, Class::Unit, at);
     }
     at
+}
+
+/// Whether a number begins at a place.
+pub fn begins_number(bytes: &[u8], at: usize) -> bool
+    requires { at < length bytes.now }
+    ensures { result ≡ begins_number bytes.now at }
+{
+    let byte = byte_at(bytes, at);
+    is_digit(byte) || (byte == 46 && is_digit(byte_at(bytes, at + 1)))
+}
+
+/// The place behind a number without its unit.
+pub fn unit_start(bytes: &[u8], at: usize) -> usize
+    requires { at ≤ length bytes.now }
+    ensures start { result ≡ unit_start bytes.now at }
+    ensures within { result ≤ length bytes.now }
+{
+    exponent_end(bytes, fraction_end(bytes, run_end(bytes, Class::Digit, at)))
+}
+
+/// Whether `u+` and what may follow it stand at a place.
+pub fn begins_range(bytes: &[u8], at: usize) -> bool
+    requires { at < length bytes.now }
+    ensures test { result ≡ begins_range bytes.now at }
+    ensures room { IsTrue result → at + 2 < length bytes.now }
+{
+    let byte = byte_at(bytes, at);
+    if byte != 117 && byte != 85 {
+        return false;
+    }
+    byte_at(bytes, at + 1) == 43 && is_range_byte(byte_at(bytes, at + 2))
+}
+
+/// Whether `url(` stands at a place, in any case.
+pub fn begins_url(bytes: &[u8], at: usize) -> bool
+    requires { at < length bytes.now }
+    ensures test { result ≡ begins_url bytes.now at }
+    ensures room { IsTrue result → at + 4 ≤ length bytes.now }
+{
+    let first = byte_at(bytes, at);
+    if first != 117 && first != 85 {
+        return false;
+    }
+    let second = byte_at(bytes, at + 1);
+    if second != 114 && second != 82 {
+        return false;
+    }
+    let third = byte_at(bytes, at + 2);
+    (third == 108 || third == 76) && byte_at(bytes, at + 3) == 40
+}
+
+/// The place behind the first characters in a `url(`.
+#[tactic(auto, unfolding(crate::specs::Names::url_text_end))]
+pub fn url_text_end(bytes: &[u8], class: Class, at: usize) -> usize
+    requires { at + 4 ≤ length bytes.now }
+    ensures end { result ≡ url_text_end bytes.now class at }
+    ensures within { result ≤ length bytes.now }
+{
+    run_end(bytes, class, run_end(bytes, Class::White, at + 4))
+}
+
+/// Where the `)` of a `url(` stands, if what is between is no expression and has no `#{`.
+pub fn url_close(bytes: &[u8], class: Class, at: usize) -> usize
+    requires { at + 4 ≤ length bytes.now }
+    ensures { result ≡ url_close bytes.now class at }
+{
+    run_end(bytes, Class::White, url_text_end(bytes, class, at))
 }

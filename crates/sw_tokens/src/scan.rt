@@ -8,7 +8,7 @@ use crate::token::{Token, TokenKind};
 use std::alloc::{AllocError, Global};
 use sw_text::{List, Memory};
 
-/// A string or `#{` that isn't closed yet, and where it begins.
+/// A string, a comment, a url or a `#{` that isn't closed yet, and where it begins.
 #[derive(Clone, Copy, Debug, PartialEq, Eq)]
 pub struct Opened {
     pub start: usize,
@@ -19,7 +19,7 @@ pub struct Opened {
 #[derive(Debug, Drop)]
 pub enum ScanEnd {
     Memory,
-    /// The first string or `#{` that isn't closed begins here.
+    /// The first string, comment or `#{` that isn't closed begins here.
     Unclosed(usize),
 }
 
@@ -81,6 +81,7 @@ fn before_of(token: Option<TokenKind>) -> Before
         None => Before::White,
         Some(TokenKind::Hash) => Before::Hash,
         Some(TokenKind::Dollar) => Before::Dollar,
+        Some(TokenKind::Comment | TokenKind::CommentEnd) => Before::White,
         Some(_) => Before::Other,
     }
 }

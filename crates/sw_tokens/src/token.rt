@@ -25,7 +25,7 @@ pub enum TokenKind {
     Quoted,
     /// A whole string with `#{`, from its quote to behind its closing quote. The tokens of its inside come next.
     Template,
-    /// Text in a string, or in a `url(..)`, that has `#{`.
+    /// Text in a string, a loud comment or a `url(..)` that has `#{`.
     Piece,
     /// The quote that closes a string with `#{`.
     TemplateEnd,
@@ -35,9 +35,15 @@ pub enum TokenKind {
     UrlTemplate,
     /// The `)` that closes a `url(..)` with `#{`.
     UrlEnd,
+    /// A whole loud comment without `#{`, from `/*` to behind the first `*/`.
+    Comment,
+    /// A whole loud comment with `#{`. The tokens of its inside come next.
+    CommentTemplate,
+    /// The `*/` that closes a loud comment with `#{`.
+    CommentEnd,
     /// `u+` with hexadecimal digits, `?` and `-`.
     UnicodeRange,
-    /// `#{`, in code and in strings.
+    /// `#{`, in code, strings, urls and comments.
     OpenInterpolation,
     /// The `}` that closes a `#{`.
     CloseInterpolation,
@@ -109,14 +115,14 @@ pub struct Token {
     pub from: u32,
     /// The offset behind its last byte.
     pub to: u32,
-    /// White space stands directly before it.
+    /// White space or a comment stands directly before it.
     pub spaced: bool,
 }
 
 /// Why a text has no tokens.
 #[derive(Debug, Drop)]
 pub enum Fault10 {
-    /// The first string or `#{` that isn't closed, at its first character.
+    /// The first string, comment or `#{` that isn't closed, at its first character.
     Fault(Fault),
     Memory,
 }

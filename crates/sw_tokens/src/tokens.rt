@@ -35,7 +35,7 @@ impl Model for Tokens {
 }
 
 impl Tokens {
-    /// The tokens of a sheet, in time that is linear in its bytes. The sheet is shared, not copied. A text in which a string or a `#{` isn't closed has none: that is a fault at its first character, of a string that has a line break, else of the outermost one at the end of the text.
+    /// The tokens of a sheet, in time that is linear in its bytes. The sheet is shared, not copied. A text in which a string, a comment or a `#{` isn't closed has none: that is a fault at its first character, of a string that has a line break, else of the outermost one at the end of the text.
     pub fn of(alloc: Global, sheet: &Shared<SheetText>) -> Result<Tokens, Fault10>
         ensures tokens { IfOk result (λ tokens. tokens_of sheet.now.bytes ≡ Ok tokens.list) }
         ensures sheet { IfOk result (λ tokens. tokens.sheet ≡ sheet.now) }
