@@ -52,8 +52,8 @@ fn hex_role(letter: bool) -> Role
     if letter { Role::Word } else { Role::Other }
 }
 
-fn role_of(kind: TokenKind, text: &str) -> Role
-    ensures { result ≡ role_of kind text.now }
+fn role_of(kind: &TokenKind, text: &str) -> Role
+    ensures { result ≡ role_of kind.now text.now }
 {
     match kind {
         TokenKind::Word => word_role(is_reserved(text)),
@@ -82,8 +82,8 @@ impl Role {
     }
 }
 
-fn alone(role: Role, token: Token) -> Mark
-    ensures { result ≡ alone role token }
+fn alone(role: Role, token: &Token) -> Mark
+    ensures { result ≡ alone role token.now }
 {
     Mark {
         role,
@@ -93,8 +93,8 @@ fn alone(role: Role, token: Token) -> Mark
     }
 }
 
-fn behind_sign(role: Role, sign: Piece, token: Token) -> Mark
-    ensures { result ≡ behind_sign (is_word role) role sign token }
+fn behind_sign(role: Role, sign: Piece, token: &Token) -> Mark
+    ensures { result ≡ behind_sign (is_word role) role sign token.now }
 {
     if !role.is_word() {
         alone(role, token)
@@ -110,8 +110,8 @@ fn behind_sign(role: Role, sign: Piece, token: Token) -> Mark
     }
 }
 
-fn marked(sign: Option<Piece>, role: Role, token: Token) -> Mark
-    ensures { result ≡ marked sign role token }
+fn marked(sign: Option<Piece>, role: Role, token: &Token) -> Mark
+    ensures { result ≡ marked sign role token.now }
 {
     match sign {
         None => alone(role, token),
@@ -136,14 +136,14 @@ fn sign_of(text: &str, mark: Mark) -> Option<Piece>
 }
 
 #[tactic(auto, unfolding(crate::specs::Marks::mark_of))]
-fn mark_of(text: &str, sign: Option<Piece>, token: Token) -> Mark
-    requires token { StandsIn text.now token }
+fn mark_of(text: &str, sign: Option<Piece>, token: &Token) -> Mark
+    requires token { StandsIn text.now token.now }
     requires sign { IsSign text.now sign }
-    ensures mark { result ≡ mark_of text.now sign token }
+    ensures mark { result ≡ mark_of text.now sign token.now }
     ensures lies { LiesIn text.now result }
 {
     let word = &text[token.from as usize..token.to as usize];
-    marked(sign, role_of(token.kind, word), token)
+    marked(sign, role_of(&token.kind, word), token)
 }
 
 /// What the grammar sees of each token, in one pass.
@@ -156,7 +156,7 @@ pub(crate) fn marks_of(alloc: Global, tokens: &Tokens) -> Result<Vec<Mark>, Memo
     let mut sign = None;
     let mut at = 0;
     'tokens: while let Some(token) = tokens.get(at) {
-        let mark = mark_of(text, sign, *token);
+        let mark = mark_of(text, sign, token);
         marks.push(mark)?;
         sign = sign_of(text, mark);
         at += 1;

@@ -159,6 +159,8 @@ fn whole_sheets(rt: HostRuntime) -> Result<(), Fail> {
         ("as { as: as; }#add{}", "as;+as:as;#add;"),
         ("true { null: a }", "true;+null:a;"),
         ("a { b: \u{e4}.$c }", "a;+b:\u{e4}.$c;"),
+        ("$a: b; // c\n// d\nx{ // e\ny: z }", "$a:b;x;+y:z;"),
+        ("a//b\n{c://d\ne}", "a;+c:e;"),
     ] {
         let sheet = sheet_of(&rt, rt.alloc(), text)?;
         let page_read = page_of(rt.alloc(), sheet.get())?;
@@ -220,7 +222,10 @@ fn broken_sheets(rt: HostRuntime) -> Result<(), Fail> {
         ("a { b { c: d } }", (1, 7), (1, 8)),
         ("b: c;", (1, 2), (1, 3)),
         ("a { b: \"x\" }", (1, 8), (1, 11)),
-        ("/* x */ a {}", (1, 1), (1, 2)),
+        ("/* x */ a {}", (1, 1), (1, 8)),
+        ("a {} // c\n /* d */ b {}", (2, 2), (2, 9)),
+        ("a /* #{b} */ {}", (1, 3), (1, 13)),
+        ("a {} /* b", (1, 6), (1, 7)),
         ("x y { b: \"c }", (1, 10), (1, 11)),
         ("$a", (1, 3), (1, 3)),
         ("$ a: b;", (1, 3), (1, 4)),
