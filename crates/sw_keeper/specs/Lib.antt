@@ -1,2 +1,3 @@
 pub mod Compile
+pub mod Keeping
 pub mod Steps
