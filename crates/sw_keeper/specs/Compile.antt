@@ -7,15 +7,17 @@ use Rattle.sw_folder.specs.Files.{Files}
 use Rattle.sw_world.specs.Hosts.{HostState}
 use Rattle.sw_world.specs.declared.end.End.{End}
 use Rattle.sw_world.specs.declared.end.End.TheVariants.{Done, Fault as Fault_end}
-use Rattle.sw_modules.specs.declared.module.Saying.{Saying}
+use Rattle.sw_world.specs.declared.op.Saying.{Saying}
 use Rattle.sw_modules.specs.declared.live.Enter.{Enter}
 use Rattle.sw_modules.specs.declared.live.Enter.TheVariants.{Refused, Open}
 use Rattle.sw_modules.specs.State.{State, nothing_loaded}
 use Rattle.sw_modules.specs.Loads.{entered, entry_text, left_by}
 use Rattle.sw_modules.specs.Outside.{Outside}
-use Rattle.sw_modules.specs.Fresh.{Setting, Run, Outcome as Evaluated, from_open}
-use Rattle.sw_keeper.specs.declared.keeper.Outcome.{Outcome}
-use Rattle.sw_keeper.specs.declared.keeper.Outcome.TheVariants.{Css, Error}
+use Rattle.sw_world.specs.Body.{Run}
+use Rattle.sw_modules.specs.Fresh.{Setting, Outcome as Evaluated, from_open}
+use Rattle.sw_record.specs.declared.reply.Cause.{Cause}
+use Rattle.sw_record.specs.declared.reply.Outcome.{Outcome}
+use Rattle.sw_record.specs.declared.reply.Outcome.TheVariants.{Css, Error}
 
 -- a compile: its messages, its CSS or its fault, the runs of its modules in the order in which they ended, and the state of the hosts then
 pub record Compile : Type 0 where
@@ -44,6 +46,6 @@ compile_by setting hosts p = from_entry setting hosts p.0 p.1
 abbrev pub compiled : Setting → Files → List (List ℕ) → List ℕ → HostState → Compile
 compiled setting folder paths entry hosts = compile_by setting hosts (entered entry (entry_text folder entry) (nothing_loaded folder paths))
 
--- the paths of the modules whose bodies ran, in the order in which they ended
-abbrev pub paths_of : List Run → List (List ℕ)
-paths_of runs = map (λ run. run.path) runs
+-- the paths of the modules whose bodies ran, in the order in which these ended
+abbrev pub paths_of : List (List ℕ × Cause) → List (List ℕ)
+paths_of ran = map (λ one. one.0) ran

@@ -1,147 +1,186 @@
-// The folder, and what a compile gives.
-ghost use Rattle.std.specs.Prelude.{◌≡◌, ◌++◌, ◌≤◌, Ok, Err, IsTrue, length, IfOk, IfErr, OnOk, OnErr};
+// The folder and the kept runs, and what a compile gives.
+ghost use Rattle.std.specs.Prelude.{◌≡◌, ◌++◌, ◌≤◌, [], Ok, Err, IsTrue, length, IfOk, IfErr, OnOk, OnErr};
 ghost use Rattle.std.specs.FinMap as files;
 ghost use Rattle.sw_folder.specs.Edits.{after_put, after_removal, IsFaultOf};
+ghost use Rattle.sw_record.specs.Ran.{Ran};
 ghost use Rattle.sw_keeper.specs.Compile.{compiled, outcome_of, paths_of};
-ghost use Rattle.sw_keeper.specs.Steps.{RanMore};
+ghost use Rattle.sw_keeper.specs.Keeping.{table_of, kept_after};
+ghost use Rattle.sw_keeper.specs.Steps.{RanMore, setting_of};
+ghost use Rattle.sw_keeper.specs.Whole.{IsCompiled};
 
 use crate::Reader;
 use crate::evaluate::evaluate;
+use crate::kept::{KeptRun, KeptRuns};
+use crate::results::Results;
 use std::alloc::Global;
 use std::marker::Model;
 use sw_css_print::print;
 use sw_css_tree::CssTree;
 use sw_folder::{EditFault, Folder};
-use sw_modules::{Enter, Finished, Live, Saying};
-use sw_text::{Fault, List, Memory, Name, Shared};
+use sw_modules::{Enter, Finished, Live, Table};
+use sw_record::{Outcome, Reply};
+use sw_text::{List, Memory, Name, Shared};
 use sw_world::{End, Engine, Hosts};
 
-/// The CSS of a compile, or its fault.
+/// A folder that is compiled again and again, and the runs that are kept of its compiles. Contracts see both.
 #[derive(Drop)]
-pub enum Outcome {
-    Css(List<u8>),
-    Error(Fault),
-}
-
-/// What a compile gives: its messages in order, and its CSS or its fault.
-#[derive(Drop)]
-pub struct Compiled {
-    pub says: List<Saying>,
-    pub outcome: Outcome,
-}
-
-/// A folder that is compiled again and again. Contracts see the folder.
-#[derive(Drop)]
-pub struct Keeper {
+pub struct Keeper<R: Reader, E: Engine> {
     folder: Folder,
+    kept: Table<KeptRuns<R, E>>,
     alloc: Global,
 }
 
-impl Model for Keeper {
-    ghost use Rattle.sw_folder.specs.Files.{Files, files_code};
+impl<R: Reader, E: Engine> Model for Keeper<R, E> {
+    ghost use Rattle.std.specs.Coded.{codes};
+    ghost use Rattle.sw_folder.specs.Files.{files_code};
+    ghost use Rattle.sw_tree.specs.contracts.statement.Statement as statement;
+    ghost use Rattle.sw_keeper.specs.Keeping.{Keeping};
 
-    ghost Value = { Files };
+    ghost Value = { Keeping };
 
-    ghost coded = { files_code };
+    ghost coded = { Prim.hlevel (codes, files_code, statement.the_row.coded) };
 
-    ghost view = { λ keeper. keeper.folder };
+    ghost view = { λ keeper. record { folder = keeper.folder; kept = keeper.kept } };
 }
 
-impl Keeper {
-    /// An empty folder.
-    pub fn new(alloc: Global) -> Keeper
-        ensures { result ≡ files.empty }
+impl<R: Reader, E: Engine> Keeper<R, E> {
+    /// An empty folder, of which no run is kept.
+    pub fn new(alloc: Global) -> Keeper<R, E>
+        ensures { result ≡ record { folder = files.empty; kept = [] } }
     {
         Keeper {
             folder: Folder::new(alloc),
+            kept: Table::new(alloc),
             alloc,
         }
     }
 
     /// Puts a file, as `Folder::put` does.
     pub fn put(&mut self, path: &str, bytes: &[u8]) -> Result<(), EditFault>
-        ensures ok { OnOk result (after_put path.now bytes.now self.old ≡ Ok self.new) }
-        ensures refused { IfErr result (λ fault. IsFaultOf fault (after_put path.now bytes.now self.old)) }
+        ensures ok { OnOk result (after_put path.now bytes.now self.old.folder ≡ Ok self.new.folder) }
+        ensures refused { IfErr result (λ fault. IsFaultOf fault (after_put path.now bytes.now self.old.folder)) }
         ensures unchanged { OnErr result (self.new ≡ self.old) }
+        ensures kept { self.new.kept ≡ self.old.kept }
     {
         self.folder.put(path, bytes)
     }
 
     /// Takes a file out, as `Folder::remove` does. Takes no memory.
     pub fn remove(&mut self, path: &str) -> Result<(), EditFault>
-        ensures ok { OnOk result (after_removal path.now self.old ≡ Ok self.new) }
-        ensures refused { IfErr result (λ fault. after_removal path.now self.old ≡ Err fault) }
+        ensures ok { OnOk result (after_removal path.now self.old.folder ≡ Ok self.new.folder) }
+        ensures refused { IfErr result (λ fault. after_removal path.now self.old.folder ≡ Err fault) }
         ensures unchanged { OnErr result (self.new ≡ self.old) }
+        ensures kept { self.new.kept ≡ self.old.kept }
     {
         self.folder.remove(path)
     }
 
     /// The folder as it is.
     pub fn folder(&self) -> &Folder
-        ensures { result.now ≡ self.now }
+        ensures { result.now ≡ self.now.folder }
     {
         &self.folder
     }
 
-    /// Compiles an entry with these load paths: the messages and the CSS or the fault that the evaluation of the files as they are gives from nothing. Each body that runs is told by the engine. After `Memory` the folder is as before, the engine has told of some bodies more, and the host's state is the one after the calls that were made.
-    pub fn compile<R: Reader, E: Engine, H: Hosts>(
+    /// Compiles an entry with these load paths: the messages and the CSS or the fault that the evaluation of the files as they are gives from nothing. Of the bodies of that evaluation those run whose run isn't the kept one, each with its cause, and the engine tells of just these; the runs that ended well are kept from then on. After `Memory` folder and kept runs are as before, the engine has told of some bodies more, and the host's state is the one after the calls that were made.
+    pub fn compile<H: Hosts>(
         &mut self,
         reader: &R,
         entry: &Name,
         paths: &[Name],
         engine: &mut E,
         hosts: &mut H,
-    ) -> Result<Compiled, Memory>
-        ensures says { IfOk result (λ given. given.says ≡ (compiled (record { functions = record { answer = H.answer; after = H.after }; read = R.reads; body = E.body }) self.old paths.now entry.now (H.state hosts.old)).says) }
-        ensures outcome { IfOk result (λ given. given.outcome ≡ (compiled (record { functions = record { answer = H.answer; after = H.after }; read = R.reads; body = E.body }) self.old paths.now entry.now (H.state hosts.old)).outcome) }
-        ensures hosts { OnOk result (H.state hosts.new ≡ (compiled (record { functions = record { answer = H.answer; after = H.after }; read = R.reads; body = E.body }) self.old paths.now entry.now (H.state hosts.old)).hosts) }
-        ensures ran { OnOk result (E.ran engine.new ≡ E.ran engine.old ++ paths_of (compiled (record { functions = record { answer = H.answer; after = H.after }; read = R.reads; body = E.body }) self.old paths.now entry.now (H.state hosts.old)).runs) }
+    ) -> Result<Reply, Memory>
+        ensures says { IfOk result (λ reply. reply.says ≡ (compiled (record { functions = record { answer = H.answer; after = H.after }; read = R.reads; body = E.body }) self.old.folder paths.now entry.now (H.state hosts.old)).says) }
+        ensures outcome { IfOk result (λ reply. reply.outcome ≡ (compiled (record { functions = record { answer = H.answer; after = H.after }; read = R.reads; body = E.body }) self.old.folder paths.now entry.now (H.state hosts.old)).outcome) }
+        ensures hosts { OnOk result (H.state hosts.new ≡ (compiled (record { functions = record { answer = H.answer; after = H.after }; read = R.reads; body = E.body }) self.old.folder paths.now entry.now (H.state hosts.old)).hosts) }
+        ensures ran { IfOk result (λ reply. Ran (table_of self.old.kept entry.now) (compiled (record { functions = record { answer = H.answer; after = H.after }; read = R.reads; body = E.body }) self.old.folder paths.now entry.now (H.state hosts.old)).runs reply.ran) }
+        ensures told { IfOk result (λ reply. E.ran engine.new ≡ E.ran engine.old ++ paths_of reply.ran) }
         ensures grew { OnErr result (RanMore (E.ran engine.old) (E.ran engine.new)) }
-        ensures folder { self.new ≡ self.old }
+        ensures kept { OnOk result (self.new.kept ≡ kept_after self.old.kept entry.now (compiled (record { functions = record { answer = H.answer; after = H.after }; read = R.reads; body = E.body }) self.old.folder paths.now entry.now (H.state hosts.old)).runs) }
+        ensures folder { self.new.folder ≡ self.old.folder }
+        ensures unchanged { OnErr result (self.new ≡ self.old) }
     {
-        let compiled = compile_folder(
+        let none = KeptRuns::new(self.alloc);
+        let kept = kept_of(&self.kept, &none, entry);
+        let Compiled { reply, runs } = compile_folder(
             self.alloc,
             &self.folder,
+            kept,
             reader,
             entry,
             paths,
             engine,
             hosts,
         )?;
-        Ok(compiled)
+        if !runs.is_empty() {
+            let after = kept.with(self.alloc, runs.as_slice())?;
+            self.kept.add(entry.share()?, after)?;
+        }
+        Ok(reply)
+    }
+}
+
+/// What a compile replies, and the runs that ended in it.
+#[derive(Drop)]
+struct Compiled<R: Reader, E: Engine> {
+    reply: Reply,
+    runs: List<KeptRun<R, E>>,
+}
+
+/// The kept runs of an entry.
+fn kept_of<'k, R: Reader, E: Engine>(
+    tables: &'k Table<KeptRuns<R, E>>,
+    none: &'k KeptRuns<R, E>,
+    entry: &Name,
+) -> &'k KeptRuns<R, E>
+    requires { none.now ≡ [] }
+    ensures { result.now ≡ table_of tables.now entry.now }
+{
+    match tables.get(entry) {
+        Some(kept) => kept,
+        None => none,
     }
 }
 
 fn compile_folder<R: Reader, E: Engine, H: Hosts>(
     alloc: Global,
     folder: &Folder,
+    kept: &KeptRuns<R, E>,
     reader: &R,
     entry: &Name,
     paths: &[Name],
     engine: &mut E,
     hosts: &mut H,
-) -> Result<Compiled, Memory>
-    ensures says { IfOk result (λ given. given.says ≡ (compiled (record { functions = record { answer = H.answer; after = H.after }; read = R.reads; body = E.body }) folder.now paths.now entry.now (H.state hosts.old)).says) }
-    ensures outcome { IfOk result (λ given. given.outcome ≡ (compiled (record { functions = record { answer = H.answer; after = H.after }; read = R.reads; body = E.body }) folder.now paths.now entry.now (H.state hosts.old)).outcome) }
-    ensures hosts { OnOk result (H.state hosts.new ≡ (compiled (record { functions = record { answer = H.answer; after = H.after }; read = R.reads; body = E.body }) folder.now paths.now entry.now (H.state hosts.old)).hosts) }
-    ensures ran { OnOk result (E.ran engine.new ≡ E.ran engine.old ++ paths_of (compiled (record { functions = record { answer = H.answer; after = H.after }; read = R.reads; body = E.body }) folder.now paths.now entry.now (H.state hosts.old)).runs) }
+) -> Result<Compiled<R, E>, Memory>
+    ensures did { IfOk result (λ given. IsCompiled (compiled (setting_of H.answer H.after R.reads E.body) folder.now paths.now entry.now (H.state hosts.old))
+        kept.now given.reply given.runs (H.state hosts.new) (E.ran engine.old) (E.ran engine.new)) }
     ensures grew { OnErr result (RanMore (E.ran engine.old) (E.ran engine.new)) }
 {
     let mut live = Live::new(alloc, folder, paths);
     match live.enter(entry)? {
         Enter::Refused(fault) => Ok(Compiled {
-            says: List::new(alloc),
-            outcome: Outcome::Error(fault),
+            reply: Reply {
+                says: List::new(alloc),
+                ran: List::new(alloc),
+                outcome: Outcome::Error(fault),
+            },
+            runs: List::new(alloc),
         }),
         Enter::Open { path, text } => {
             let config = Shared::new(alloc, List::new(alloc))?;
+            let mut results = Results::new(alloc);
             let end = evaluate(
-                alloc, reader, &mut live, hosts, engine, &path, &text, &config,
+                alloc, reader, &mut live, hosts, engine, kept, &mut results, &path, &text, &config,
             )?;
             live.leave(&end)?;
             let Finished { says, outputs } = live.finish();
             let outcome = outcome_of(alloc, end, &outputs)?;
-            Ok(Compiled { says, outcome })
+            let (runs, ran) = results.into_parts();
+            Ok(Compiled {
+                reply: Reply { says, ran, outcome },
+                runs,
+            })
         }
     }
 }

@@ -1,9 +1,9 @@
 -- The law of a body that was answered as what is outside answers.
 use Rattle.std.proofs.Common.{◌≡◌, ℕ, suc, ◌+◌, List, [], ◌∷◌, ◌++◌, length, refl, ◌∙◌, ap, append_assoc, append-nil, add-zero, add-suc}
 use Rattle.sw_world.specs.declared.op.Op.{Op}
-use Rattle.sw_world.specs.Body.{Pair, Job, Asks, Goes, answers}
+use Rattle.sw_world.specs.Body.{Pair, Run, Job, Asks, Goes, answers}
 use Rattle.sw_modules.specs.Outside.{Outside}
-use Rattle.sw_modules.specs.Fresh.{Setting, Run, Evaluation, responds, goes_on, turn}
+use Rattle.sw_modules.specs.Fresh.{Setting, Evaluation, responds, goes_on, turn}
 use Rattle.sw_modules.specs.Law.{left_after, runs_of, AreAnswers, ComesBy}
 
 pub answers-append : (ps qs : List Pair) → answers (ps ++ qs) ≡ answers ps ++ answers qs

@@ -9,7 +9,7 @@ use Rattle.sw_world.specs.declared.op.Op.TheVariants.{Load, Find, Get, Put, Say,
 use Rattle.sw_world.specs.declared.answer.Answer.{Answer}
 use Rattle.sw_world.specs.declared.end.End.{End}
 use Rattle.sw_world.specs.declared.end.End.TheVariants.{Fault as Fault_end}
-use Rattle.sw_world.specs.Body.{Pair, Job, Next, Asks, Ends, BodyOf, answers}
+use Rattle.sw_world.specs.Body.{Pair, Run, Job, Next, Asks, Ends, BodyOf, answers}
 use Rattle.sw_world.specs.Laws.{most_asked}
 use Rattle.sw_modules.specs.declared.live.Begin.{Begin}
 use Rattle.sw_modules.specs.declared.live.Begin.TheVariants.{Answered, Open}
@@ -22,14 +22,6 @@ pub record Setting : Type 0 where
   pub functions : Functions
   pub read : List ℕ → List ℕ → Result Sheet Fault
   pub body : BodyOf
-
--- a body from its start to its end
-pub record Run : Type 0 where
-  pub path : List ℕ
-  pub text : List ℕ
-  pub config : List (List ℕ × Node)
-  pub seen : List Pair
-  pub end : End
 
 -- what is outside when a body has ended, the runs that ended until then, and how it ended
 pub record Outcome : Type 0 where

@@ -1,8 +1,8 @@
 -- A body that was answered as what is outside would answer it is where the evaluation from nothing comes by.
 use Rattle.std.specs.Prelude.{◌≡◌, ℕ, ◌+◌, List, [], ◌∷◌, ◌++◌, length}
-use Rattle.sw_world.specs.Body.{Pair, Job, answers, Goes}
+use Rattle.sw_world.specs.Body.{Pair, Run, Job, answers, Goes}
 use Rattle.sw_modules.specs.Outside.{Functions, Outside}
-use Rattle.sw_modules.specs.Fresh.{Setting, Run, Evaluation, responds, goes_on}
+use Rattle.sw_modules.specs.Fresh.{Setting, Evaluation, responds, goes_on}
 
 -- what is outside after the questions of these pairs are answered in order
 abbrev pub left_after : Functions → Evaluation → Outside → List Pair → Outside

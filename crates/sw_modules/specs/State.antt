@@ -6,10 +6,10 @@ use Rattle.indexmap.specs.IndexMap.{insert_entry, insert_all}
 use Rattle.sw_css_tree.specs.Output.{Output}
 use Rattle.sw_folder.specs.Files.{Files}
 use Rattle.sw_values.specs.declared.node.Node.{Node}
+use Rattle.sw_world.specs.declared.op.Saying.{Saying}
 use Rattle.sw_world.specs.declared.end.Finish.{Finish}
 use Rattle.sw_modules.specs.declared.module.Module.{Module}
 use Rattle.sw_modules.specs.declared.module.Opened.{Opened}
-use Rattle.sw_modules.specs.declared.module.Saying.{Saying}
 
 -- the folder and the load paths; the loaded modules by their paths, in the order in which their bodies ended; the open loads, the innermost one last;
 -- the messages; the outputs of the modules whose bodies ended, in that order

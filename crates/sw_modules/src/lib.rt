@@ -10,5 +10,5 @@ mod table;
 
 pub use ask::{Asked, comes_by};
 pub use live::{Begin, Enter, Finished, Live};
-pub use module::{Module, Opened, Saying};
+pub use module::{Module, Opened};
 pub use table::Table;

@@ -12,14 +12,14 @@ use crate::loads::{
     add_use, config_of, first_untaken, has_use, is_explicit, is_open, refused, share_names,
     variables_of,
 };
-use crate::{Module, Opened, Saying, Table};
+use crate::{Module, Opened, Table};
 use std::alloc::Global;
 use std::marker::Model;
 use sw_css_tree::CssTree;
 use sw_folder::{Folder, ResolveFault, has_extension, is_path};
 use sw_text::{Fault, FaultCode, List, Memory, Name, Pos, Shared, Span};
 use sw_values::Value;
-use sw_world::{Answer, Config, End, Finish, Given, How, Op, SayKind};
+use sw_world::{Answer, Config, End, Finish, Given, How, Op, SayKind, Saying};
 
 const MOST_OPEN: usize = 64;
 

@@ -1,8 +1,8 @@
-// Modules, open loads and messages.
+// Modules and open loads.
 use crate::Table;
-use sw_text::{Name, Shared, Span};
+use sw_text::{Name, Shared};
 use sw_values::Value;
-use sw_world::{Finish, SayKind};
+use sw_world::Finish;
 
 /// A loaded module.
 #[derive(Drop)]
@@ -21,12 +21,4 @@ pub struct Opened {
     pub path: Name,
     /// The paths of the modules that it uses so far, by their namespaces.
     pub uses: Table<Name>,
-}
-
-/// A message that a body said.
-#[derive(Drop)]
-pub struct Saying {
-    pub kind: SayKind,
-    pub span: Span,
-    pub text: Name,
 }

@@ -13,5 +13,5 @@ pub use answer::Answer;
 pub use end::{Config, End, Finish, Turn};
 pub use engine::Engine;
 pub use hosts::{Hosts, NoHosts};
-pub use op::{Filter, Given, How, Member, Op, SayKind};
+pub use op::{Filter, Given, How, Member, Op, SayKind, Saying};
 pub use world::World;

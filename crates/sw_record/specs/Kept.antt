@@ -1,0 +1,17 @@
+-- Runs that are kept (this project's own rule).
+use Rattle.std.specs.Prelude.{◌≡◌, []}
+use Rattle.sw_tree.specs.declared.sheet.Sheet.{Sheet}
+use Rattle.sw_world.specs.Body.{Run, Job, BodyOf, Ends, answers, Goes}
+
+-- a run, with the sheet that it ran
+pub record Kept : Type 0 where
+  pub sheet : Sheet
+  pub run : Run
+
+abbrev pub job_of : Kept → Job
+job_of kept = record { sheet = kept.sheet; config = kept.run.config; path = kept.run.path }
+
+-- its questions and its end are those of the body
+pub record IsKept (body : BodyOf) (kept : Kept) : Type 0 where
+  pub goes : Goes (body (job_of kept)) [] kept.run.seen
+  pub ends : body (job_of kept) (answers kept.run.seen) ≡ Ends kept.run.end

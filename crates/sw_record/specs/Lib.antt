@@ -1,0 +1,3 @@
+pub mod Kept
+pub mod Replay
+pub mod Ran

@@ -1,0 +1,12 @@
+//! Runs that are kept, the replay of their questions, and what a compile replies. A kept run and a world flow in, what differs flows out.
+#![tactic(auto)]
+
+mod again;
+mod laws;
+mod reply;
+mod run;
+
+pub use again::{Replayed, replay};
+pub use laws::ran_is_one;
+pub use reply::{Cause, Outcome, Reply};
+pub use run::Run;

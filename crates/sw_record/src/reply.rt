@@ -1,0 +1,37 @@
+// What a compile replies.
+use sw_text::{Fault, List, Name};
+use sw_world::Saying;
+
+/// Why a body ran.
+#[derive(Clone, Copy, Debug, PartialEq, Eq)]
+pub enum Cause {
+    /// No run of its module is kept.
+    First,
+    /// Its text is another than that of the kept run.
+    Text,
+    /// Its configuration is another.
+    Config,
+    /// The first question of the kept run that is answered otherwise is a load.
+    Load,
+    /// It is what a name means.
+    Member,
+    /// It is the value of a variable.
+    Variable,
+    /// It is a call of a host's function.
+    Call,
+}
+
+/// The CSS of a compile, or its first fault.
+#[derive(Drop)]
+pub enum Outcome {
+    Css(List<u8>),
+    Error(Fault),
+}
+
+/// The answer to a compile: its messages in order, the modules whose bodies ran, in the order in which these ended, each with its cause, and the CSS or the fault.
+#[derive(Drop)]
+pub struct Reply {
+    pub says: List<Saying>,
+    pub ran: List<(Name, Cause)>,
+    pub outcome: Outcome,
+}
