@@ -1,4 +1,4 @@
-use Rattle.std.proofs.Common.{ℕ, ◌*◌, ap, sym, unsigned_abs, arith}
+use Rattle.std.proofs.Common.{◌*◌, ap, sym, unsigned_abs, arith}
 use Rattle.sw_colour.specs.Hues.{hundred, thirty, swing, place_of}
 use Rattle.sw_colour.proofs.Hues.{part_is, swing_low}
 use Rattle.sw_colour.proofs.hsl.part_of.Goals as goal
