@@ -1,5 +1,6 @@
 pub mod Attributes
 pub mod Holds
+pub mod Laws
 pub mod Nesting
 pub mod Reading
 pub mod Simples

@@ -4,6 +4,7 @@
 mod attribute;
 mod fault;
 mod holds;
+mod laws;
 mod misfits;
 mod nesting;
 mod parents;
@@ -12,11 +13,14 @@ mod reader;
 mod selector;
 mod simple;
 mod splice;
+#[cfg(test)]
+mod tests;
 mod turn;
 mod units;
 mod write;
 
 pub use fault::SelectorFault;
+pub use laws::nests_in_order;
 pub use nesting::nest;
 pub use reader::read;
 pub use selector::{Combinator, Complex, Part, Selectors};

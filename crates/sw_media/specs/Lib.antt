@@ -1,0 +1,6 @@
+pub mod Features
+pub mod Joining
+pub mod Laws
+pub mod Reading
+pub mod Words
+pub mod Writing

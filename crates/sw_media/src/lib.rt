@@ -1,0 +1,19 @@
+//! Media queries: read from a text, joined with those around them, and written out. Texts flow in from the evaluator; texts flow back.
+#![tactic(auto)]
+
+mod fault;
+mod feature;
+mod joining;
+mod laws;
+mod query;
+mod reader;
+#[cfg(test)]
+mod tests;
+mod words;
+mod write;
+
+pub use fault::MediaFault;
+pub use joining::join;
+pub use laws::joins_in_order;
+pub use query::{Condition, Modifier, Queries, Query};
+pub use reader::read;

@@ -1,0 +1,46 @@
+// What media queries are made of.
+ghost use Rattle.std.specs.Prelude.{◌≡◌, [], IsTrue, ◌↔◌};
+
+use sw_text::{List, Name};
+
+/// What stands before a query's type.
+#[derive(Clone, Copy, Debug, PartialEq, Eq)]
+pub enum Modifier {
+    Unmodified,
+    Not,
+    Only,
+}
+
+/// What a query asks for besides its type. A feature is its text in parentheses, as it is written.
+#[derive(Drop)]
+pub enum Condition {
+    /// All of these features, and nothing where there are none.
+    And(List<Name>),
+    /// One of these features.
+    Or(List<Name>),
+    Not(Name),
+}
+
+/// A media query.
+#[derive(Drop)]
+pub struct Query {
+    pub modifier: Modifier,
+    /// The media type, where there is one.
+    pub medium: Option<Name>,
+    pub condition: Condition,
+}
+
+/// A list of media queries.
+#[derive(Drop)]
+pub struct Queries {
+    pub list: List<Query>,
+}
+
+impl Queries {
+    /// Whether no query is left. Takes no memory.
+    pub fn is_empty(&self) -> bool
+        ensures { IsTrue result ↔ (self.now.list ≡ []) }
+    {
+        self.list.is_empty()
+    }
+}
