@@ -14,5 +14,5 @@ mod words;
 
 pub use fault::LineFault;
 pub use read::read_request;
-pub use reply::{Outcome, Reply, edit_reply, memory_reply, write_reply};
+pub use reply::{edit_reply, memory_reply, write_reply};
 pub use request::Request;

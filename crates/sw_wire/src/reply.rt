@@ -1,37 +1,120 @@
 // The text of a reply.
 ghost use Rattle.std.specs.Prelude.{◌≡◌, ◌++◌, codes, length, take, IfOk, OnOk, OnErr};
-ghost use Rattle.sw_wire.specs.Replies.{reply_text, outcome_text, css_head, css_text, fault_text, pos_text, edit_text, memory_text};
+ghost use Rattle.sw_wire.specs.Replies.{reply_text, says_text, saying_text, saying_head, kind_word, ran_text, ran_line, cause_word, outcome_text, css_head, css_text, fault_text, span_text, pos_text, edit_text, memory_text};
 
 use std::alloc::Global;
 use sw_folder::EditFault;
-use sw_text::{Fault, List, Memory, Pos};
+use sw_record::{Cause, Outcome, Reply};
+use sw_text::{Fault, Memory, Name, Pos, Span};
+use sw_world::{SayKind, Saying};
 
-/// What comes of a compile: the CSS, or the first fault.
-#[derive(Debug, Drop)]
-pub enum Outcome {
-    Css(List<u8>),
-    Error(Fault),
-}
-
-/// The answer to a compile.
-#[derive(Debug, Drop)]
-pub struct Reply {
-    pub outcome: Outcome,
-}
-
-/// Writes the reply to a compile behind what stands in `out`: `css N`, a line feed, the N bytes and a line feed, or the line
-/// `error CODE PATH L:C L:C`. After `Memory`, `out` is as before.
+/// Writes the reply to a compile behind what stands in `out`: for each message the line `warn PATH L:C L:C N`, `debug PATH L:C L:C N`
+/// or `fatal PATH L:C L:C N`, the N bytes of its text and a line feed; for each module whose body ran the line `ran PATH CAUSE`; then
+/// `css N`, a line feed, the N bytes and a line feed, or the line `error CODE PATH L:C L:C`. After `Memory`, `out` is as before.
 pub fn write_reply(alloc: Global, reply: &Reply, out: &mut Vec<u8>) -> Result<(), Memory>
     ensures ok { OnOk result (out.new.items ≡ out.old.items ++ reply_text reply.now) }
     ensures err { OnErr result (out.new.items ≡ out.old.items) }
 {
     let before = out.len();
-    match write_outcome(alloc, &reply.outcome, out) {
+    match write_parts(alloc, reply, out) {
         Ok(()) => Ok(()),
         Err(Memory) => {
             out.truncate(before);
             Err(Memory)
         }
+    }
+}
+
+fn write_parts(alloc: Global, reply: &Reply, out: &mut Vec<u8>) -> Result<(), Memory>
+    ensures ok { OnOk result (out.new.items ≡ out.old.items ++ reply_text reply.now) }
+    ensures err { OnErr result (take (length out.old.items) out.new.items ≡ out.old.items) }
+{
+    write_says(alloc, reply.says.as_slice(), out)?;
+    write_ran(reply.ran.as_slice(), out)?;
+    write_outcome(alloc, &reply.outcome, out)
+}
+
+fn write_says(alloc: Global, says: &[Saying], out: &mut Vec<u8>) -> Result<(), Memory>
+    ensures ok { OnOk result (out.new.items ≡ out.old.items ++ says_text says.now) }
+    ensures err { OnErr result (take (length out.old.items) out.new.items ≡ out.old.items) }
+{
+    for saying in says {
+        write_saying(alloc, saying, out)?;
+    }
+    Ok(())
+}
+
+fn write_saying(alloc: Global, saying: &Saying, out: &mut Vec<u8>) -> Result<(), Memory>
+    ensures ok { OnOk result (out.new.items ≡ out.old.items ++ saying_text saying.now) }
+    ensures err { OnErr result (take (length out.old.items) out.new.items ≡ out.old.items) }
+{
+    let text = saying.text.as_str().as_bytes();
+    let head = saying_head(alloc, saying)?;
+    out.extend_from_slice(&head)?;
+    out.extend_from_slice(text)?;
+    out.extend_from_slice(b"\n")?;
+    Ok(())
+}
+
+fn saying_head(alloc: Global, saying: &Saying) -> Result<Vec<u8>, Memory>
+    ensures { IfOk result (λ head. head.items ≡ saying_head saying.now) }
+{
+    let count = saying.text.as_str().len().to_string(alloc)?;
+    let span = span_text(alloc, &saying.span)?;
+    let mut head = Vec::new(alloc);
+    head.extend_from_slice(kind_word(saying.kind))?;
+    head.extend_from_slice(b" ")?;
+    head.extend_from_slice(&span)?;
+    head.extend_from_slice(b" ")?;
+    head.extend_from_slice(count.as_bytes())?;
+    head.extend_from_slice(b"\n")?;
+    Ok(head)
+}
+
+fn kind_word(kind: SayKind) -> &'static [u8]
+    ensures { result.now ≡ kind_word kind }
+{
+    match kind {
+        SayKind::Warn => b"warn",
+        SayKind::Debug => b"debug",
+        SayKind::Fatal => b"fatal",
+    }
+}
+
+fn write_ran(ran: &[(Name, Cause)], out: &mut Vec<u8>) -> Result<(), Memory>
+    ensures ok { OnOk result (out.new.items ≡ out.old.items ++ ran_text ran.now) }
+    ensures err { OnErr result (take (length out.old.items) out.new.items ≡ out.old.items) }
+{
+    for (path, cause) in ran {
+        write_line(path, *cause, out)?;
+    }
+    Ok(())
+}
+
+// the line of a body that ran
+fn write_line(path: &Name, cause: Cause, out: &mut Vec<u8>) -> Result<(), Memory>
+    ensures ok { OnOk result (out.new.items ≡ out.old.items ++ ran_line (path.now, cause)) }
+    ensures err { OnErr result (take (length out.old.items) out.new.items ≡ out.old.items) }
+{
+    out.extend_from_slice(b"ran ")?;
+    out.extend_from_slice(path.as_str().as_bytes())?;
+    out.extend_from_slice(b" ")?;
+    out.extend_from_slice(cause_word(cause))?;
+    out.extend_from_slice(b"\n")?;
+    Ok(())
+}
+
+fn cause_word(cause: Cause) -> &'static [u8]
+    ensures { result.now ≡ cause_word cause }
+{
+    match cause {
+        Cause::First => b"first",
+        Cause::Text => b"text",
+        Cause::Config => b"config",
+        Cause::Load => b"load",
+        Cause::Member => b"member",
+        Cause::Variable => b"variable",
+        Cause::Call => b"call",
     }
 }
 
@@ -70,19 +153,28 @@ fn fault_line(alloc: Global, fault: &Fault) -> Result<Vec<u8>, Memory>
     ensures { IfOk result (λ line. line.items ≡ fault_text fault.now) }
 {
     let code = fault.code.number().to_string(alloc)?;
-    let from = pos_text(alloc, fault.span.from)?;
-    let to = pos_text(alloc, fault.span.to)?;
+    let span = span_text(alloc, &fault.span)?;
     let mut line = Vec::new(alloc);
     line.extend_from_slice(b"error ")?;
     line.extend_from_slice(code.as_bytes())?;
     line.extend_from_slice(b" ")?;
-    line.extend_from_slice(fault.span.file.as_str().as_bytes())?;
-    line.extend_from_slice(b" ")?;
-    line.extend_from_slice(&from)?;
-    line.extend_from_slice(b" ")?;
-    line.extend_from_slice(&to)?;
+    line.extend_from_slice(&span)?;
     line.extend_from_slice(b"\n")?;
     Ok(line)
+}
+
+fn span_text(alloc: Global, span: &Span) -> Result<Vec<u8>, Memory>
+    ensures { IfOk result (λ text. text.items ≡ span_text span.now) }
+{
+    let from = pos_text(alloc, span.from)?;
+    let to = pos_text(alloc, span.to)?;
+    let mut text = Vec::new(alloc);
+    text.extend_from_slice(span.file.as_str().as_bytes())?;
+    text.extend_from_slice(b" ")?;
+    text.extend_from_slice(&from)?;
+    text.extend_from_slice(b" ")?;
+    text.extend_from_slice(&to)?;
+    Ok(text)
 }
 
 fn pos_text(alloc: Global, pos: Pos) -> Result<Vec<u8>, Memory>
