@@ -1,15 +1,14 @@
 -- What was taken has the script of all that the source had.
-use Rattle.std.proofs.Common.{◌≡◌, ◌≢◌, ℕ, List, [], ◌++◌, None, Some, refl, sym, ap, ◌∙◌, ◌⊎◌, inl, inr}
+use Rattle.std.proofs.Common.{◌≡◌, ◌≢◌, ℕ, List, [], ◌++◌, length, None, Some, subst, refl, sym, ap, ◌∙◌, ◌⊎◌, inl, inr}
 use Rattle.std.specs.declared.option.Option.{Option}
 use Rattle.std.proofs.lemmas.List.{append-nil}
 use Rattle.sw_session.specs.declared.stop.Stop.{Stop}
 use Rattle.sw_session.specs.declared.stop.Stop.TheVariants.{Ended, Wrong, CutOff, SourceFailed, SinkFailed, Memory, Over as Over_stop}
 use Rattle.sw_session.specs.Script.{Ending, End, Bad, Over, Cut, Script, script}
-use Rattle.std.specs.FinMap.{empty}
 use Rattle.sw_world.specs.Hosts.{HostState}
 use Rattle.sw_modules.specs.Fresh.{Setting}
-use Rattle.sw_session.specs.Served.{surroundings, Served}
-use Rattle.sw_session.specs.Transcript.{held, turns, text, ran_in, hosts_after}
+use Rattle.sw_session.specs.Served.{surroundings, nothing_held, Served}
+use Rattle.sw_session.specs.Transcript.{AreMarks, turns, text, ran_in, hosts_after}
 use Rattle.sw_session.specs.Exactly.{stop_at, IsBrokenOff, AnswersAll}
 use Rattle.sw_session.proofs.Growing.{script_grows}
 
@@ -60,9 +59,13 @@ module _ (setting : Setting) (most : ℕ) (bytes before now : List ℕ) (left : 
       → Exactly most Ended bytes s.taken → AnswersAll setting most bytes s.marks before now ran ran_now hosts hosts_now
   ended_all s (inl broken) = absurd broken
   ended_all s (inr same) = (
-    s.sink ∙ ap (λ t. before ++ t) (s.did.written ∙ ap (λ (t : Script). text (turns setting (held empty hosts) t.events s.marks)) same.1),
-    s.did.ran ∙ ap (λ (t : Script). ran ++ ran_in (turns setting (held empty hosts) t.events s.marks)) same.1,
-    s.did.hosts ∙ ap (λ (t : Script). hosts_after hosts (turns setting (held empty hosts) t.events s.marks)) same.1,
+    subst (λ (t : Script). AreMarks setting (nothing_held hosts) t.events s.marks) same.1 s.marked,
+    s.tells.each ∙ ap (λ (t : Script). length t.events) same.1,
+    (
+      s.sink ∙ ap (λ t. before ++ t) (s.tells.written ∙ ap (λ (t : Script). text (turns setting (nothing_held hosts) t.events s.marks)) same.1),
+      s.did.ran ∙ ap (λ (t : Script). ran ++ ran_in (turns setting (nothing_held hosts) t.events s.marks)) same.1,
+      s.did.hosts ∙ ap (λ (t : Script). hosts_after hosts (turns setting (nothing_held hosts) t.events s.marks)) same.1,
+    ),
   )
 
   pub all_answered : (stop : Stop) (s : Served setting most stop (surroundings (Some bytes) (Some before) ran hosts) (surroundings left (Some now) ran_now hosts_now)) → (script most bytes).ending ≡ End

@@ -1,13 +1,14 @@
 -- What a session did, by how it ended. This project's own rule.
-use Rattle.std.specs.Prelude.{◌≡◌, ℕ, ◌+◌, ◌≤◌, List, ◌∷◌, ◌++◌, length, ⊤, Option}
+use Rattle.std.specs.Prelude.{◌≡◌, ℕ, ◌≤◌, List, [], ◌∷◌, ◌++◌, length, map, take, ⊤, Option}
 use Rattle.std.specs.Io.KnownBytes.{Appends, Consumes, IsAtEnd}
 use Rattle.std.specs.FinMap.{empty}
 use Rattle.sw_world.specs.Hosts.{HostState}
 use Rattle.sw_modules.specs.Fresh.{Setting}
+use Rattle.sw_record.specs.declared.reply.Cause.{Cause}
 use Rattle.sw_session.specs.declared.stop.Stop.{Stop}
 use Rattle.sw_session.specs.declared.stop.Stop.TheVariants.{Ended, Wrong, CutOff, SourceFailed, SinkFailed, Memory, Over as Over_stop}
-use Rattle.sw_session.specs.Script.{Ending, End, Bad, Over, Cut, script, behind}
-use Rattle.sw_session.specs.Transcript.{Mark, Turn, held, turns, text, ran_in, hosts_after}
+use Rattle.sw_session.specs.Script.{Event, Ending, End, Bad, Over, Cut, script, behind}
+use Rattle.sw_session.specs.Transcript.{Held, held, Mark, Answered, AreMarks, Turn, turns, text, ran_in, hosts_after}
 use Rattle.sw_session.specs.Status.{status_of}
 
 -- what is around a session: the bytes left in the source, those written into the sink, the paths of the bodies that ran, and what the host's functions are
@@ -20,6 +21,10 @@ pub record Surroundings : Type 0 where
 abbrev pub surroundings : Option (List ℕ) → Option (List ℕ) → List (List ℕ) → HostState → Surroundings
 surroundings left written ran hosts = record { left = left; written = written; ran = ran; hosts = hosts }
 
+-- what a session holds at first: no file, and no kept run
+abbrev pub nothing_held : HostState → Held
+nothing_held hosts = held empty [] hosts
+
 -- how the script of what was taken ends
 abbrev pub EndsIn : Stop → Ending → Option (List ℕ) → Type 0
 EndsIn Ended ending left = ending ≡ End
@@ -30,41 +35,47 @@ EndsIn SinkFailed ending left = ⊤
 EndsIn Memory ending left = ⊤
 EndsIn Over_stop ending left = ending ≡ Over
 
--- these turns were carried out: their replies were written, their bodies ran, and the host's functions are as they left them
-pub record Did (done : List Turn) (out : List ℕ) (old new : Surroundings) : Type 0 where
-  pub written : out ≡ text done
+-- the bodies of these turns ran, and the host's functions are as they left them
+pub record Did (done : List Turn) (old new : Surroundings) : Type 0 where
   pub ran : new.ran ≡ old.ran ++ ran_in done
   pub hosts : new.hosts ≡ hosts_after old.hosts done
 
--- the first turns were carried out, and the next one too, but only a front of its reply was written; little was taken past its request
-pub record BreaksOff (all : List Turn) (taken out : List ℕ) (old new : Surroundings) : Type 0 where
+-- the replies of the first turns were written, and a front of the last one's; little was taken past its request
+pub record BreaksOff (done : List Turn) (taken out : List ℕ) : Type 0 where
   pub whole : List Turn
   pub broken : Turn
-  pub later : List Turn
   pub front : List ℕ
   pub back : List ℕ
-  pub order : all ≡ whole ++ broken ∷ later
+  pub order : done ≡ whole ++ broken ∷ []
   pub parts : broken.reply ≡ front ++ back
   pub written : out ≡ text whole ++ front
-  pub ran : new.ran ≡ old.ran ++ (ran_in whole ++ broken.ran)
-  pub hosts : new.hosts ≡ broken.held.hosts
-  pub near : length (behind (length whole + 1) taken) ≤ 4096
+  pub near : length (behind (length done) taken) ≤ 4096
 
--- the first turns were carried out
-abbrev pub DidSome : List Turn → List ℕ → Surroundings → Surroundings → Type 0
-DidSome all out old new = (whole : List Turn) × (later : List Turn) × (all ≡ whole ++ later) × Did whole out old new
+-- the replies of the first turns were written; at most one more was carried out, a compile that was answered so, and nothing of its reply was written
+pub record LeavesOff (marks : List Mark) (done : List Turn) (out : List ℕ) : Type 0 where
+  pub said : List Mark
+  pub unsaid : List (List (List ℕ × Cause))
+  pub order : marks ≡ said ++ map (λ ran. Answered ran) unsaid
+  pub one : length unsaid ≤ 1
+  pub written : out ≡ text (take (length said) done)
 
--- what was done, of all turns
-abbrev pub DidBy : Stop → List Turn → List ℕ → List ℕ → Surroundings → Surroundings → Type 0
-DidBy Ended all taken out old new = Did all out old new
-DidBy Wrong all taken out old new = Did all out old new
-DidBy CutOff all taken out old new = Did all out old new
-DidBy SourceFailed all taken out old new = Did all out old new
-DidBy SinkFailed all taken out old new = BreaksOff all taken out old new
-DidBy Memory all taken out old new = DidSome all out old new
-DidBy Over_stop all taken out old new = Did all out old new
+-- every request has its mark, so that each was carried out, and their replies were written
+pub record Tells (events : List Event) (marks : List Mark) (done : List Turn) (out : List ℕ) : Type 0 where
+  pub each : length marks ≡ length events
+  pub written : out ≡ text done
 
--- the source gave some bytes; their script ends as the stop says, and its turns, from an empty folder, are what was done
+-- which requests were carried out, and what was written of their replies
+abbrev pub TellsBy : Stop → List Event → List Mark → List Turn → List ℕ → List ℕ → Type 0
+TellsBy Ended events marks done taken out = Tells events marks done out
+TellsBy Wrong events marks done taken out = Tells events marks done out
+TellsBy CutOff events marks done taken out = Tells events marks done out
+TellsBy SourceFailed events marks done taken out = Tells events marks done out
+TellsBy SinkFailed events marks done taken out = BreaksOff done taken out
+TellsBy Memory events marks done taken out = LeavesOff marks done out
+TellsBy Over_stop events marks done taken out = Tells events marks done out
+
+-- the source gave some bytes; their script ends as the stop says, and the turns of its requests that have a mark, from an empty folder
+-- and no kept run, are what was done
 pub record Served (setting : Setting) (most : ℕ) (stop : Stop) (old new : Surroundings) : Type 0 where
   pub taken : List ℕ
   pub marks : List Mark
@@ -72,7 +83,9 @@ pub record Served (setting : Setting) (most : ℕ) (stop : Stop) (old new : Surr
   pub source : Consumes old.left new.left taken
   pub sink : Appends old.written new.written out
   pub ending : EndsIn stop (script most taken).ending new.left
-  pub did : DidBy stop (turns setting (held empty old.hosts) (script most taken).events marks) taken out old new
+  pub marked : AreMarks setting (nothing_held old.hosts) (script most taken).events marks
+  pub did : Did (turns setting (nothing_held old.hosts) (script most taken).events marks) old new
+  pub tells : TellsBy stop (script most taken).events marks (turns setting (nothing_held old.hosts) (script most taken).events marks) taken out
 
 -- a session of at most 1,000,000 requests ended with this status
 abbrev pub ServedWith : Setting → ℕ → Surroundings → Surroundings → Type 0

@@ -5,11 +5,11 @@ ghost use Rattle.sw_world.specs.Hosts.{HostState};
 ghost use Rattle.sw_modules.specs.Fresh.{Setting};
 ghost use Rattle.sw_session.specs.Script.{Compile, Remove};
 ghost use Rattle.sw_session.specs.Sheets.{setting_of};
-ghost use Rattle.sw_session.specs.Turns.{place, standing, Says, SaysSome, PutAnswers, PutStops, Causes};
+ghost use Rattle.sw_session.specs.Turns.{place, standing, Says, SaysSome, CompileStops, PutAnswers, PutStops, Causes, SinkCause};
 
-use crate::compiling::compile_text;
 use crate::edits;
-use crate::sending::send;
+use crate::reading::SheetReader;
+use crate::sending::{send, send_reply};
 use crate::stop::Stop;
 use std::alloc::Global;
 use sw_io::{Failed, Reader, Sink, Source};
@@ -18,28 +18,37 @@ use sw_text::{List, Memory, Name};
 use sw_wire::memory_reply;
 use sw_world::{Engine, Hosts};
 
+/// Compiles a file and sends the reply. A compile that finds no memory is refused; where no memory is found for the reply, the session ends.
 pub fn answer_compile<K: Sink, E: Engine, H: Hosts>(
     alloc: Global,
-    keeper: &mut Keeper,
+    keeper: &mut Keeper<SheetReader, E>,
     entry: &Name,
     paths: &List<Name>,
     sink: &mut K,
     engine: &mut E,
     hosts: &mut H,
-) -> Result<(), Failed>
+) -> Result<(), Stop>
     ensures ok { OnOk result (Says (setting_of E.body H.answer H.after) (Compile entry.now paths.now) (standing keeper.old (H.state hosts.old) (E.ran engine.old))
         (standing keeper.new (H.state hosts.new) (E.ran engine.new)) (K.written sink.old) (K.written sink.new)) }
-    ensures err { OnErr result (SaysSome (setting_of E.body H.answer H.after) (Compile entry.now paths.now) (standing keeper.old (H.state hosts.old) (E.ran engine.old))
+    ensures err { IfErr result (λ stop. CompileStops (setting_of E.body H.answer H.after) stop (Compile entry.now paths.now) (standing keeper.old (H.state hosts.old) (E.ran engine.old))
         (standing keeper.new (H.state hosts.new) (E.ran engine.new)) (K.written sink.old) (K.written sink.new)) }
-    ensures cause { HasCause (K.faults sink.old) (K.faults sink.new) result }
+    ensures cause { SinkCause (K.faults sink.old) (K.faults sink.new) result }
 {
-    match compile_text(alloc, keeper, entry, paths, engine, hosts) {
-        Ok(text) => send(sink, &text),
-        Err(Memory) => send(sink, memory_reply()),
+    let reader = SheetReader;
+    match keeper.compile(&reader, entry, paths.as_slice(), engine, hosts) {
+        Ok(reply) => send_reply(alloc, &reply, sink),
+        Err(Memory) => match send(sink, memory_reply()) {
+            Ok(()) => Ok(()),
+            Err(Failed) => Err(Stop::SinkFailed),
+        },
     }
 }
 
-pub fn answer_removal<K: Sink>(keeper: &mut Keeper, path: &Name, sink: &mut K) -> Result<(), Failed>
+pub fn answer_removal<K: Sink, E: Engine>(
+    keeper: &mut Keeper<SheetReader, E>,
+    path: &Name,
+    sink: &mut K,
+) -> Result<(), Failed>
     ensures ok { OnOk result ((setting : Setting) (hosts : HostState) (ran : List (List ℕ))
         → Says setting (Remove path.now) (standing keeper.old hosts ran) (standing keeper.new hosts ran) (K.written sink.old) (K.written sink.new)) }
     ensures err { OnErr result ((setting : Setting) (hosts : HostState) (ran : List (List ℕ))
@@ -50,12 +59,12 @@ pub fn answer_removal<K: Sink>(keeper: &mut Keeper, path: &Name, sink: &mut K) -
     send(sink, reply)
 }
 
-pub fn answer_put<S: Source, K: Sink>(
+pub fn answer_put<S: Source, K: Sink, E: Engine>(
     alloc: Global,
     path: &Name,
     count: u32,
     reader: &mut Reader,
-    keeper: &mut Keeper,
+    keeper: &mut Keeper<SheetReader, E>,
     source: &mut S,
     sink: &mut K,
 ) -> Result<(), Stop>

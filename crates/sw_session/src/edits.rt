@@ -5,6 +5,7 @@ ghost use Rattle.sw_wire.specs.Replies.{edit_text};
 ghost use Rattle.sw_session.specs.Turns.{Puts, PutEnds, SourceCause};
 
 use crate::body::read_body;
+use crate::reading::SheetReader;
 use crate::stop::Stop;
 use std::alloc::Global;
 use sw_folder::{EditFault, unread_fault};
@@ -12,15 +13,16 @@ use sw_io::{Reader, Source};
 use sw_keeper::Keeper;
 use sw_text::Name;
 use sw_wire::edit_reply;
+use sw_world::Engine;
 
 /// Reads the bytes of a put, judges it and edits the folder; gives the reply. The bytes of a put that is refused for its path or
 /// its length are dropped as they come.
-pub fn put<S: Source>(
+pub fn put<S: Source, E: Engine>(
     alloc: Global,
     path: &Name,
     count: u32,
     reader: &mut Reader,
-    keeper: &mut Keeper,
+    keeper: &mut Keeper<SheetReader, E>,
     source: &mut S,
 ) -> Result<&'static [u8], Stop>
     ensures ok { IfOk result (λ reply. Puts path.now count reader.old (S.left source.old) keeper.old
@@ -43,9 +45,14 @@ pub fn put<S: Source>(
 }
 
 // puts the file into the folder, and gives the reply
-fn keep(keeper: &mut Keeper, path: &str, body: &[u8]) -> Result<&'static [u8], Stop>
-    ensures reply { IfOk result (λ reply. reply.now ≡ edit_text (after_put path.now body.now keeper.old)) }
-    ensures folder { OnOk result (keeper.new ≡ folder_after (after_put path.now body.now keeper.old) keeper.old) }
+fn keep<E: Engine>(
+    keeper: &mut Keeper<SheetReader, E>,
+    path: &str,
+    body: &[u8],
+) -> Result<&'static [u8], Stop>
+    ensures reply { IfOk result (λ reply. reply.now ≡ edit_text (after_put path.now body.now keeper.old.folder)) }
+    ensures folder { OnOk result (keeper.new.folder ≡ folder_after (after_put path.now body.now keeper.old.folder) keeper.old.folder) }
+    ensures kept { keeper.new.kept ≡ keeper.old.kept }
     ensures err { IfErr result (λ stop. stop ≡ Stop.Memory) }
 {
     match keeper.put(path, body) {
@@ -56,9 +63,10 @@ fn keep(keeper: &mut Keeper, path: &str, body: &[u8]) -> Result<&'static [u8], S
 }
 
 /// Takes a file out of the folder, and gives the reply.
-pub fn remove(keeper: &mut Keeper, path: &str) -> &'static [u8]
-    ensures reply { result.now ≡ edit_text (after_removal path.now keeper.old) }
-    ensures folder { keeper.new ≡ folder_after (after_removal path.now keeper.old) keeper.old }
+pub fn remove<E: Engine>(keeper: &mut Keeper<SheetReader, E>, path: &str) -> &'static [u8]
+    ensures reply { result.now ≡ edit_text (after_removal path.now keeper.old.folder) }
+    ensures folder { keeper.new.folder ≡ folder_after (after_removal path.now keeper.old.folder) keeper.old.folder }
+    ensures kept { keeper.new.kept ≡ keeper.old.kept }
 {
     match keeper.remove(path) {
         Ok(()) => edit_reply(Ok(())),

@@ -5,7 +5,6 @@
 mod answers;
 mod body;
 mod command;
-mod compiling;
 mod edits;
 mod laws;
 mod reading;

@@ -4,6 +4,7 @@ ghost use Rattle.sw_io.specs.Causes.{Rose};
 ghost use Rattle.sw_session.specs.Sheets.{setting_of};
 ghost use Rattle.sw_session.specs.Served.{surroundings, Served, ServedWith};
 
+use crate::reading::SheetReader;
 use crate::stop::Stop;
 use crate::turns::{last, turn};
 use std::alloc::Global;
@@ -68,7 +69,7 @@ fn answer_all<S: Source, K: Sink, E: Engine, H: Hosts>(
     ensures sink_fault { result ≡ Stop.SinkFailed → Rose (K.faults sink.old) (K.faults sink.new) }
 {
     let mut line = Vec::new(alloc);
-    let mut keeper = Keeper::new(alloc);
+    let mut keeper = Keeper::<SheetReader, E>::new(alloc);
     'requests: for _ in 0..most {
         if let Err(stop) = turn(
             alloc,

@@ -6,6 +6,7 @@ ghost use Rattle.sw_session.specs.Sheets.{setting_of};
 ghost use Rattle.sw_session.specs.Turns.{place, standing, Answers, TurnEnds, LastEnds, Causes};
 
 use crate::answers::{answer_compile, answer_put, answer_removal};
+use crate::reading::SheetReader;
 use crate::stop::Stop;
 use std::alloc::Global;
 use sw_io::{Failed, Reader, Sink, Source};
@@ -18,7 +19,7 @@ pub fn turn<S: Source, K: Sink, E: Engine, H: Hosts>(
     alloc: Global,
     line: &mut Vec<u8>,
     reader: &mut Reader,
-    keeper: &mut Keeper,
+    keeper: &mut Keeper<SheetReader, E>,
     source: &mut S,
     sink: &mut K,
     engine: &mut E,
@@ -34,10 +35,7 @@ pub fn turn<S: Source, K: Sink, E: Engine, H: Hosts>(
     match read_request(alloc, line)? {
         Request::End => Err(Stop::Ended),
         Request::Compile { entry, paths } => {
-            match answer_compile(alloc, keeper, &entry, &paths, sink, engine, hosts) {
-                Ok(()) => Ok(()),
-                Err(Failed) => Err(Stop::SinkFailed),
-            }
+            answer_compile(alloc, keeper, &entry, &paths, sink, engine, hosts)
         }
         Request::Remove(path) => match answer_removal(keeper, &path, sink) {
             Ok(()) => Ok(()),
