@@ -3,6 +3,10 @@
 #![tactic(auto)]
 
 #[cfg(test)]
+mod fault_tests;
+#[cfg(test)]
+mod kept_tests;
+#[cfg(test)]
 mod tests;
 mod words;
 

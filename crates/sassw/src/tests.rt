@@ -9,12 +9,12 @@ use sw_session::{run, serve, serve_within};
 use sw_text::{List, Name};
 use sw_world::NoHosts;
 
-const SHEET: &[u8] = b"put a.scss 11\na { b: c; }\ncompile a.scss\nend\n";
+pub(crate) const SHEET: &[u8] = b"put a.scss 11\na { b: c; }\ncompile a.scss\nend\n";
 
-const ANSWERS: &[u8] = b"ok\ncss 14\na {\n  b: c;\n}\n\n";
+pub(crate) const ANSWERS: &[u8] = b"ok\nran a.scss first\ncss 14\na {\n  b: c;\n}\n\n";
 
 // the status of this script and what it writes, with at most so many bytes in a read and in a write, and with these calls that fail
-fn answers(
+pub(crate) fn answers(
     alloc: Global,
     script: &[u8],
     most: usize,
@@ -42,7 +42,7 @@ fn scripts_in_any_pieces(rt: HostRuntime) -> Result<(), Fail> {
         (SHEET, ANSWERS, 0),
         (
             b"put e.scss 0\n\ncompile e.scss\nend\n",
-            b"ok\ncss 0\n\n",
+            b"ok\nran e.scss first\ncss 0\n\n",
             0,
         ),
         (
@@ -60,7 +60,7 @@ fn scripts_in_any_pieces(rt: HostRuntime) -> Result<(), Fail> {
         ),
         (
             b"put a.scss 11\na { b: c; }\nput a.scss 1\n\xff\ncompile a.scss\nend\n",
-            b"ok\nrefused 204\ncss 14\na {\n  b: c;\n}\n\n",
+            b"ok\nrefused 204\nran a.scss first\ncss 14\na {\n  b: c;\n}\n\n",
             0,
         ),
         (
@@ -70,7 +70,7 @@ fn scripts_in_any_pieces(rt: HostRuntime) -> Result<(), Fail> {
         ),
         (
             b"put a.scss 12\na{b:c}d{e:f}\ncompile a.scss\nremove a.scss\ncompile a.scss\nend\n",
-            b"ok\ncss 29\na {\n  b: c;\n}\n\nd {\n  e: f;\n}\n\nok\nerror 19 a.scss 1:1 1:1\n",
+            b"ok\nran a.scss first\ncss 29\na {\n  b: c;\n}\n\nd {\n  e: f;\n}\n\nok\nerror 19 a.scss 1:1 1:1\n",
             0,
         ),
         (
@@ -80,7 +80,7 @@ fn scripts_in_any_pieces(rt: HostRuntime) -> Result<(), Fail> {
         ),
         (
             b"put a.scss 15\na { }\n.d {e: f}\ncompile a.scss\nend\n",
-            b"ok\ncss 15\n.d {\n  e: f;\n}\n\n",
+            b"ok\nran a.scss first\ncss 15\n.d {\n  e: f;\n}\n\n",
             0,
         ),
         (
@@ -107,39 +107,6 @@ fn scripts_in_any_pieces(rt: HostRuntime) -> Result<(), Fail> {
                 assert_eq!(rt; status, row.2, "most {most}");
             }
         }
-    }
-    Ok(())
-}
-
-#[test]
-fn a_call_fails_at_each_place(rt: HostRuntime) -> Result<(), Fail> {
-    let alloc = rt.alloc();
-    // Five bytes a read: the put is whole after the sixth, the compile after the ninth, which is the last.
-    for (call, length, status) in [
-        (1u32, 0usize, 4u8),
-        (6, 0, 4),
-        (7, 3, 4),
-        (9, 3, 4),
-        (10, 25, 0),
-    ] {
-        let (ended, bytes) = answers(alloc, SHEET, 5, &[call], &[])?;
-        assert_eq!(rt; ended, status, "read {call}");
-        assert_eq!(rt; bytes.len(), length, "read {call}");
-    }
-    // Four bytes a write, and a flush behind each reply.
-    for (call, length, status) in [
-        (1u32, 0usize, 5u8),
-        (2, 3, 5),
-        (3, 3, 5),
-        (4, 7, 5),
-        (8, 23, 5),
-        (9, 25, 5),
-        (10, 25, 0),
-    ] {
-        let (ended, bytes) = answers(alloc, SHEET, 4, &[], &[call])?;
-        assert_eq!(rt; ended, status, "write {call}");
-        assert_eq!(rt; ANSWERS.starts_with(bytes.as_slice()), true, "write {call}");
-        assert_eq!(rt; bytes.len(), length, "write {call}");
     }
     Ok(())
 }
@@ -222,93 +189,105 @@ fn modules(rt: HostRuntime) -> Result<(), Fail> {
     let rows: [(&[u8], &[u8]); 21] = [
         (
             b"put lib.scss 8\n$n: one;\nput other.scss 8\n$n: two;\nput main.scss 68\n@use \"lib\"; @use \"other\"; lib.$n: six; a { b: lib.$n; c: other.$n; }\ncompile main.scss\nend\n",
-            b"ok\nok\nok\ncss 26\na {\n  b: six;\n  c: two;\n}\n\n",
+            b"ok\nok\nok\nran lib.scss first\nran other.scss first\nran main.scss first\ncss 26\na {\n  b: six;\n  c: two;\n}\n\n",
         ),
         (
             b"put lib.scss 8\n$n: one;\nput theme.scss 24\n@use \"lib\"; lib.$n: two;\nput main.scss 42\n@use \"lib\"; @use \"theme\"; a { b: lib.$n; }\ncompile main.scss\nend\n",
-            b"ok\nok\nok\ncss 16\na {\n  b: two;\n}\n\n",
+            b"ok\nok\nok\nran lib.scss first\nran theme.scss first\nran main.scss first\ncss 16\na {\n  b: two;\n}\n\n",
         ),
         (
             b"put a.scss 15\na { @use \"b\"; }\ncompile a.scss\nend\n",
-            b"ok\nerror 40 a.scss 1:5 1:13\n",
+            b"ok\nran a.scss first\nerror 40 a.scss 1:5 1:13\n",
         ),
         (
             b"put a.scss 9\n@use \"b\";\nput b.scss 9\n@use \"a\";\ncompile a.scss\nend\n",
-            b"ok\nok\nerror 21 b.scss 1:6 1:9\n",
+            b"ok\nok\nran b.scss first\nran a.scss first\nerror 21 b.scss 1:6 1:9\n",
         ),
         (
             b"put a.scss 9\n@use \"b\";\nput b.scss 9\n@use \"c\";\nput c.scss 9\n@use \"a\";\ncompile a.scss\nend\n",
-            b"ok\nok\nok\nerror 21 c.scss 1:6 1:9\n",
+            b"ok\nok\nok\nran c.scss first\nran b.scss first\nran a.scss first\nerror 21 c.scss 1:6 1:9\n",
         ),
         (
             b"put lib.scss 8\n$n: one;\nput main.scss 28\n@use \"lib\"; a { b: lib.$n; }\ncompile main.scss\nput _lib.scss 8\n$n: two;\ncompile main.scss\nremove _lib.scss\ncompile main.scss\nend\n",
-            b"ok\nok\ncss 16\na {\n  b: one;\n}\n\nok\nerror 20 main.scss 1:6 1:11\nok\ncss 16\na {\n  b: one;\n}\n\n",
+            b"ok\nok\nran lib.scss first\nran main.scss first\ncss 16\na {\n  b: one;\n}\n\nok\nran main.scss load\nerror 20 main.scss 1:6 1:11\nok\ncss 16\na {\n  b: one;\n}\n\n",
         ),
         (
             b"put src/main.scss 28\n@use \"lib\"; a { b: lib.$n; }\nput vendor/lib.scss 8\n$n: one;\ncompile src/main.scss vendor\nput src/lib.scss 8\n$n: two;\ncompile src/main.scss vendor\nend\n",
-            b"ok\nok\ncss 16\na {\n  b: one;\n}\n\nok\ncss 16\na {\n  b: two;\n}\n\n",
+            b"ok\nok\nran vendor/lib.scss first\nran src/main.scss first\ncss 16\na {\n  b: one;\n}\n\nok\nran src/lib.scss first\nran src/main.scss load\ncss 16\na {\n  b: two;\n}\n\n",
         ),
         (
             b"put b.scss 11\nx { y: z; }\nput main.scss 21\n@use \"b\"; a { b: c; }\ncompile main.scss\nend\n",
-            b"ok\nok\ncss 29\nx {\n  y: z;\n}\n\na {\n  b: c;\n}\n\n",
+            b"ok\nok\nran b.scss first\nran main.scss first\ncss 29\nx {\n  y: z;\n}\n\na {\n  b: c;\n}\n\n",
         ),
         (
             b"put d.scss 11\nd { e: f; }\nput b.scss 21\n@use \"d\"; b { e: f; }\nput c.scss 21\n@use \"d\"; c { e: f; }\nput main.scss 19\n@use \"b\"; @use \"c\";\ncompile main.scss\nend\n",
-            b"ok\nok\nok\nok\ncss 44\nd {\n  e: f;\n}\n\nb {\n  e: f;\n}\n\nc {\n  e: f;\n}\n\n",
+            b"ok\nok\nok\nok\nran d.scss first\nran b.scss first\nran c.scss first\nran main.scss first\ncss 44\nd {\n  e: f;\n}\n\nb {\n  e: f;\n}\n\nc {\n  e: f;\n}\n\n",
         ),
         (
             b"put lib.scss 8\n$n: one;\nput main.scss 43\n@use \"lib\"; @use \"lib\" as l; a { b: l.$n; }\ncompile main.scss\nend\n",
-            b"ok\nok\ncss 16\na {\n  b: one;\n}\n\n",
+            b"ok\nok\nran lib.scss first\nran main.scss first\ncss 16\na {\n  b: one;\n}\n\n",
         ),
         (
             b"put lib.scss 8\n$n: one;\nput x/lib.scss 8\n$n: two;\nput main.scss 25\n@use \"lib\"; @use \"x/lib\";\ncompile main.scss\nend\n",
-            b"ok\nok\nok\nerror 24 main.scss 1:18 1:25\n",
+            b"ok\nok\nok\nran lib.scss first\nran x/lib.scss first\nran main.scss first\nerror 24 main.scss 1:18 1:25\n",
         ),
         (
             b"put lib.scss 18\n$n: one; $-p: two;\nput main.scss 12\na { b: $x; }\ncompile main.scss\nend\n",
-            b"ok\nok\nerror 11 main.scss 1:8 1:10\n",
+            b"ok\nok\nran main.scss first\nerror 11 main.scss 1:8 1:10\n",
         ),
         (
             b"put lib.scss 18\n$n: one; $-p: two;\nput main.scss 14\na { b: m.$x; }\ncompile main.scss\nend\n",
-            b"ok\nok\nerror 12 main.scss 1:8 1:9\n",
+            b"ok\nok\nran main.scss first\nerror 12 main.scss 1:8 1:9\n",
         ),
         (
             b"put lib.scss 18\n$n: one; $-p: two;\nput main.scss 29\n@use \"lib\"; a { b: lib.$zz; }\ncompile main.scss\nend\n",
-            b"ok\nok\nerror 13 main.scss 1:20 1:27\n",
+            b"ok\nok\nran lib.scss first\nran main.scss first\nerror 13 main.scss 1:20 1:27\n",
         ),
         (
             b"put lib.scss 18\n$n: one; $-p: two;\nput main.scss 29\n@use \"lib\"; a { b: lib.$-p; }\ncompile main.scss\nend\n",
-            b"ok\nok\nerror 37 main.scss 1:20 1:27\n",
+            b"ok\nok\nran lib.scss first\nran main.scss first\nerror 37 main.scss 1:20 1:27\n",
         ),
         (
             b"put lib.scss 18\n$n: one; $-p: two;\nput main.scss 23\n@use \"lib\"; lib.$zz: x;\ncompile main.scss\nend\n",
-            b"ok\nok\nerror 13 main.scss 1:13 1:20\n",
+            b"ok\nok\nran lib.scss first\nran main.scss first\nerror 13 main.scss 1:13 1:20\n",
         ),
         (
             b"put lib.scss 18\n$n: one; $-p: two;\nput main.scss 23\na { b: c; } @use \"lib\";\ncompile main.scss\nend\n",
-            b"ok\nok\nerror 38 main.scss 1:13 1:23\n",
+            b"ok\nok\nran main.scss first\nerror 38 main.scss 1:13 1:23\n",
         ),
         (
             b"put lib.scss 18\n$n: one; $-p: two;\nput main.scss 15\n@use \"nowhere\";\ncompile main.scss\nend\n",
-            b"ok\nok\nerror 19 main.scss 1:6 1:15\n",
+            b"ok\nok\nran main.scss first\nerror 19 main.scss 1:6 1:15\n",
         ),
         (
             b"put lib.scss 18\n$n: one; $-p: two;\nput main.scss 22\n@use \"sass:math\" as m;\ncompile main.scss\nend\n",
-            b"ok\nok\nerror 19 main.scss 1:6 1:17\n",
+            b"ok\nok\nran main.scss first\nerror 19 main.scss 1:6 1:17\n",
         ),
         (
             b"put leaf.scss 5\n$n: ;\nput main.scss 30\n@use \"leaf\"; a { b: leaf.$n; }\ncompile main.scss\nput leaf.scss 8\n$n: one;\ncompile main.scss\nend\n",
-            b"ok\nok\nerror 10 leaf.scss 1:5 1:6\nok\ncss 16\na {\n  b: one;\n}\n\n",
+            b"ok\nok\nran main.scss first\nerror 10 leaf.scss 1:5 1:6\nok\nran leaf.scss first\nran main.scss first\ncss 16\na {\n  b: one;\n}\n\n",
         ),
         (
             b"put main.scss 45\n$a: one; $b: $a; $a: two; a { b: $b; c: $a; }\ncompile main.scss\nend\n",
-            b"ok\ncss 26\na {\n  b: one;\n  c: two;\n}\n\n",
+            b"ok\nran main.scss first\ncss 26\na {\n  b: one;\n  c: two;\n}\n\n",
         ),
     ];
     for row in rows.iter() {
         let (status, bytes) = answers(alloc, row.0, 4096, &[], &[])?;
         assert_eq!(rt; bytes.as_slice(), row.1);
         assert_eq!(rt; status, 0);
+    }
+    Ok(())
+}
+
+// The lines of the bodies that ran, from this file down, and so many of them.
+fn ran_down(alloc: Global, out: &mut Vec<u8>, last: u32, count: u32) -> Result<(), AllocError>
+    requires { count ≤ last + 1 }
+{
+    for step in 0..count {
+        let file = last - step;
+        let line = format!(in alloc; "ran f{file}.scss first\n")?;
+        out.extend_from_slice(line.as_bytes())?;
     }
     Ok(())
 }
@@ -326,11 +305,13 @@ fn chains_of_loads(rt: HostRuntime) -> Result<(), Fail> {
         script.extend_from_slice(line.as_bytes())?;
     }
     script.extend_from_slice(b"compile f0.scss\ncompile f1.scss\nend\n")?;
+    let mut replies = b"ok\n".to_vec(alloc)?;
+    ran_down(alloc, &mut replies, 63, 64)?;
+    replies.extend_from_slice(b"error 32 f63.scss 1:6 1:11\n")?;
+    ran_down(alloc, &mut replies, 64, 64)?;
+    replies.extend_from_slice(b"css 0\n\n")?;
     let (status, bytes) = answers(alloc, &script, 4096, &[], &[])?;
     assert_eq!(rt; status, 0);
-    assert_eq!(rt;
-        bytes.ends_with(b"ok\nerror 32 f63.scss 1:6 1:11\ncss 0\n\n"),
-        true
-    );
+    assert_eq!(rt; bytes.ends_with(&replies), true);
     Ok(())
 }
