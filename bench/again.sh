@@ -1,0 +1,70 @@
+#!/bin/sh
+# How long a compile takes in a session that has compiled the same folder before: one entry loads N modules, each with a variable that it
+# reads. The second compile finds all as it was, the third one module edited. The fastest of five sessions counts.
+# Usage: again.sh PROGRAM
+set -eu
+exec python3 - "$1" <<'END'
+import subprocess
+import sys
+import time
+
+
+def put(path, text):
+    return f"put {path} {len(text)}\n{text}\n".encode()
+
+
+class Session:
+    """One run of the program, over pipes."""
+
+    def __init__(self, program):
+        self.process = subprocess.Popen([program, "session"], stdin=subprocess.PIPE, stdout=subprocess.PIPE)
+
+    def edit(self, path, text):
+        self.process.stdin.write(put(path, text))
+        self.process.stdin.flush()
+        reply = self.process.stdout.readline()
+        assert reply == b"ok\n", reply
+
+    def compile(self):
+        """The seconds until the reply has ended, and how many bodies ran."""
+        begun = time.perf_counter()
+        self.process.stdin.write(b"compile main.scss\n")
+        self.process.stdin.flush()
+        ran = 0
+        while (line := self.process.stdout.readline()).startswith(b"ran "):
+            ran += 1
+        word, count = line.split()
+        assert word == b"css", line
+        self.process.stdout.read(int(count) + 1)
+        return time.perf_counter() - begun, ran
+
+    def end(self):
+        self.process.stdin.write(b"end\n")
+        self.process.stdin.close()
+        assert self.process.wait() == 0
+
+
+def measured(program, modules):
+    session = Session(program)
+    for number in range(modules):
+        session.edit(f"m{number}.scss", f"$v: w{number};")
+    loads = "".join(f'@use "m{number}";\n' for number in range(modules))
+    lines = "".join(f"p{number}: m{number}.$v;\n" for number in range(modules))
+    session.edit("main.scss", loads + "a {\n" + lines + "}")
+    first, ran_first = session.compile()
+    second, ran_second = session.compile()
+    session.edit("m0.scss", "$v: other;")
+    edited, ran_edited = session.compile()
+    session.end()
+    assert (ran_first, ran_second, ran_edited) == (modules + 1, 0, 2)
+    return first, second, edited
+
+
+for modules in (100, 200, 400):
+    times = [measured(sys.argv[1], modules) for _ in range(5)]
+    first, second, edited = (min(column) * 1000 for column in zip(*times))
+    print(
+        f"{modules} modules: first {first:.2f} ms, second {second:.2f} ms, ratio {second / first:.2f};"
+        f" after one edit {edited:.2f} ms, ratio {edited / first:.2f}"
+    )
+END
