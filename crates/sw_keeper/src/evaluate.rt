@@ -222,8 +222,19 @@ pub(crate) fn evaluate<R: Reader, E: Engine, H: Hosts>(
             Ok(sheet) => {
                 let cause = cause_anew(kept, path, text, config);
                 let end = run_body(
-                    alloc, reader, live, hosts, engine, kept, results, path, text, &sheet, config,
-                    &[], cause,
+                    alloc,
+                    reader,
+                    live,
+                    hosts,
+                    engine,
+                    kept,
+                    results,
+                    path,
+                    text,
+                    &sheet,
+                    config,
+                    &[],
+                    cause,
                 )?;
                 Ok(end)
             }
@@ -235,8 +246,19 @@ pub(crate) fn evaluate<R: Reader, E: Engine, H: Hosts>(
         Some(departure) => {
             let known = departure.known.as_slice();
             let end = run_body(
-                alloc, reader, live, hosts, engine, kept, results, path, text, run.sheet(), config,
-                known, departure.cause,
+                alloc,
+                reader,
+                live,
+                hosts,
+                engine,
+                kept,
+                results,
+                path,
+                text,
+                run.sheet(),
+                config,
+                known,
+                departure.cause,
             )?;
             Ok(end)
         }

@@ -171,7 +171,16 @@ fn compile_folder<R: Reader, E: Engine, H: Hosts>(
             let config = Shared::new(alloc, List::new(alloc))?;
             let mut results = Results::new(alloc);
             let end = evaluate(
-                alloc, reader, &mut live, hosts, engine, kept, &mut results, &path, &text, &config,
+                alloc,
+                reader,
+                &mut live,
+                hosts,
+                engine,
+                kept,
+                &mut results,
+                &path,
+                &text,
+                &config,
             )?;
             live.leave(&end)?;
             let Finished { says, outputs } = live.finish();
