@@ -114,12 +114,7 @@ fn kind_of(modifier: Modifier, medium: &Name) -> Result<Kind, Memory>
 
 // The type of two queries that both have one.
 #[tactic(auto, unfolding(crate::specs::Joining::two_media))]
-fn two_media(
-    outer: Modifier,
-    a: &Name,
-    inner: Modifier,
-    b: &Name,
-) -> Result<Option<Kind>, Memory>
+fn two_media(outer: Modifier, a: &Name, inner: Modifier, b: &Name) -> Result<Option<Kind>, Memory>
     ensures { IfOk result (λ kind. kind ≡ two_media outer a.now inner b.now) }
 {
     if same_medium(a.as_str(), b.as_str()) {
@@ -180,11 +175,7 @@ fn push_shared(out: &mut List<Name>, features: &[Name]) -> Result<(), Memory>
     Ok(())
 }
 
-fn push_features(
-    alloc: Global,
-    out: &mut List<Name>,
-    condition: &Condition,
-) -> Result<(), Memory>
+fn push_features(alloc: Global, out: &mut List<Name>, condition: &Condition) -> Result<(), Memory>
     ensures { OnOk result (out.new ≡ out.old ++ features_of condition.now) }
 {
     match condition {

@@ -56,12 +56,7 @@ fn queries_in(alloc: Global, text: &str, levels: u8) -> Result<List<Query>, Medi
 }
 
 #[tactic(auto, unfolding(crate::specs::Reading::query_at))]
-fn query_at(
-    alloc: Global,
-    text: &str,
-    levels: u8,
-    at: usize,
-) -> Result<(Query, usize), MediaFault>
+fn query_at(alloc: Global, text: &str, levels: u8, at: usize) -> Result<(Query, usize), MediaFault>
     ensures { IsRead result (query_at (conditions_in text.now levels) text.now at) }
 {
     let behind = white(text.as_bytes(), name_end(text.as_bytes(), at));
@@ -271,12 +266,7 @@ fn features_at(
 // The text of a feature, and the place behind it.
 #[cycle(descent)]
 #[tactic(auto, unfolding(crate::specs::Reading::feature_at))]
-fn feature_at(
-    alloc: Global,
-    text: &str,
-    levels: u8,
-    at: usize,
-) -> Result<(Name, usize), MediaFault>
+fn feature_at(alloc: Global, text: &str, levels: u8, at: usize) -> Result<(Name, usize), MediaFault>
     ensures { IsRead result (feature_at (conditions_in text.now levels) text.now at) }
 {
     if byte_at(text.as_bytes(), at) != 40 {
@@ -288,12 +278,7 @@ fn feature_at(
 // The inside of parentheses.
 #[cycle(descent)]
 #[tactic(auto, unfolding(crate::specs::Reading::inside_at))]
-fn inside_at(
-    alloc: Global,
-    text: &str,
-    levels: u8,
-    at: usize,
-) -> Result<(Name, usize), MediaFault>
+fn inside_at(alloc: Global, text: &str, levels: u8, at: usize) -> Result<(Name, usize), MediaFault>
     ensures { IsRead result (inside_at (conditions_in text.now levels) text.now at) }
 {
     if byte_at(text.as_bytes(), at) == 40 || is_at("not", text, at) {
@@ -304,12 +289,7 @@ fn inside_at(
 
 #[cycle(descent)]
 #[tactic(auto, unfolding(crate::specs::Reading::nested_by))]
-fn nested_at(
-    alloc: Global,
-    text: &str,
-    levels: u8,
-    at: usize,
-) -> Result<(Name, usize), MediaFault>
+fn nested_at(alloc: Global, text: &str, levels: u8, at: usize) -> Result<(Name, usize), MediaFault>
     ensures { IsRead result (nested_by text.now (conditions_in text.now levels at)) }
 {
     let (condition, to) = conditions_in(alloc, text, levels, at)?;

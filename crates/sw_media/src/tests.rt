@@ -147,14 +147,44 @@ fn joining(rt: HostRuntime) -> Result<(), Fail> {
     let a = rt.alloc();
     joins(&rt, a, "screen", "(a)", "screen and (a)")?;
     joins(&rt, a, "(a)", "print and (b)", "print and (a) and (b)")?;
-    joins(&rt, a, "(a), (b)", "(c), (d)", "(a) and (c), (a) and (d), (b) and (c), (b) and (d)")?;
-    joins(&rt, a, "Screen and (a)", "only screen and (b)", "only Screen and (a) and (b)")?;
+    joins(
+        &rt,
+        a,
+        "(a), (b)",
+        "(c), (d)",
+        "(a) and (c), (a) and (d), (b) and (c), (b) and (d)",
+    )?;
+    joins(
+        &rt,
+        a,
+        "Screen and (a)",
+        "only screen and (b)",
+        "only Screen and (a) and (b)",
+    )?;
     joins(&rt, a, "only all and (a)", "screen", "screen and (a)")?;
     joins(&rt, a, "only screen", "ALL and (a)", "only screen and (a)")?;
     joins(&rt, a, "all", "only all", "only all")?;
-    joins(&rt, a, "screen, print", "print and (a), (b)", "screen and (b), print and (a), print and (b)")?;
-    joins(&rt, a, "(a) or (b)", "screen and not (c)", "screen and ((a) or (b)) and (not (c))")?;
-    joins(&rt, a, "not (a)", "(b) or (c)", "(not (a)) and ((b) or (c))")?;
+    joins(
+        &rt,
+        a,
+        "screen, print",
+        "print and (a), (b)",
+        "screen and (b), print and (a), print and (b)",
+    )?;
+    joins(
+        &rt,
+        a,
+        "(a) or (b)",
+        "screen and not (c)",
+        "screen and ((a) or (b)) and (not (c))",
+    )?;
+    joins(
+        &rt,
+        a,
+        "not (a)",
+        "(b) or (c)",
+        "(not (a)) and ((b) or (c))",
+    )?;
     assert!(rt; joined(a, "print", "screen")?.is_empty());
     assert!(rt; !joined(a, "print", "print")?.is_empty());
     Ok(())
@@ -168,10 +198,20 @@ fn limits(rt: HostRuntime) -> Result<(), Fail> {
     stays(&rt, a, wrapped(a, 128)?.as_str())?;
     bad(&rt, a, wrapped(a, 129)?.as_str());
     assert!(rt; read(a, types(a, 10_000)?.as_str()).is_ok());
-    assert!(rt; matches!(read(a, types(a, 10_001)?.as_str()), Err(MediaFault::TooLarge)));
+    assert!(rt;
+        matches!(
+            read(a, types(a, 10_001)?.as_str()),
+            Err(MediaFault::TooLarge)
+        )
+    );
     let hundred = types(a, 100)?;
     assert!(rt; joined(a, hundred.as_str(), hundred.as_str()).is_ok());
     let more = types(a, 101)?;
-    assert!(rt; matches!(joined(a, hundred.as_str(), more.as_str()), Err(MediaFault::TooLarge)));
+    assert!(rt;
+        matches!(
+            joined(a, hundred.as_str(), more.as_str()),
+            Err(MediaFault::TooLarge)
+        )
+    );
     Ok(())
 }

@@ -1,10 +1,17 @@
-use crate::{Class, Stops, begins_name, byte_at, is_letter, is_white, piece, run_end, stop_at, string_end, trimmed_end};
+use crate::{
+    Class, Stops, begins_name, byte_at, is_letter, is_white, piece, run_end, stop_at, string_end,
+    trimmed_end,
+};
 use std::alloc::Global;
 use std::process::Abort;
 use std::test::Fail;
 
 fn name(rt: &impl Abort, text: &str, expected: usize) {
-    assert_eq!(rt; run_end(text.as_bytes(), Class::Name, 0), expected, "{text:?}");
+    assert_eq!(rt;
+        run_end(text.as_bytes(), Class::Name, 0),
+        expected,
+        "{text:?}"
+    );
 }
 
 fn stops(rt: &impl Abort, alloc: Global, text: &str, expected: Option<usize>) -> Result<(), Fail> {

@@ -1,5 +1,5 @@
 -- Nesting by pairs.
-use Rattle.std.proofs.Common.{◌≡◌, ℕ, zero, suc, ◌+◌, ◌*◌, Bool, List, [], ◌∷◌, ◌++◌, length, map, refl, sym, ◌∙◌, ap, append_assoc, arith, length-append}
+use Rattle.std.proofs.Common.{◌≡◌, ℕ, suc, ◌+◌, ◌*◌, Bool, List, [], ◌∷◌, ◌++◌, length, map, sym, ◌∙◌, ap, append_assoc, arith, length-append}
 use Rattle.std.specs.List.{flat_map}
 use Rattle.std.proofs.lemmas.List.{append-nil, length-map}
 use Rattle.std.proofs.lemmas.List.Concat.{flat_map-cons}
@@ -41,7 +41,7 @@ count : (f : List Part → List (List Part)) (m : ℕ) → ((parent : List Part)
 count f m h [] = omega arith
 count f m h (parent ∷ parents) =
     let e : length (flat_map f (parent ∷ parents)) ≡ length (f parent) + length (flat_map f parents) =
-        ap length (flat_map-cons f parent parents) ∙ length-append (f parent) (flat_map f parents) in
+    ap length (flat_map-cons f parent parents) ∙ length-append (f parent) (flat_map f parents) in
     let a = h parent in
     let b = count f m h parents in
     let c = more m (length parents) in

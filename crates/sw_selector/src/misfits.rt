@@ -17,13 +17,7 @@ fn misfits(parents: &[Complex], ends: Ends, levels: u8, joined: bool, suffix: &s
 
 #[cycle(misfits)]
 #[tactic(auto, unfolding(crate::specs::Nesting::part_misfits))]
-fn part_misfits(
-    parents: &[Complex],
-    ends: Ends,
-    levels: u8,
-    joined: bool,
-    part: &Part,
-) -> bool
+fn part_misfits(parents: &[Complex], ends: Ends, levels: u8, joined: bool, part: &Part) -> bool
     ensures { result ≡ part_misfits (list_misfits parents.now ends levels) parents.now ends levels joined part.now }
 {
     match part {

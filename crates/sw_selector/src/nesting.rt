@@ -27,7 +27,12 @@ pub fn nest(
 {
     match parent {
         None => nested_alone(alloc, child.list.as_slice()),
-        Some(parent) => nested_under(alloc, parent.list.as_slice(), child.list.as_slice(), at_root),
+        Some(parent) => nested_under(
+            alloc,
+            parent.list.as_slice(),
+            child.list.as_slice(),
+            at_root,
+        ),
     }
 }
 

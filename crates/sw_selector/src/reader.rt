@@ -161,22 +161,14 @@ fn last_turn(before: Before, at: usize) -> Result<Turn, SelectorFault>
     Err(SelectorFault::BadSelector)
 }
 
-fn combinator_turn(
-    before: Before,
-    combinator: Combinator,
-    at: usize,
-) -> Result<Turn, SelectorFault>
+fn combinator_turn(before: Before, combinator: Combinator, at: usize) -> Result<Turn, SelectorFault>
     requires { at < 2 ^ 63 }
     ensures { IsRead result (combinator_turn before combinator at) }
 {
     if is_joined(before) {
         return Err(SelectorFault::BadSelector);
     }
-    Ok(Turn::Takes(
-        Part::Combinator(combinator),
-        Before::Combinator,
-        at + 1,
-    ))
+    Ok(Turn::Takes(Part::Combinator(combinator), Before::Combinator, at + 1))
 }
 
 #[cycle(descent)]

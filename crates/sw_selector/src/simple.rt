@@ -43,11 +43,7 @@ pub fn class_at(alloc: Global, text: &str, at: usize) -> Result<(Part, usize), S
     Ok((Part::Named(name), to))
 }
 
-pub fn placeholder_at(
-    alloc: Global,
-    text: &str,
-    at: usize,
-) -> Result<(Part, usize), SelectorFault>
+pub fn placeholder_at(alloc: Global, text: &str, at: usize) -> Result<(Part, usize), SelectorFault>
     requires { at < length text.now }
     ensures { IsRead result (placeholder_at text.now at) }
 {
@@ -79,11 +75,7 @@ pub fn type_at(alloc: Global, text: &str, at: usize) -> Result<(Part, usize), Se
     type_behind(alloc, text, at, prefix_end(text.as_bytes(), at))
 }
 
-pub fn attribute_at(
-    alloc: Global,
-    text: &str,
-    at: usize,
-) -> Result<(Part, usize), SelectorFault>
+pub fn attribute_at(alloc: Global, text: &str, at: usize) -> Result<(Part, usize), SelectorFault>
     requires { at < length text.now }
     ensures { IsRead result (attribute_at text.now at) }
 {

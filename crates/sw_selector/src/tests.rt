@@ -154,7 +154,12 @@ fn pseudos(rt: HostRuntime) -> Result<(), Fail> {
     reads(&rt, a, ":has(>a)", ":has(> a)")?;
     reads(&rt, a, "::slotted(a  b)", "::slotted(a b)")?;
     reads(&rt, a, ":host-context(.a)", ":host-context(.a)")?;
-    reads(&rt, a, ":nth-child( 2n + 1 of x )", ":nth-child(2n + 1 of x)")?;
+    reads(
+        &rt,
+        a,
+        ":nth-child( 2n + 1 of x )",
+        ":nth-child(2n + 1 of x)",
+    )?;
     stays(&rt, a, ":lang(\")\", '\\'')")?;
     stays(&rt, a, ":-moz-any(&, (a;b))")?;
     stays(&rt, a, "::part(a  b)")?;
@@ -200,7 +205,13 @@ fn nesting(rt: HostRuntime) -> Result<(), Fail> {
     nests(&rt, a, "> p", "b", "> p b")?;
     nests(&rt, a, "a, b", "& + &", "a + a, b + b")?;
     nests(&rt, a, "a, b", ":not(&)", ":not(a, b), :not(a, b)")?;
-    nests(&rt, a, "a, b", "c:is(x &, d)", "c:is(x a, x b, d), c:is(x a, x b, d)")?;
+    nests(
+        &rt,
+        a,
+        "a, b",
+        "c:is(x &, d)",
+        "c:is(x a, x b, d), c:is(x a, x b, d)",
+    )?;
     nests(&rt, a, ".a", ":not(:is(&-b))", ":not(:is(.a-b))")?;
     nests(&rt, a, "%p", "&.a, b", "")
 }
@@ -237,8 +248,18 @@ fn limits(rt: HostRuntime) -> Result<(), Fail> {
     let parents = repeated(a, "a,", 100)?;
     assert!(rt; nested(a, parents.as_str(), parents.as_str(), false).is_ok());
     let more = repeated(a, "a,", 101)?;
-    assert!(rt; matches!(nested(a, parents.as_str(), more.as_str(), false), Err(SelectorFault::TooLarge)));
+    assert!(rt;
+        matches!(
+            nested(a, parents.as_str(), more.as_str(), false),
+            Err(SelectorFault::TooLarge)
+        )
+    );
     assert!(rt; read(a, repeated(a, "a,", 10_000)?.as_str()).is_ok());
-    assert!(rt; matches!(read(a, repeated(a, "a,", 10_001)?.as_str()), Err(SelectorFault::TooLarge)));
+    assert!(rt;
+        matches!(
+            read(a, repeated(a, "a,", 10_001)?.as_str()),
+            Err(SelectorFault::TooLarge)
+        )
+    );
     Ok(())
 }

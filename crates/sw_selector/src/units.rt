@@ -53,11 +53,7 @@ fn close(alloc: Global, list: &mut List<Name>, compound: &String) -> Result<(), 
     list.push(name)
 }
 
-fn push_sign(
-    alloc: Global,
-    list: &mut List<Name>,
-    combinator: Combinator,
-) -> Result<(), Memory>
+fn push_sign(alloc: Global, list: &mut List<Name>, combinator: Combinator) -> Result<(), Memory>
     ensures { OnOk result (list.new ≡ signed list.old combinator) }
 {
     match combinator {

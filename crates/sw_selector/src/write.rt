@@ -123,12 +123,7 @@ fn write_pseudo(out: &mut String, name: &Name, argument: &str) -> Result<(), Mem
 }
 
 #[cycle(write)]
-fn write_parts(
-    alloc: Global,
-    levels: u8,
-    out: &mut String,
-    parts: &[Part],
-) -> Result<(), Memory>
+fn write_parts(alloc: Global, levels: u8, out: &mut String, parts: &[Part]) -> Result<(), Memory>
     ensures { OnOk result (string_bytes out.new ≡ parts_text (list_text levels) (string_bytes out.old) true parts.now) }
 {
     let mut first = true;

@@ -24,7 +24,7 @@ returns-then-byte-eq256 c =
     let w : c.white.result ≡ white bs c.queries.place = c.white.ensures ∙ ap (λ (xs : List ℕ). white xs c.queries.place) c.as_bytes.ensures.value in
     let v : c.white-behind.result ≡ white bs j = c.white-behind.ensures ∙ ap (λ (xs : List ℕ). white xs j) c.as_bytes-in-queries.ensures.value in
     let b : c.byte_at-byte.result ≡ byte bs (white bs j) =
-        c.byte_at-byte.ensures.byte ∙ ap (λ (xs : List ℕ). byte xs c.white-behind.result) c.as_bytes-in-queries-2.ensures.value ∙ ap (byte bs) v in
+    c.byte_at-byte.ensures.byte ∙ ap (λ (xs : List ℕ). byte xs c.white-behind.result) c.as_bytes-in-queries-2.ensures.value ∙ ap (byte bs) v in
     sym c.queries.invariant
     ∙ list_ends deeper bs ((length bs + 1) - c.queries._turn) c.queries.list c.queries.place c.in_ok-query.query j (omega arith)
     (ap (query_at deeper bs) (sym w) ∙ c.in_ok-query.ensures) (is_byte c.byte_at-byte.result (byte bs (white bs j)) 256 b c.if-byte-eq256.true)
@@ -38,7 +38,7 @@ returns-then-byte-ne44 c =
     let w : c.white.result ≡ white bs c.queries.place = c.white.ensures ∙ ap (λ (xs : List ℕ). white xs c.queries.place) c.as_bytes.ensures.value in
     let v : c.white-behind.result ≡ white bs j = c.white-behind.ensures ∙ ap (λ (xs : List ℕ). white xs j) c.as_bytes-in-queries.ensures.value in
     let b : c.byte_at-byte.result ≡ byte bs (white bs j) =
-        c.byte_at-byte.ensures.byte ∙ ap (λ (xs : List ℕ). byte xs c.white-behind.result) c.as_bytes-in-queries-2.ensures.value ∙ ap (byte bs) v in
+    c.byte_at-byte.ensures.byte ∙ ap (λ (xs : List ℕ). byte xs c.white-behind.result) c.as_bytes-in-queries-2.ensures.value ∙ ap (byte bs) v in
     sym c.queries.invariant
     ∙ list_wrong deeper bs ((length bs + 1) - c.queries._turn) c.queries.list c.queries.place c.in_ok-query.query j (omega arith)
     (ap (query_at deeper bs) (sym w) ∙ c.in_ok-query.ensures) (is_other c.byte_at-byte.result (byte bs (white bs j)) 256 b c.if-byte-eq256.false)
@@ -53,7 +53,7 @@ queries-preserved c =
     let w : c.white.result ≡ white bs c.queries.place = c.white.ensures ∙ ap (λ (xs : List ℕ). white xs c.queries.place) c.as_bytes.ensures.value in
     let v : c.white-behind.result ≡ white bs j = c.white-behind.ensures ∙ ap (λ (xs : List ℕ). white xs j) c.as_bytes-in-queries.ensures.value in
     let b : c.byte_at-byte.result ≡ byte bs (white bs j) =
-        c.byte_at-byte.ensures.byte ∙ ap (λ (xs : List ℕ). byte xs c.white-behind.result) c.as_bytes-in-queries-2.ensures.value ∙ ap (byte bs) v in
+    c.byte_at-byte.ensures.byte ∙ ap (λ (xs : List ℕ). byte xs c.white-behind.result) c.as_bytes-in-queries-2.ensures.value ∙ ap (byte bs) v in
     let less : (length bs + 1) - (c.queries._turn + 1) ≡ n - 1 = omega arith in
     ap (λ (k : ℕ). list_from deeper bs k c.push.new.self (c.white-behind.result + 1)) less
     ∙ ap (λ (list : List Query). list_from deeper bs (n - 1) list (c.white-behind.result + 1)) c.in_ok-push.ensures.ok

@@ -9,9 +9,9 @@ scan-preserved c =
     let n = (length bs + 1) - c.scan._step in
     let more = c.scan_step.new.closers.items in
     let e : stopped c.args.stops bs c.scan.closers.items c.scan.place ≡ false =
-        ap (λ (xs : List ℕ). stopped c.args.stops bs xs c.scan.place) (sym c.as_slice.ensures.value) ∙ sym c.stopped.ensures ∙ c.if-stopped.false in
+    ap (λ (xs : List ℕ). stopped c.args.stops bs xs c.scan.place) (sym c.as_slice.ensures.value) ∙ sym c.stopped.ensures ∙ c.if-stopped.false in
     let f : scan_step bs c.scan.closers.items c.scan.place ≡ Some (at_place more c.in-Some.to) =
-        sym c.in_ok-scan_step.ensures ∙ ap (option_map (at_place more)) c.in-Some.is in
+    sym c.in_ok-scan_step.ensures ∙ ap (option_map (at_place more)) c.in-Some.is in
     let less : (length bs + 1) - (c.scan._step + 1) ≡ n - 1 = omega arith in
     ap (λ (k : ℕ). scan_from c.args.stops bs k more c.in-Some.to) less
     ∙ sym (scan_on c.args.stops bs n c.scan.closers.items c.scan.place more c.in-Some.to (omega arith) e f)

@@ -1,4 +1,4 @@
-use Rattle.std.proofs.Common.{◌≡◌, ℕ, ◌+◌, ◌-◌, List, Some, true, length, sym, ◌∙◌, ap, arith}
+use Rattle.std.proofs.Common.{◌≡◌, ℕ, ◌+◌, ◌-◌, List, Some, length, sym, ◌∙◌, ap, arith}
 use Rattle.sw_scan.specs.Bytes.{byte}
 use Rattle.sw_selector.specs.declared.selector.Part.{Part}
 use Rattle.sw_selector.specs.Reading.{complex_at, whole_from, complexes_of, selectors_in, commas_end}
@@ -20,7 +20,7 @@ returns-then-byte_at-eq256 c =
     let j = c.in_ok-complex.to in
     let p : c.commas_end-place.result ≡ commas_end bs j = c.commas_end-place.ensures ∙ ap (λ (xs : List ℕ). commas_end xs j) c.as_bytes.ensures.value in
     let b : c.byte_at.result ≡ byte bs (commas_end bs j) =
-        c.byte_at.ensures.byte ∙ ap (λ (xs : List ℕ). byte xs c.commas_end-place.result) c.as_bytes-in-selectors.ensures.value ∙ ap (byte bs) p in
+    c.byte_at.ensures.byte ∙ ap (λ (xs : List ℕ). byte xs c.commas_end-place.result) c.as_bytes-in-selectors.ensures.value ∙ ap (byte bs) p in
     sym c.selectors.invariant
     ∙ whole_ends deeper bs ((length bs + 1) - c.selectors._turn) c.selectors.list c.selectors.place c.in_ok-complex.complex j (omega arith) c.in_ok-complex.ensures
     (is_byte c.byte_at.result (byte bs (commas_end bs j)) 256 b c.if-byte_at-eq256.true)
@@ -33,7 +33,7 @@ returns-then-byte_at-ne44 c =
     let j = c.in_ok-complex.to in
     let p : c.commas_end-place.result ≡ commas_end bs j = c.commas_end-place.ensures ∙ ap (λ (xs : List ℕ). commas_end xs j) c.as_bytes.ensures.value in
     let b : c.byte_at.result ≡ byte bs (commas_end bs j) =
-        c.byte_at.ensures.byte ∙ ap (λ (xs : List ℕ). byte xs c.commas_end-place.result) c.as_bytes-in-selectors.ensures.value ∙ ap (byte bs) p in
+    c.byte_at.ensures.byte ∙ ap (λ (xs : List ℕ). byte xs c.commas_end-place.result) c.as_bytes-in-selectors.ensures.value ∙ ap (byte bs) p in
     let d : c.byte_at-in-selectors.result ≡ byte bs j = c.byte_at-in-selectors.ensures.byte ∙ ap (λ (xs : List ℕ). byte xs j) c.as_bytes-in-selectors-2.ensures.value in
     sym c.selectors.invariant
     ∙ whole_wrong deeper bs ((length bs + 1) - c.selectors._turn) c.selectors.list c.selectors.place c.in_ok-complex.complex j (omega arith) c.in_ok-complex.ensures
@@ -48,7 +48,7 @@ selectors-preserved c =
     let n = (length bs + 1) - c.selectors._turn in
     let p : c.commas_end-place.result ≡ commas_end bs j = c.commas_end-place.ensures ∙ ap (λ (xs : List ℕ). commas_end xs j) c.as_bytes.ensures.value in
     let b : c.byte_at.result ≡ byte bs (commas_end bs j) =
-        c.byte_at.ensures.byte ∙ ap (λ (xs : List ℕ). byte xs c.commas_end-place.result) c.as_bytes-in-selectors.ensures.value ∙ ap (byte bs) p in
+    c.byte_at.ensures.byte ∙ ap (λ (xs : List ℕ). byte xs c.commas_end-place.result) c.as_bytes-in-selectors.ensures.value ∙ ap (byte bs) p in
     let d : c.byte_at-in-selectors.result ≡ byte bs j = c.byte_at-in-selectors.ensures.byte ∙ ap (λ (xs : List ℕ). byte xs j) c.as_bytes-in-selectors-2.ensures.value in
     let less : (length bs + 1) - (c.selectors._turn + 1) ≡ n - 1 = omega arith in
     ap (λ (k : ℕ). whole_from deeper bs k c.push.new.self c.commas_end-place.result) less
