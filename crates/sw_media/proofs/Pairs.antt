@@ -1,9 +1,8 @@
 -- Pairs of types.
-use Rattle.std.proofs.Common.{◌≡◌, ℕ, Bool, true, false, ◌||◌, List, Some, None, refl, sym, ap, ◌∙◌}
+use Rattle.std.proofs.Common.{◌≡◌, ℕ, Bool, true, false, ◌||◌, List, Some, None, refl}
 use Rattle.std.specs.Prelude.{is_some, if◌then◌else◌}
 use Rattle.sw_media.specs.declared.query.Modifier.{Modifier}
 use Rattle.sw_media.specs.declared.joining.Kind.{Kind}
-use Rattle.std.specs.declared.option.Option.{Option}
 use Rattle.sw_media.specs.Joining.{same_medium, is_all, either_only, kind_of, two_media, media_meet}
 
 by_cases : (a b c : Bool) (x y z : Kind) → is_some (if a then Some x else (if b then Some y else (if c then Some z else None))) ≡ (a || (b || c))

@@ -1,6 +1,6 @@
 -- The features of media queries that hold no conditions: `(a)`, `(a: b)`, `(a < b)` and `(a < b < c)`. Each side is any text that isn't blank, whose
 -- strings and brackets are closed, and in which no `:`, `<`, `>` or `=` stands outside them.
-use Rattle.std.specs.Prelude.{ℕ, ◌+◌, List, ◌∷◌, ◌++◌, Option, Some, None, Bool, ◌&&◌, ◌||◌, ◌==◌, nat_lt, codes, if◌then◌else◌}
+use Rattle.std.specs.Prelude.{ℕ, ◌+◌, List, ◌++◌, Option, Some, None, Bool, ◌&&◌, ◌||◌, ◌==◌, nat_lt, codes, if◌then◌else◌}
 use Rattle.sw_scan.specs.declared.brackets.Stops.TheVariants as stops
 use Rattle.sw_scan.specs.Bytes.{byte}
 use Rattle.sw_scan.specs.Pieces.{piece, trimmed_end}

@@ -3,7 +3,7 @@
 use Rattle.std.specs.Prelude.{ℕ, ◌+◌, List, [], ◌∷◌, ◌++◌, map, Option, Some, None, is_some, not, Result, Ok, Err, Bool, true, false, ◌&&◌, ◌||◌, nat_lt, codes, bytes_eq, if◌then◌else◌}
 use Rattle.std.specs.Char.{to_ascii_lowercase}
 use Rattle.sw_media.specs.declared.fault.MediaFault.{MediaFault}
-use Rattle.sw_media.specs.declared.fault.MediaFault.TheVariants.{BadQuery, MediaJoin, TooLarge, Memory}
+use Rattle.sw_media.specs.declared.fault.MediaFault.TheVariants.{MediaJoin, TooLarge}
 use Rattle.sw_media.specs.declared.query.Modifier.{Modifier}
 use Rattle.sw_media.specs.declared.query.Modifier.TheVariants as modifiers
 use Rattle.sw_media.specs.declared.query.Condition.{Condition}

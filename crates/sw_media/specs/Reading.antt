@@ -2,7 +2,6 @@
 -- else a condition.
 use Rattle.std.specs.Prelude.{◌≡◌, ℕ, zero, suc, ◌+◌, List, [], ◌∷◌, ◌++◌, length, Option, Some, None, Result, Ok, Err, Bool, ◌&&◌, ◌||◌, ◌==◌, nat_lt, codes, if◌then◌else◌}
 use Rattle.sw_scan.specs.Bytes.{byte}
-use Rattle.sw_scan.specs.Pieces.{piece}
 use Rattle.sw_media.specs.declared.fault.MediaFault.{MediaFault}
 use Rattle.sw_media.specs.declared.fault.MediaFault.TheVariants.{BadQuery, MediaJoin, TooLarge, Memory}
 use Rattle.sw_media.specs.declared.query.Modifier.{Modifier}

@@ -1,6 +1,5 @@
 -- One step of trimming.
-use Rattle.std.proofs.Common.{◌≡◌, ℕ, zero, suc, ◌+◌, ◌-◌, ◌≤◌, ◌<◌, true, false, List, refl, sym, ◌∙◌, ap, arith}
-use Rattle.std.specs.Prelude.{if◌then◌else◌}
+use Rattle.std.proofs.Common.{◌≡◌, ℕ, suc, ◌+◌, ◌-◌, ◌≤◌, ◌<◌, true, false, List, refl, sym, ◌∙◌, ap, arith}
 use Rattle.sw_scan.specs.Bytes.{byte, is_white}
 use Rattle.sw_scan.specs.Pieces.{trimmed_from}
 use Rattle.sw_scan.proofs.RunLemmas.{if_true, if_false}

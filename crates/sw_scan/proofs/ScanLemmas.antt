@@ -1,6 +1,5 @@
 -- One step of a scan.
-use Rattle.std.proofs.Common.{◌≡◌, ℕ, zero, suc, ◌+◌, ◌-◌, ◌<◌, true, false, List, refl, sym, ◌∙◌, ap, arith, Option, Some, None}
-use Rattle.std.specs.Prelude.{if◌then◌else◌}
+use Rattle.std.proofs.Common.{◌≡◌, ℕ, zero, suc, ◌-◌, ◌<◌, true, false, List, ◌∙◌, ap, arith, Some, None}
 use Rattle.sw_scan.specs.declared.brackets.Stops.{Stops}
 use Rattle.sw_scan.specs.Brackets.{at_place, scan_step, stopped, scan_by, scan_from}
 use Rattle.sw_scan.proofs.RunLemmas.{if_true, if_false}

@@ -1,5 +1,5 @@
 -- One turn of a loop over parts.
-use Rattle.std.proofs.Common.{◌≡◌, ℕ, ◌+◌, ◌<◌, List, [], ◌∷◌, ◌++◌, length, drop, get_or, refl, sym, ◌∙◌, ap}
+use Rattle.std.proofs.Common.{◌≡◌, ℕ, ◌+◌, ◌<◌, List, [], ◌∷◌, ◌++◌, length, drop, get_or, sym, ◌∙◌, ap}
 use Rattle.std.proofs.lemmas.List.{drop_more}
 use Rattle.sw_selector.specs.declared.selector.Part.{Part}
 use Rattle.sw_selector.specs.Nesting.{part_prepared, parts_prepared}

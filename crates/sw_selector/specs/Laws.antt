@@ -1,5 +1,5 @@
 -- What nesting is as a whole.
-use Rattle.std.specs.Prelude.{◌≡◌, ℕ, ◌*◌, List, map, length, Bool}
+use Rattle.std.specs.Prelude.{◌≡◌, ◌*◌, List, map, length, Bool}
 use Rattle.std.specs.List.{flat_map}
 use Rattle.sw_selector.specs.declared.selector.Part.{Part}
 use Rattle.sw_selector.specs.Nesting.{prepared, nested, all_nested}

@@ -1,9 +1,9 @@
 -- Selectors nested in each other (Sass): for each parent, each child. A child without `&` stands behind its parent and white space, or by itself
 -- at the root; in any other each `&` is the parent, and in a pseudo's argument a selector with `&` stands once for each parent.
-use Rattle.std.specs.Prelude.{◌≡◌, ℕ, zero, suc, ◌+◌, ◌-◌, ◌*◌, List, [], ◌∷◌, ◌++◌, length, take, slice_get, Option, Some, None, Result, Ok, Err, Bool, true, false, not, ◌&&◌, ◌||◌, ◌==◌, nat_lt, if◌then◌else◌}
+use Rattle.std.specs.Prelude.{ℕ, zero, suc, ◌-◌, ◌*◌, List, [], ◌∷◌, ◌++◌, length, take, slice_get, Option, Some, None, Result, Ok, Err, Bool, true, false, not, ◌&&◌, ◌||◌, ◌==◌, nat_lt, if◌then◌else◌}
 use denote.Bor.{Bor}
 use Rattle.sw_selector.specs.declared.fault.SelectorFault.{SelectorFault}
-use Rattle.sw_selector.specs.declared.fault.SelectorFault.TheVariants.{BadSelector, NoParent, TooLarge, Memory}
+use Rattle.sw_selector.specs.declared.fault.SelectorFault.TheVariants.{BadSelector, NoParent, TooLarge}
 use Rattle.sw_selector.specs.declared.holds.Sought.TheVariants as soughts
 use Rattle.sw_selector.specs.declared.selector.Combinator.{Combinator}
 use Rattle.sw_selector.specs.declared.selector.Combinator.TheVariants as combinators

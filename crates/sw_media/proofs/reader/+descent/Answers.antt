@@ -1,4 +1,4 @@
-use Rattle.std.proofs.Common.{◌≡◌, ℕ, ◌+◌, ◌-◌, List, [], ◌∷◌, Some, true, length, sym, ◌∙◌, ap, arith}
+use Rattle.std.proofs.Common.{◌≡◌, ℕ, ◌+◌, ◌-◌, List, [], ◌∷◌, true, length, sym, ◌∙◌, ap, arith}
 use Rattle.sw_media.specs.Words.{white, name_end, is_at}
 use Rattle.sw_media.specs.Reading.{feature_at, features_at, condition_at, conditions_in, more_from}
 use Rattle.sw_media.proofs.Loops.{handed_on, condition_fails, next_at, more_fails, more_goes}
