@@ -118,7 +118,7 @@ pub known_departs : (setting : Setting) (table : Table) (path text : List ℕ) (
 known_departs setting table path text config k run r d o m same is r_is did =
     known_differs table path text config k run d same is (subst (λ (x : Option Departure). IsBehind k.run.seen x) r_is did.place)
 
-kept_reads : (setting : Setting) (table : Table) (path text : List ℕ) (config : List (List ℕ × Node)) (sheet : Sheet) (k : Kept) (run : Run) → IsSame table path text config run → sheet ≡ k.sheet → setting.read run.path run.text ≡ Ok k.sheet → setting.read path text ≡ Ok sheet
+pub kept_reads : (setting : Setting) (table : Table) (path text : List ℕ) (config : List (List ℕ × Node)) (sheet : Sheet) (k : Kept) (run : Run) → IsSame table path text config run → sheet ≡ k.sheet → setting.read run.path run.text ≡ Ok k.sheet → setting.read path text ≡ Ok sheet
 kept_reads setting table path text config sheet k run same sheet_is reads =
     ap (λ p. setting.read p text) (sym same.path_is) ∙ ap (setting.read run.path) (sym same.text_is) ∙ reads ∙ ap (λ (s : Sheet). Ok s) (sym sheet_is)
 

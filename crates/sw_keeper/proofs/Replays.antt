@@ -68,6 +68,12 @@ load_here setting k from at r xs p o m same is to read =
     let e : q ≡ p = sym (read ∙ ap (λ l. get_or l at p) same ∙ get_or_from_slice_get k.run.seen at q p asked.1.1) in
     (asked.0, asked.1.1 ∙ ap Some e, subst (λ (x : Pair). IsLoad x.0) e asked.1.2, rw same (slice_get_within k.run.seen at q asked.1.1))
 
+pub load_within : (setting : Setting) (k : Kept) (from at : ℕ) (r : Replayed) (xs : List Pair) (o m : Moment)
+    → xs ≡ k.run.seen → r ≡ Load at → AskedTo setting k from r o.outside m.outside → at < length xs
+load_within setting k from at r xs o m same is to =
+    let asked : AskedTo setting k from (Load at) o.outside m.outside = subst (λ (x : Replayed). AskedTo setting k from x o.outside m.outside) is to in
+    rw same (slice_get_within k.run.seen at asked.1.0 asked.1.1)
+
 pub two_load : (setting : Setting) (k : Kept) (at : ℕ) (a : Answer) (xs : List Pair) (p : Pair) → IsKept setting.body k → xs ≡ k.run.seen → slice_get k.run.seen at ≡ Some p → Fits p.0 a → (p.1 ≡ a → ⊥)
     → (pair : Pair) × (slice_get xs at ≡ Some pair) × HasTwoAnswers pair.0
 two_load setting k at a xs p is_kept same here fits differs =

@@ -1,10 +1,10 @@
 -- Kept runs by the paths of their modules.
-use Rattle.std.proofs.Common.{◌≡◌, ◌≢◌, ℕ, suc, ◌+◌, ◌<◌, ◌&&◌, Bool, true, false, cond, List, [], ◌∷◌, ◌++◌, length, take, drop, bytes_eq, Option, Some, None, unwrap_or, refl, sym, ◌∙◌, ap, subst, drop-cons, slice_get}
+use Rattle.std.proofs.Common.{◌≡◌, ◌≢◌, ℕ, suc, ◌+◌, ◌<◌, ◌&&◌, Bool, true, false, cond, List, [], ◌∷◌, ◌++◌, length, take, drop, bytes_eq, Option, Some, None, unwrap_or, get_or, arith, refl, sym, ◌∙◌, ap, subst, drop-cons, slice_get}
 use Rattle.std.specs.Cmp.{IsEquivalence}
 use Rattle.std.specs.List.{IsDistinct}
 use Rattle.std.specs.Map.{lookup, keys_of}
 use Rattle.std.proofs.lemmas.List.{take-append-drop, take_more}
-use Rattle.std.proofs.lemmas.Option.{get_or_from_slice_get, slice_get_within}
+use Rattle.std.proofs.lemmas.Option.{get_or_from_slice_get, slice_get_within, slice_get-get_or}
 use Rattle.std.proofs.lemmas.Slice.Eq.{bytes_eq-Decides}
 use Rattle.indexmap.specs.IndexMap.{insert_entry}
 use Rattle.indexmap.proofs.MapLemmas.{absent_before, absent_from_lookup, insert_entry-absent}
@@ -41,8 +41,8 @@ lookup-insert_entry {X} q k v (e ∷ es) = by (bytes_eq k e.0) refl (lookup-inse
         swap false false x y = refl
 
 -- each run stays at its path
-each_with : (table : Table) (run : Run) (end : End) → EachAtItsPath table → EachAtItsPath (with_run_by table run end)
-each_with table run (Fault fault) each = each
+each_with : (table : Table) (run : Run) (end : End) → EachAtItsPath table → (path : List ℕ) (r : Run) → kept_at (with_run_by table run end) path ≡ Some r → r.path ≡ path
+each_with table run (Fault fault) each path r here = each path r here
 each_with table run (Done finish) each path r here = by (bytes_eq path run.path) refl (sym (lookup-insert_entry path run.path run table) ∙ here)
   where
     by : (b : Bool) → bytes_eq path run.path ≡ b → cond b (Some run) (lookup (bytes_eq path) table) ≡ Some r → r.path ≡ path
@@ -52,6 +52,11 @@ each_with table run (Done finish) each path r here = by (bytes_eq path run.path)
 pub each_runs : (table : Table) (runs : List Run) → EachAtItsPath table → EachAtItsPath (with_runs table runs)
 each_runs table [] each = each
 each_runs table (run ∷ runs) each = each_runs (with_run_by table run run.end) runs (each_with table run run.end each)
+
+pub each_now : (old mid now : Table) (runs : List Run) → EachAtItsPath old → mid ≡ old → now ≡ with_runs mid runs → EachAtItsPath now
+each_now old mid now runs each same is =
+    let there : EachAtItsPath (with_runs mid runs) = each_runs mid runs (subst EachAtItsPath (sym same) each) in
+    subst EachAtItsPath (sym is) there
 
 pub each_none : EachAtItsPath []
 each_none path run here = cc
@@ -83,6 +88,17 @@ next_entry {X} es at e distinct here =
     let none : lookup (bytes_eq e.0) (take at es) ≡ None = absent_before names_compare (take at es) (drop (suc at) es) e apart in
     insert_entry-absent bytes_eq e.0 e.1 (take at es) (absent_from_lookup (bytes_eq e.0) (take at es) none)
     ∙ sym (take_more es at e inside ∙ ap (λ x. take at es ++ x ∷ []) (get_or_from_slice_get es at e e here))
+
+pub next_shared : {X : Type 0} (es t u : List (List ℕ × X)) (at : ℕ) → at < length es → IsDistinct bytes_eq (keys_of es) → t ≡ take at es
+    → ((e : List ℕ × X) → slice_get es at ≡ Some e → u ≡ insert_entry bytes_eq t e.0 e.1) → u ≡ take (at + 1) es
+next_shared [] t u at inside distinct is adds = absurd (none at inside)
+  where
+    none : (n : ℕ) → n < 0 → ⊥
+    none n lt = omega (arith, lt)
+next_shared {X} (x ∷ xs) t u at inside distinct is adds =
+    let e : List ℕ × X = get_or (x ∷ xs) at x in
+    let here : slice_get (x ∷ xs) at ≡ Some e = slice_get-get_or (x ∷ xs) at x inside in
+    adds e here ∙ ap (λ l. insert_entry bytes_eq l e.0 e.1) is ∙ next_entry (x ∷ xs) at e distinct here
 
 -- a lookup after runs ended
 one_latest : (table : Table) (run : Run) (end : End) (path : List ℕ) → kept_at (with_run_by table run end) path ≡ cond (is_done end && bytes_eq path run.path) (Some run) (kept_at table path)
@@ -121,15 +137,10 @@ keeps_the_latest tables entry (run ∷ runs) path =
     )
 
 -- the tables after a compile
-pub kept_some : (tables now : Tables) (entry : List ℕ) (runs all : List Run) (after : Table) → runs ≡ all → (runs ≡ [] → ⊥) → after ≡ with_runs (table_of tables entry) runs → now ≡ insert_entry bytes_eq tables entry after
-    → now ≡ kept_after tables entry all
-kept_some tables now entry runs all after same some is put =
-    let A : Table → Tables = λ t. insert_entry bytes_eq tables entry t in
-    subst (λ (l : List Run). now ≡ kept_after tables entry l) same (by runs some (put ∙ ap A is))
-  where
-    by : (l : List Run) → (l ≡ [] → ⊥) → now ≡ insert_entry bytes_eq tables entry (with_runs (table_of tables entry) l) → now ≡ kept_after tables entry l
-    by [] some is = absurd (some refl)
-    by (run ∷ l) some is = is
+pub kept_some : (tables now : Tables) (entry : List ℕ) (runs : List Run) (after : Table) → (runs ≡ [] → ⊥) → after ≡ with_runs (table_of tables entry) runs → now ≡ insert_entry bytes_eq tables entry after
+    → now ≡ kept_after tables entry runs
+kept_some tables now entry [] after some is put = absurd (some refl)
+kept_some tables now entry (run ∷ runs) after some is put = put ∙ ap (λ (t : Table). insert_entry bytes_eq tables entry t) is
 
-pub kept_none : (tables : Tables) (entry : List ℕ) (runs all : List Run) → runs ≡ all → runs ≡ [] → tables ≡ kept_after tables entry all
-kept_none tables entry runs all same none = subst (λ (l : List Run). tables ≡ kept_after tables entry l) (sym none ∙ same) refl
+pub kept_none : (tables : Tables) (entry : List ℕ) (runs : List Run) → runs ≡ [] → tables ≡ kept_after tables entry runs
+kept_none tables entry runs none = subst (λ (l : List Run). tables ≡ kept_after tables entry l) (sym none) refl

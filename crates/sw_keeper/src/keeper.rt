@@ -4,7 +4,7 @@ ghost use Rattle.std.specs.FinMap as files;
 ghost use Rattle.sw_folder.specs.Edits.{after_put, after_removal, IsFaultOf};
 ghost use Rattle.sw_record.specs.Ran.{Ran};
 ghost use Rattle.sw_keeper.specs.Compile.{compiled, outcome_of, paths_of};
-ghost use Rattle.sw_keeper.specs.Keeping.{table_of, kept_after};
+ghost use Rattle.sw_keeper.specs.Keeping.{table_of, with_runs, kept_after};
 ghost use Rattle.sw_keeper.specs.Steps.{RanMore, setting_of};
 ghost use Rattle.sw_keeper.specs.Whole.{IsCompiled};
 
@@ -113,12 +113,43 @@ impl<R: Reader, E: Engine> Keeper<R, E> {
             engine,
             hosts,
         )?;
-        if !runs.is_empty() {
-            let after = kept.with(self.alloc, runs.as_slice())?;
-            self.kept.add(entry.share()?, after)?;
-        }
+        keep_runs(self.alloc, &mut self.kept, entry, &runs)?;
         Ok(reply)
     }
+}
+
+/// Keeps the runs of a compile of an entry. After `Memory` the tables are as before.
+#[tactic(auto, using(crate::proofs::Tables::kept_some, crate::proofs::Tables::kept_none))]
+fn keep_runs<R: Reader, E: Engine>(
+    alloc: Global,
+    tables: &mut Table<KeptRuns<R, E>>,
+    entry: &Name,
+    runs: &List<KeptRun<R, E>>,
+) -> Result<(), Memory>
+    ensures ok { OnOk result (tables.new ≡ kept_after tables.old entry.now runs.now) }
+    ensures err { OnErr result (tables.new ≡ tables.old) }
+{
+    if runs.is_empty() {
+        return Ok(());
+    }
+    let after = kept_with(alloc, tables, entry, runs)?;
+    tables.add(entry.share()?, after)?;
+    Ok(())
+}
+
+/// The kept runs of an entry after these.
+fn kept_with<R: Reader, E: Engine>(
+    alloc: Global,
+    tables: &Table<KeptRuns<R, E>>,
+    entry: &Name,
+    runs: &List<KeptRun<R, E>>,
+) -> Result<KeptRuns<R, E>, Memory>
+    ensures { IfOk result (λ after. after ≡ with_runs (table_of tables.now entry.now) runs.now) }
+{
+    let none = KeptRuns::new(alloc);
+    let kept = kept_of(tables, &none, entry);
+    let after = kept.with(alloc, runs.as_slice())?;
+    Ok(after)
 }
 
 /// What a compile replies, and the runs that ended in it.

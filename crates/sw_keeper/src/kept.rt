@@ -1,7 +1,8 @@
 // Runs that are kept, of texts that read to their sheets.
-ghost use Rattle.std.specs.Prelude.{◌≡◌, [], Ok, IfOk, IfSome, OnOk};
+ghost use Rattle.std.specs.Prelude.{◌≡◌, ℕ, List, [], bytes_eq, slice_get, Ok, Some, IfOk, IfSome, OnOk};
 ghost use Rattle.std.specs.Option.{option_copied};
-ghost use Rattle.sw_record.specs.Kept.{IsKept};
+ghost use Rattle.indexmap.specs.IndexMap.{insert_entry};
+ghost use Rattle.sw_world.specs.Body.{Run};
 ghost use Rattle.sw_record.specs.Ran.{kept_at};
 ghost use Rattle.sw_keeper.specs.Keeping.{with_run_by, with_runs};
 
@@ -125,11 +126,25 @@ fn share_table<R: Reader, E: Engine>(
 {
     let mut table = Table::new(alloc);
     for place in 0..old.len() {
-        if let Some((path, kept)) = old.at(place) {
-            table.add(path.share()?, kept.share()?)?;
-        }
+        share_entry(&mut table, old, place)?;
     }
     Ok(table)
+}
+
+fn share_entry<R: Reader, E: Engine>(
+    table: &mut Table<KeptRun<R, E>>,
+    old: &Table<KeptRun<R, E>>,
+    place: usize,
+) -> Result<(), Memory>
+    ensures { OnOk result ((entry : List ℕ × Run) → slice_get old.now place ≡ Some entry → table.new ≡ insert_entry bytes_eq table.old entry.0 entry.1) }
+{
+    match old.at(place) {
+        Some((path, kept)) => {
+            table.add(path.share()?, kept.share()?)?;
+            Ok(())
+        }
+        None => Ok(()),
+    }
 }
 
 fn add_runs<R: Reader, E: Engine>(
@@ -152,7 +167,10 @@ fn add_run<R: Reader, E: Engine>(
 {
     let run = kept.run();
     match run.end() {
-        End::Done(_) => table.add(run.path().share()?, kept.share()?),
+        End::Done(_) => {
+            table.add(run.path().share()?, kept.share()?)?;
+            Ok(())
+        }
         End::Fault(_) => Ok(()),
     }
 }

@@ -33,6 +33,13 @@ pub(crate) fn run_ended<E: Engine>(
     Ok(Run::new(path, text, sheet, config, seen, end))
 }
 
+fn path_of<E: Engine>(run: &Run<E>) -> Result<Name, Memory>
+    ensures { IfOk result (λ path. path ≡ run.now.run.path) }
+{
+    let path = run.path().share()?;
+    Ok(path)
+}
+
 /// The runs that ended in a compile, kept ones and new ones, and the modules whose bodies ran, each with its cause; both in the order in which the bodies ended.
 #[derive(Drop)]
 pub(crate) struct Results<R: Reader, E: Engine> {
@@ -74,11 +81,13 @@ impl<R: Reader, E: Engine> Results<R, E> {
     /// Adds the run of a body that ran for this cause.
     pub(crate) fn add(&mut self, run: Run<E>, cause: Cause) -> Result<(), Memory>
         requires { R.reads run.run.path run.run.text ≡ Ok run.sheet }
-        ensures { OnOk result (self.new ≡ record { runs = self.old.runs ++ run.run ∷ []; ran = self.old.ran ++ (run.run.path, cause) ∷ [] }) }
+        ensures runs { OnOk result (self.new.runs ≡ self.old.runs ++ run.run ∷ []) }
+        ensures ran { OnOk result (self.new.ran ≡ self.old.ran ++ (run.run.path, cause) ∷ []) }
     {
-        let path = run.path().share()?;
+        let path = path_of(&run)?;
         self.runs.push(KeptRun::new(run))?;
-        self.ran.push((path, cause))
+        self.ran.push((path, cause))?;
+        Ok(())
     }
 
     /// Takes a kept run over, in constant time, and gives its end.
