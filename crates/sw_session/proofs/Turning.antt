@@ -30,7 +30,7 @@ use Rattle.sw_session.specs.declared.stop.Stop.TheVariants.{Ended, Wrong, CutOff
 use Rattle.sw_session.specs.Script.{Event, Put, Remove, Compile, Next, Whole, next_by_line, next, last, last_by_line}
 use Rattle.sw_session.specs.Transcript.{Mark, Answered, Refused, Held, held, Turn, edit_turn, compile_turn, IsMark, turn_of}
 use Rattle.sw_session.specs.Status.{stop_of, stop_of_line, last_stop}
-use Rattle.sw_session.specs.Turns.{Place, Uses, Standing, standing, holding, Rests, Does, Says, SaysSome, SaysNothing, CompileStops, SendEnds, Answers, Breaks, Finds, TurnEnds, LastEnds, Judged, PutAnswers, PutStops}
+use Rattle.sw_session.specs.Turns.{Place, Uses, Standing, standing, holding, Rests, Does, Says, SaysSome, CompileStops, SendEnds, Answers, Breaks, Finds, TurnEnds, LastEnds, PutAnswers, PutStops}
 use Rattle.sw_session.proofs.Nexts.{IsLine, next_line, last_line, next_long, next_short, last_long, last_short, put_of, put_whole, put_wrong, put_short}
 
 pub at_rest : (s : Standing) → Rests s s
