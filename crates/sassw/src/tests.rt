@@ -1,5 +1,5 @@
 // Whole sessions over sources and sinks in memory.
-ghost use Rattle.std.specs.Prelude.{◌≤◌};
+ghost use Rattle.std.specs.Prelude.{◌+◌, ◌≤◌};
 
 use std::alloc::{AllocError, Global};
 use std::test::Fail;
