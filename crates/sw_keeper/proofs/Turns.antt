@@ -196,14 +196,14 @@ module _ (setting : Setting) (table : Table) (job : Job) (known : List Pair) (p 
       }
 
 -- the results after the run of a body that ended
-pub added : (job : Job) (text : List ℕ) (seen pairs : List Pair) (given end : End) (cause : Cause) (r now : Results) (kept : Kept)
-    → now.runs ≡ r.runs ++ kept.run ∷ [] → now.ran ≡ r.ran ++ (kept.run.path, cause) ∷ []
+pub added : (job : Job) (text : List ℕ) (seen pairs : List Pair) (given end : End) (name : List ℕ) (cause : Cause) (r now : Results) (kept : Kept)
+    → now.runs ≡ r.runs ++ kept.run ∷ [] → now.ran ≡ r.ran ++ (name, cause) ∷ [] → name ≡ job.path
     → kept ≡ record { sheet = job.sheet; run = record { path = job.path; text = text; config = job.config; seen = pairs; end = given } } → pairs ≡ seen → given ≡ end
     → now ≡ record { runs = r.runs ++ run_of job text seen end ∷ []; ran = r.ran ++ (job.path, cause) ∷ [] }
-added job text seen pairs given end cause r now kept adds tells is same ends =
+added job text seen pairs given end name cause r now kept adds tells named is same ends =
     let D : List Run → Results = λ l. record { runs = l; ran = now.ran } in
     let E : List (List ℕ × Cause) → Results = λ l. record { runs = r.runs ++ kept.run ∷ []; ran = l } in
-    let A : Kept → Results = λ k. record { runs = r.runs ++ k.run ∷ []; ran = r.ran ++ (k.run.path, cause) ∷ [] } in
+    let A : Kept → Results = λ k. record { runs = r.runs ++ k.run ∷ []; ran = r.ran ++ (job.path, cause) ∷ [] } in
     let B : List Pair → Results = λ l. record { runs = r.runs ++ run_of job text l given ∷ []; ran = r.ran ++ (job.path, cause) ∷ [] } in
     let C : End → Results = λ e. record { runs = r.runs ++ run_of job text seen e ∷ []; ran = r.ran ++ (job.path, cause) ∷ [] } in
-    ap D adds ∙ ap E tells ∙ ap A is ∙ ap B same ∙ ap C ends
+    ap D adds ∙ ap E (tells ∙ ap (λ n. r.ran ++ (n, cause) ∷ []) named) ∙ ap A is ∙ ap B same ∙ ap C ends

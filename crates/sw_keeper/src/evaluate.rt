@@ -123,8 +123,9 @@ fn run_body<R: Reader, E: Engine, H: Hosts>(
         if let Some(end) = turn(alloc, reader, live, hosts, engine, kept, results, &mut body)? {
             let seen = engine.close(body);
             let ended = end.share()?;
+            let named = path.share()?;
             let run = run_ended(alloc, path, text, sheet, config, seen, end)?;
-            results.add(run, cause)?;
+            results.add(named, run, cause)?;
             return Ok(ended);
         }
     }

@@ -2,7 +2,7 @@
 ghost use Rattle.std.specs.Prelude.{◌≡◌, ℕ, List, [], bytes_eq, slice_get, Ok, Some, IfOk, IfSome, OnOk};
 ghost use Rattle.std.specs.Option.{option_copied};
 ghost use Rattle.indexmap.specs.IndexMap.{insert_entry};
-ghost use Rattle.sw_world.specs.Body.{Run};
+ghost use Rattle.sw_world.specs.Body as bodies;
 ghost use Rattle.sw_record.specs.Ran.{kept_at};
 ghost use Rattle.sw_keeper.specs.Keeping.{with_run_by, with_runs};
 
@@ -136,7 +136,7 @@ fn share_entry<R: Reader, E: Engine>(
     old: &Table<KeptRun<R, E>>,
     place: usize,
 ) -> Result<(), Memory>
-    ensures { OnOk result ((entry : List ℕ × Run) → slice_get old.now place ≡ Some entry → table.new ≡ insert_entry bytes_eq table.old entry.0 entry.1) }
+    ensures { OnOk result ((entry : List ℕ × bodies.Run) → slice_get old.now place ≡ Some entry → table.new ≡ insert_entry bytes_eq table.old entry.0 entry.1) }
 {
     match old.at(place) {
         Some((path, kept)) => {

@@ -33,13 +33,6 @@ pub(crate) fn run_ended<E: Engine>(
     Ok(Run::new(path, text, sheet, config, seen, end))
 }
 
-fn path_of<E: Engine>(run: &Run<E>) -> Result<Name, Memory>
-    ensures { IfOk result (λ path. path ≡ run.now.run.path) }
-{
-    let path = run.path().share()?;
-    Ok(path)
-}
-
 /// The runs that ended in a compile, kept ones and new ones, and the modules whose bodies ran, each with its cause; both in the order in which the bodies ended.
 #[derive(Drop)]
 pub(crate) struct Results<R: Reader, E: Engine> {
@@ -78,13 +71,12 @@ impl<R: Reader, E: Engine> Results<R, E> {
         (runs, ran)
     }
 
-    /// Adds the run of a body that ran for this cause.
-    pub(crate) fn add(&mut self, run: Run<E>, cause: Cause) -> Result<(), Memory>
+    /// Adds the run of the body of the module at this path, which ran for this cause.
+    pub(crate) fn add(&mut self, path: Name, run: Run<E>, cause: Cause) -> Result<(), Memory>
         requires { R.reads run.run.path run.run.text ≡ Ok run.sheet }
         ensures runs { OnOk result (self.new.runs ≡ self.old.runs ++ run.run ∷ []) }
-        ensures ran { OnOk result (self.new.ran ≡ self.old.ran ++ (run.run.path, cause) ∷ []) }
+        ensures ran { OnOk result (self.new.ran ≡ self.old.ran ++ (path, cause) ∷ []) }
     {
-        let path = path_of(&run)?;
         self.runs.push(KeptRun::new(run))?;
         self.ran.push((path, cause))?;
         Ok(())

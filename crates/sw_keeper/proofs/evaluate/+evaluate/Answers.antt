@@ -5,12 +5,13 @@ use Rattle.sw_world.specs.Progress.{stops, ran_by}
 use Rattle.sw_modules.specs.declared.live.Begin.{Begin}
 use Rattle.sw_modules.specs.Loads.{IsBegun}
 use Rattle.sw_modules.specs.Fresh.{fresh, room}
-use Rattle.sw_keeper.specs.Steps.{RanMore, DidEnd, DiffersBy, moment, setting_of}
+use Rattle.sw_keeper.specs.Compile.{paths_of}
+use Rattle.sw_keeper.specs.Steps.{RanMore, ran_at, DidEnd, DiffersBy, moment, setting_of}
 use Rattle.sw_keeper.proofs.Turns.{is_body_given, turned_load, turned_end, runs_none, runs_on, runs_shorter, runs_end, ended_goes, ended_ends, added}
 use Rattle.sw_keeper.proofs.Loads.{fits_load, did_answered, did_opened, did_read, did_not_read}
 use Rattle.sw_keeper.proofs.Replays.{replays_none, turn_whole, two_differs, turn_differs, load_here, load_within, two_load, turn_load_same, turn_load_differs, replay_whole, replay_next, replay_upto}
 use Rattle.sw_keeper.proofs.Ends.{did_known, did_whole, known_goes, known_departs, kept_reads}
-use Rattle.sw_keeper.proofs.More.{ran_none}
+use Rattle.sw_keeper.proofs.More.{ran_none, ran_on}
 use Rattle.sw_keeper.proofs.evaluate.+evaluate.Goals as goal
 
 not_true : false ≡ true → ⊥
@@ -76,7 +77,7 @@ run_body-returns-in-Some-clause-did g t c =
     runs_end (setting_of g.H.Hosts.answer g.H.Hosts.after g.R.Reader.reads g.E.Engine.body) c.args.kept.now (record { sheet = c.args.sheet.now; config = c.args.config.now; path = c.args.path.now }) c.args.known.now (g.E.Engine.progress c.loop-body.body) (g.E.Engine.progress c.turn.new.body) c.in_ok-end.field-0 (moment c.args.live.now (g.H.Hosts.state c.args.hosts.now) c.args.results.now (g.E.Engine.ran c.args.engine.now)) (moment c.loop-body.live (g.H.Hosts.state c.loop-body.hosts) c.loop-body.results (g.E.Engine.ran c.loop-body.engine)) (moment c.turn.new.live (g.H.Hosts.state c.turn.new.hosts) c.turn.new.results (g.E.Engine.ran c.turn.new.engine))
     c.loop-body.invariant c.in_ok-end.ensures.turned
     c.args.text.now c.args.cause c.in_ok-ended.ended (moment c.turn.new.live (g.H.Hosts.state c.turn.new.hosts) c.add.new.self (g.E.Engine.ran c.turn.new.engine)) (c.in-Some.is ∙ ap Some (sym c.in_ok-ended.ensures)) g.met.E.Engine.ends_in_time c.in_ok-end.ensures.is_body c.requires.differs refl refl
-    (added (record { sheet = c.args.sheet.now; config = c.args.config.now; path = c.args.path.now }) c.args.text.now (g.E.Engine.progress c.turn.new.body).seen c.close-seen.result c.in-Some.end c.in_ok-ended.ended c.args.cause c.turn.new.results c.add.new.self c.in_ok-run.run' c.in_ok-add.ensures.runs c.in_ok-add.ensures.ran c.in_ok-run.ensures c.close-seen.ensures (sym c.in_ok-ended.ensures))
+    (added (record { sheet = c.args.sheet.now; config = c.args.config.now; path = c.args.path.now }) c.args.text.now (g.E.Engine.progress c.turn.new.body).seen c.close-seen.result c.in-Some.end c.in_ok-ended.ended c.in_ok-named.named c.args.cause c.turn.new.results c.add.new.self c.in_ok-run.run' c.in_ok-add.ensures.runs c.in_ok-add.ensures.ran c.in_ok-named.ensures c.in_ok-run.ensures c.close-seen.ensures (sym c.in_ok-ended.ensures))
 
 pub run_body-loop-body-smaller : goal.run_body-loop-body-smaller
 run_body-loop-body-smaller g t c =
@@ -190,3 +191,11 @@ evaluate-run_body-requires-in-Some-2 g t c κs within =
     let differs : DiffersBy c.args.kept.now c.args.path.now c.args.text.now c.args.config.now c.as_slice-known.result.now c.in-Some-2.departure.cause =
     subst (λ l. DiffersBy c.args.kept.now c.args.path.now c.args.text.now c.args.config.now l c.in-Some-2.departure.cause) (sym c.as_slice-known.ensures) (known_departs (setting_of g.H.Hosts.answer g.H.Hosts.after g.R.Reader.reads g.E.Engine.body) c.args.kept.now c.args.path.now c.args.text.now c.args.config.now c.run-run.result.now c.in-Some.same.now c.in_ok-departure.field-0 c.in-Some-2.departure (moment c.args.live.now (g.H.Hosts.state c.args.hosts.now) c.args.results.now (g.E.Engine.ran c.args.engine.now)) (moment c.replay_all.new.live (g.H.Hosts.state c.replay_all.new.hosts) c.replay_all.new.results (g.E.Engine.ran c.replay_all.new.engine)) c.in-Some.ensures c.run-run.ensures.run c.in-Some-2.is c.in_ok-departure.ensures.did) in
     search (rules, reads, goes, differs)
+
+pub run_body-returns-in_err-run-clause-grew : goal.run_body-returns-in_err-run-clause-grew
+run_body-returns-in_err-run-clause-grew g t c =
+    let turned = c.in_ok-end.ensures.turned in
+    let more : RanMore (g.E.Engine.ran c.args.engine.now) (g.E.Engine.ran c.turn.new.engine) =
+    ran_on (g.E.Engine.ran c.args.engine.now) (g.E.Engine.ran c.loop-body.engine) (g.E.Engine.ran c.turn.new.engine) (paths_of c.loop-body.invariant.grown.grown) c.loop-body.invariant.grown.told
+    (paths_of turned.grown ++ ran_at c.in_ok-end.field-0 (g.E.Engine.progress c.turn.new.body).job.path, turned.told) in
+    search (rules, more)
