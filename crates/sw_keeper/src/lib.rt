@@ -10,8 +10,6 @@ mod outside;
 mod reader;
 mod reading;
 mod results;
-#[cfg(test)]
-mod tests;
 
 pub use keeper::Keeper;
 pub use laws::keeps_the_latest;

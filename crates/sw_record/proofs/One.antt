@@ -1,12 +1,12 @@
 -- What ran is given by the kept runs and the runs of a compile.
-use Rattle.std.proofs.Common.{◌≡◌, ◌≢◌, ◌⊎◌, ℕ, List, [], ◌∷◌, ◌++◌, Option, None, Some, refl, sym, ◌∙◌, ap, subst, inl, inr}
+use Rattle.std.proofs.Common.{◌≡◌, ◌≢◌, ◌⊎◌, List, [], ◌∷◌, ◌++◌, Option, None, Some, refl, sym, ◌∙◌, ap, subst, inl, inr}
 use Rattle.sw_world.specs.declared.op.Op.{Op}
 use Rattle.sw_world.specs.declared.op.Op.TheVariants as ops
 use Rattle.sw_world.specs.declared.answer.Answer.{Answer}
 use Rattle.sw_world.specs.Body.{Pair, Run}
 use Rattle.sw_record.specs.declared.reply.Cause.{Cause}
 use Rattle.sw_record.specs.declared.reply.Cause.TheVariants.{First, Text, Config, Load, Member, Variable, Call}
-use Rattle.sw_record.specs.Ran.{Table, Ran, RanIsOne, IsCause, IsCauseBy, Differs, IsAnswered, FirstDiffer, kept_at}
+use Rattle.sw_record.specs.Ran.{RanIsOne, IsCause, IsCauseBy, Differs, IsAnswered, kept_at}
 
 -- two lists that have the same pairs before
 cancel : (xs : List Pair) (p q : Pair) (ps qs : List Pair) → xs ++ p ∷ ps ≡ xs ++ q ∷ qs → p ≡ q
