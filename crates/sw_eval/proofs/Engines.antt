@@ -4,28 +4,27 @@ use Rattle.sw_world.specs.declared.op.Op.{Op}
 use Rattle.sw_world.specs.declared.answer.Answer.{Answer}
 use Rattle.sw_world.specs.declared.end.Turn.{Turn}
 use Rattle.sw_world.specs.declared.end.Turn.TheVariants.{Load, Ended}
-use Rattle.sw_world.specs.Body.{Pair, Job, Next, answers, Goes}
+use Rattle.sw_world.specs.Body.{Pair, Job, Next, BodyOf, answers, Goes}
 use Rattle.sw_world.specs.Progress.{Status, Running, Waiting, Progress, IsAt, IsBody, Went, stops}
 use Rattle.sw_eval.specs.Told.{goes-append}
-use Rattle.sw_eval.specs.Means.{body}
 use Rattle.sw_eval.specs.Resume.{TurnDid, IsStep}
 
-pub went_law : {W : Type 0} (gives : W → Op → Answer → W → Type 0) (job : Job) (ps qs : List Pair) (started : Bool) (a b : Status) (w x : W) → TurnDid gives (body job) ps w qs x
+pub went_law : (body : BodyOf) {W : Type 0} (gives : W → Op → Answer → W → Type 0) (job : Job) (ps qs : List Pair) (started : Bool) (a b : Status) (w x : W) → TurnDid gives (body job) ps w qs x
     → (taken : List Pair) × (asked : List Pair) × Went gives (record { job = job; left = if started then [] else ps; seen = if started then ps else []; status = a })
     (record { job = job; left = []; seen = qs; status = b }) taken asked w x
-went_law gives job ps qs true a b w x d =
+went_law body gives job ps qs true a b w x d =
     ([], d.asked, record { same_job = refl; left = refl; seen = d.grew; led = d.led })
-went_law gives job ps qs false a b w x d =
+went_law body gives job ps qs false a b w x d =
     (ps, d.asked, record { same_job = refl; left = sym (append-nil ps); seen = d.grew; led = d.led })
 
 whole : (b : List Answer → Next) (ps : List Pair) (started : Bool) → Goes b [] ((if started then ps else []) ++ (if started then [] else ps)) → Goes b [] ps
 whole b ps true g = subst (λ (l : List Pair). Goes b [] l) (append-nil ps) g
 whole b ps false g = g
 
-pub body_law : {W : Type 0} (gives : W → Op → Answer → W → Type 0) (job : Job) (ps qs : List Pair) (started : Bool) (a : Status) (w x : W) → TurnDid gives (body job) ps w qs x
+pub body_law : (body : BodyOf) {W : Type 0} (gives : W → Op → Answer → W → Type 0) (job : Job) (ps qs : List Pair) (started : Bool) (a : Status) (w x : W) → TurnDid gives (body job) ps w qs x
     → Goes (body job) [] ((if started then ps else []) ++ (if started then [] else ps)) → IsAt (body job) (answers qs) [] a
     → IsBody body (record { job = job; left = []; seen = qs; status = a })
-body_law gives job ps qs started a w x d g at = record {
+body_law body gives job ps qs started a w x d g at = record {
   goes = subst (λ (l : List Pair). Goes (body job) [] l) (sym d.grew ∙ sym (append-nil qs)) (goes-append (body job) [] ps d.asked (whole (body job) ps started g) d.goes);
   place = at;
 }

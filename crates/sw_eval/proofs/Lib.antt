@@ -8,3 +8,4 @@ pub mod Weighs
 pub mod Tops
 pub mod Turns
 pub mod Engines
+pub mod Announced
