@@ -4,3 +4,8 @@ pub mod Rest
 pub mod Parts
 pub mod Turns
 pub mod Loads
+pub mod Again
+pub mod Replays
+pub mod Ends
+pub mod Tables
+pub mod Whole

@@ -1,5 +1,5 @@
 -- Answered loads, and texts that are evaluated.
-use Rattle.std.proofs.Common.{◌≡◌, ℕ, suc, ◌+◌, ◌<◌, List, [], ◌∷◌, ◌++◌, length, Result, Ok, Err, refl, sym, ◌∙◌, ap, subst, append-nil, length-append, arith}
+use Rattle.std.proofs.Common.{◌≡◌, ℕ, suc, ◌+◌, ◌<◌, List, [], ◌∷◌, ◌++◌, length, Result, Ok, Err, refl, sym, ◌∙◌, ap, subst, length-append, arith}
 use Rattle.sw_text.specs.declared.fault.Fault.{Fault}
 use Rattle.sw_tree.specs.declared.sheet.Sheet.{Sheet}
 use Rattle.sw_values.specs.declared.node.Node.{Node}
@@ -9,18 +9,18 @@ use Rattle.sw_world.specs.declared.answer.Answer.{Answer}
 use Rattle.sw_world.specs.declared.answer.Answer.TheVariants.{Loaded, Refused}
 use Rattle.sw_world.specs.declared.end.End.{End}
 use Rattle.sw_world.specs.declared.end.End.TheVariants.{Fault as Fault_end}
-use Rattle.sw_world.specs.Body.{Job}
+use Rattle.sw_world.specs.Body.{Job, Run}
 use Rattle.sw_world.specs.Questions.{IsLoad, Fits}
 use Rattle.sw_modules.specs.declared.live.Begin.{Begin}
 use Rattle.sw_modules.specs.declared.live.Begin.TheVariants.{Answered, Open}
 use Rattle.sw_modules.specs.State.{State, open_at, path_in}
 use Rattle.sw_modules.specs.Loads.{begun, ended_by, AnswersLoad}
 use Rattle.sw_modules.specs.Outside.{Functions, Outside}
-use Rattle.sw_modules.specs.Fresh.{Setting, Run, Outcome, Evaluation, Response, responds, load_response, load_ended, at_once, fresh, room, from_open, evaluated_by, rest_of, ended}
-use Rattle.sw_keeper.specs.Compile.{paths_of}
-use Rattle.sw_keeper.specs.Steps.{DidLoad, DidEnd, DidEvaluate}
+use Rattle.sw_modules.specs.Fresh.{Setting, Outcome, Evaluation, Response, responds, load_response, load_ended, at_once, fresh, room, from_open, evaluated_by, rest_of, ended}
+use Rattle.sw_record.specs.Ran.{Table}
+use Rattle.sw_keeper.specs.Steps.{Moment, Grown, DidLoad, DidEnd, DidEvaluate, moment, run_of}
 use Rattle.sw_keeper.proofs.Rest.{fresh_opens}
-use Rattle.sw_keeper.proofs.Parts.{paths_of-append}
+use Rattle.sw_keeper.proofs.Parts.{grown_none}
 
 pub fits_load : (op : Op) (a : Answer) → IsLoad op → AnswersLoad a → Fits op a
 fits_load (Load site url span how config) (Loaded path taken) is kind = tt
@@ -37,53 +37,55 @@ responds_load functions inner (Say kind span text) o is = absurd is
 responds_load functions inner (Call name args) o is = absurd is
 
 -- a load that was answered at once
-pub did_answered : (functions : Functions) (inner : Evaluation) (op : Op) (a : Answer) (s : State) (o : Outside) (e : List (List ℕ)) → IsLoad op → begun op o.live ≡ (Answered a, s) → length s.opened ≡ length o.live.opened
-    → DidLoad (responds functions inner op o) a o (record o { live = s }) e e
-did_answered functions inner op a s o e is begins depth =
-    let same : responds functions inner op o ≡ record { answer = a; outside = record o { live = s }; runs = [] } =
-    responds_load functions inner op o is ∙ ap (λ p. load_response inner op p o) begins in
-    subst (λ (r : Response). DidLoad r a o (record o { live = s }) e e) (sym same)
-    (record { answered = refl; outside = refl; same_depth = depth; ran = sym (append-nil e) })
+pub did_answered : (table : Table) (functions : Functions) (inner : Evaluation) (op : Op) (a : Answer) (s : State) (o : Moment) → IsLoad op → begun op o.outside.live ≡ (Answered a, s) → length s.opened ≡ length o.outside.live.opened
+    → DidLoad table (responds functions inner op o.outside) a o (moment s o.outside.hosts o.results o.told)
+did_answered table functions inner op a s o is begins depth =
+    let t : Moment = moment s o.outside.hosts o.results o.told in
+    let same : responds functions inner op o.outside ≡ record { answer = a; outside = t.outside; runs = [] } =
+    responds_load functions inner op o.outside is ∙ ap (λ p. load_response inner op p o.outside) begins in
+    subst (λ (r : Response). DidLoad table r a o t) (sym same)
+    (record { answered = refl; outside = refl; same_depth = depth; grown = grown_none table o t refl refl })
 
 -- a load whose module was evaluated
-pub did_opened : (setting : Setting) (op : Op) (path text : List ℕ) (config : List (List ℕ × Node)) (end : End) (a : Answer) (m u : State) (o t : Outside) (e0 e1 : List (List ℕ))
-    → IsLoad op → begun op o.live ≡ (Open path text config, m) → length o.live.opened < 64 → m ≡ open_at path o.live
-    → DidEvaluate setting path text config end (record o { live = m }) t e0 e1
-    → ended_by op (path_in t.live.opened) end t.live ≡ (a, u) → length u.opened + 1 ≡ length t.live.opened
-    → DidLoad (responds setting.functions (fresh setting (room o.live)) op o) a o (record t { live = u }) e0 e1
-did_opened setting op path text config end a m u o t e0 e1 is begins few opens did ends closes =
-    let inner = fresh setting (room o.live) in
-    let one_more : length m.opened ≡ suc (length o.live.opened) = ap (λ (s : State). length s.opened) opens ∙ length-append o.live.opened (record { path = path; uses = [] } ∷ []) ∙ omega arith in
-    let evaluated : inner (record o { live = m }) path text config ≡ record { outside = t; runs = did.runs; end = end } =
-    fresh_opens setting o.live (record o { live = m }) path text config few one_more ∙ did.gives in
-    let same : responds setting.functions inner op o ≡ record { answer = a; outside = record t { live = u }; runs = did.runs } =
-    responds_load setting.functions inner op o is ∙ ap (λ p. load_response inner op p o) begins
+pub did_opened : (setting : Setting) (table : Table) (op : Op) (path text : List ℕ) (config : List (List ℕ × Node)) (end : End) (a : Answer) (m u : State) (o t : Moment)
+    → IsLoad op → begun op o.outside.live ≡ (Open path text config, m) → length o.outside.live.opened < 64 → m ≡ open_at path o.outside.live
+    → DidEvaluate setting table path text config end (moment m o.outside.hosts o.results o.told) t
+    → ended_by op (path_in t.outside.live.opened) end t.outside.live ≡ (a, u) → length u.opened + 1 ≡ length t.outside.live.opened
+    → DidLoad table (responds setting.functions (fresh setting (room o.outside.live)) op o.outside) a o (moment u t.outside.hosts t.results t.told)
+did_opened setting table op path text config end a m u o t is begins few opens did ends closes =
+    let inner = fresh setting (room o.outside.live) in
+    let v : Moment = moment u t.outside.hosts t.results t.told in
+    let one_more : length m.opened ≡ suc (length o.outside.live.opened) = ap (λ (s : State). length s.opened) opens ∙ length-append o.outside.live.opened (record { path = path; uses = [] } ∷ []) ∙ omega arith in
+    let evaluated : inner (record { live = m; hosts = o.outside.hosts }) path text config ≡ record { outside = t.outside; runs = did.runs; end = end } =
+    fresh_opens setting o.outside.live (record { live = m; hosts = o.outside.hosts }) path text config few one_more ∙ did.gives in
+    let same : responds setting.functions inner op o.outside ≡ record { answer = a; outside = v.outside; runs = did.runs } =
+    responds_load setting.functions inner op o.outside is ∙ ap (λ p. load_response inner op p o.outside) begins
     ∙ ap (λ (c : Outcome). load_ended op c) evaluated
-    ∙ ap (λ (p : Answer × State). at_once t did.runs p) ends in
-    let depth : length u.opened ≡ length o.live.opened = omega (arith, closes, did.same_depth, one_more) in
-    subst (λ (r : Response). DidLoad r a o (record t { live = u }) e0 e1) (sym same)
-    (record { answered = refl; outside = refl; same_depth = depth; ran = did.ran })
+    ∙ ap (λ (p : Answer × State). at_once t.outside did.runs p) ends in
+    let depth : length u.opened ≡ length o.outside.live.opened = omega (arith, closes, did.same_depth, one_more) in
+    let grown : Grown table did.runs o v = record { runs = did.grown.runs; grown = did.grown.grown; is = did.grown.is; ran = did.grown.ran; told = did.grown.told } in
+    subst (λ (r : Response). DidLoad table r a o v) (sym same)
+    (record { answered = refl; outside = refl; same_depth = depth; grown = grown })
 
 -- a text that reads is evaluated by its body
-pub did_read : (setting : Setting) (path text : List ℕ) (config : List (List ℕ × Node)) (sheet : Sheet) (end : End) (o t : Outside) (e0 e1 : List (List ℕ))
-    → setting.read path text ≡ Ok sheet → DidEnd setting (record { sheet = sheet; config = config; path = path }) end o t e0 e1 → DidEvaluate setting path text config end o t e0 e1
-did_read setting path text config sheet end o t e0 e1 reads did =
+pub did_read : (setting : Setting) (table : Table) (path text : List ℕ) (config : List (List ℕ × Node)) (sheet : Sheet) (end : End) (o t : Moment)
+    → setting.read path text ≡ Ok sheet → DidEnd setting table (record { sheet = sheet; config = config; path = path }) text [] end o t → DidEvaluate setting table path text config end o t
+did_read setting table path text config sheet end o t reads did =
     let job : Job = record { sheet = sheet; config = config; path = path } in
-    let run : Run = record { path = path; text = text; config = config; seen = did.seen; end = end } in
     record {
-      runs = did.new ++ run ∷ [];
-      gives = ap (evaluated_by (λ s. rest_of setting (record { sheet = s; config = config; path = path }) text [] [] o) o) reads ∙ did.ends text;
+      runs = did.new ++ run_of job text did.seen end ∷ [];
+      gives = ap (evaluated_by (λ s. rest_of setting (record { sheet = s; config = config; path = path }) text [] [] o.outside) o.outside) reads ∙ did.ends [];
       same_depth = did.same_depth;
-      ran = did.ran ∙ ap (λ l. e0 ++ l) (sym (paths_of-append did.new (run ∷ [])));
+      grown = did.grown;
     }
 
 -- one that doesn't read ends with its fault
-pub did_not_read : (setting : Setting) (path text : List ℕ) (config : List (List ℕ × Node)) (fault : Fault) (o : Outside) (e : List (List ℕ))
-    → setting.read path text ≡ Err fault → DidEvaluate setting path text config (Fault_end fault) o o e e
-did_not_read setting path text config fault o e reads =
+pub did_not_read : (setting : Setting) (table : Table) (path text : List ℕ) (config : List (List ℕ × Node)) (fault : Fault) (o : Moment)
+    → setting.read path text ≡ Err fault → DidEvaluate setting table path text config (Fault_end fault) o o
+did_not_read setting table path text config fault o reads =
     record {
       runs = [];
-      gives = ap (evaluated_by (λ s. rest_of setting (record { sheet = s; config = config; path = path }) text [] [] o) o) reads;
+      gives = ap (evaluated_by (λ s. rest_of setting (record { sheet = s; config = config; path = path }) text [] [] o.outside) o.outside) reads;
       same_depth = refl;
-      ran = sym (append-nil e);
+      grown = grown_none table o o refl refl;
     }

@@ -1,6 +1,7 @@
 -- Pairs that a body goes through.
-use Rattle.std.proofs.Common.{◌≡◌, ℕ, suc, ◌-◌, ◌<◌, ◌≤◌, List, [], ◌∷◌, ◌++◌, length, take, drop, refl, sym, ◌∙◌, ap, subst, append_assoc, append-nil, arith}
+use Rattle.std.proofs.Common.{◌≡◌, ℕ, suc, ◌-◌, ◌<◌, ◌≤◌, List, [], ◌∷◌, ◌++◌, length, take, drop, get_or, slice_get, Some, refl, sym, ◌∙◌, ap, subst, append_assoc, append-nil, drop-cons, arith}
 use Rattle.std.proofs.lemmas.List.{take-append-drop, length-take, length-drop}
+use Rattle.std.proofs.lemmas.Option.{get_or_from_slice_get, slice_get_within}
 use Rattle.sw_world.specs.declared.op.Op.{Op}
 use Rattle.sw_world.specs.declared.answer.Answer.{Answer}
 use Rattle.sw_world.specs.declared.end.End.{End}
@@ -42,3 +43,23 @@ within body job pairs in_time goes =
       where
         apart : {op : Op} {end : End} → Asks op ≡ Ends end → ⊥
         apart e = cc
+
+-- a list, at a place that it has
+pub split_at : (ps : List Pair) (at : ℕ) (p : Pair) → slice_get ps at ≡ Some p → ps ≡ take at ps ++ p ∷ drop (suc at) ps
+split_at ps at p here =
+    let inside : at < length ps = slice_get_within ps at p here in
+    let e : drop at ps ≡ get_or ps at p ∷ drop (suc at) ps = drop-cons ps at p inside in
+    sym (take-append-drop at ps) ∙ ap (λ r. take at ps ++ r) (e ∙ ap (λ q. q ∷ drop (suc at) ps) (get_or_from_slice_get ps at p p here))
+
+-- the pairs up to a place, and another answer at it
+pub goes_departs : (next : List Answer → Next) (ps : List Pair) (at : ℕ) (p : Pair) (a : Answer) → Goes next [] ps → slice_get ps at ≡ Some p → Fits p.0 a → Goes next [] (take at ps ++ (p.0, a) ∷ [])
+goes_departs next ps at p a goes here fits =
+    let all : Goes next [] (take at ps ++ p ∷ drop (suc at) ps) = subst (λ (l : List Pair). Goes next [] l) (split_at ps at p here) goes in
+    let rest = goes_rest next [] (take at ps) (p ∷ drop (suc at) ps) all in
+    goes_join next [] (take at ps) ((p.0, a) ∷ []) (goes_first next [] (take at ps) (p ∷ drop (suc at) ps) all) (rest.0, fits, tt)
+
+-- the answer at a place fits its question
+pub fits_at : (next : List Answer → Next) (ps : List Pair) (at : ℕ) (p : Pair) → Goes next [] ps → slice_get ps at ≡ Some p → Fits p.0 p.1
+fits_at next ps at p goes here =
+    let all : Goes next [] (take at ps ++ p ∷ drop (suc at) ps) = subst (λ (l : List Pair). Goes next [] l) (split_at ps at p here) goes in
+    (goes_rest next [] (take at ps) (p ∷ drop (suc at) ps) all).1

@@ -1,19 +1,47 @@
 -- How the parts of a compile join.
-use Rattle.std.proofs.Common.{◌≡◌, ℕ, List, [], ◌∷◌, ◌++◌, length, refl, sym, ◌∙◌, ap, subst, append_assoc, append-nil}
+use Rattle.std.proofs.Common.{◌≡◌, ℕ, List, [], ◌∷◌, ◌++◌, length, refl, sym, ◌∙◌, ap, subst, append_assoc, append-nil, inl, inr}
 use Rattle.std.proofs.lemmas.List.{map-append}
 use Rattle.sw_world.specs.declared.op.Op.{Op}
 use Rattle.sw_world.specs.declared.answer.Answer.{Answer}
-use Rattle.sw_world.specs.Body.{Pair, Job, Next, Goes, Leads}
+use Rattle.sw_world.specs.Body.{Pair, Job, Run, Next, Goes, Leads}
 use Rattle.sw_world.specs.Laws.{EndsInTime}
 use Rattle.sw_world.specs.Progress.{Progress, IsBody, Went}
 use Rattle.sw_modules.specs.Outside.{Functions, Outside, plain}
-use Rattle.sw_modules.specs.Fresh.{Setting, Run, responds, fresh, room, rest_of}
+use Rattle.sw_modules.specs.Fresh.{Setting, responds, fresh, room, rest_of}
+use Rattle.sw_record.specs.declared.reply.Cause.{Cause}
+use Rattle.sw_record.specs.Ran.{Table, Ran}
 use Rattle.sw_keeper.specs.Compile.{paths_of}
-use Rattle.sw_keeper.specs.Steps.{Advances, DidLoad, WentOn}
+use Rattle.sw_keeper.specs.Results.{Results}
+use Rattle.sw_keeper.specs.Steps.{Moment, Grown, Advances, DidLoad, WentOn}
 use Rattle.sw_keeper.proofs.Rest.{rest_more, led, led_opened}
 
-pub paths_of-append : (xs ys : List Run) → paths_of (xs ++ ys) ≡ paths_of xs ++ paths_of ys
-paths_of-append xs ys = map-append (λ (run : Run). run.path) xs ys
+pub paths_of-append : (xs ys : List (List ℕ × Cause)) → paths_of (xs ++ ys) ≡ paths_of xs ++ paths_of ys
+paths_of-append xs ys = map-append (λ (one : List ℕ × Cause). one.0) xs ys
+
+pub ran_join : (table : Table) (new more : List Run) (xs ys : List (List ℕ × Cause)) → Ran table new xs → Ran table more ys → Ran table (new ++ more) (xs ++ ys)
+ran_join table [] more xs ys e b = rw e b
+ran_join table (r ∷ rs) more xs ys (inl a) b = inl (a.0, ran_join table rs more xs ys a.1 b)
+ran_join table (r ∷ rs) more xs ys (inr a) b = inr (a.0, a.1, (a.2.0 ++ ys, ap (λ l. l ++ ys) a.2.1, ran_join table rs more a.2.0 ys a.2.2 b))
+
+pub grown_none : (table : Table) (o t : Moment) → t.results ≡ o.results → t.told ≡ o.told → Grown table [] o t
+grown_none table o t results told =
+    record {
+      runs = ap (λ (r : Results). r.runs) results ∙ sym (append-nil o.results.runs);
+      grown = [];
+      is = refl;
+      ran = ap (λ (r : Results). r.ran) results ∙ sym (append-nil o.results.ran);
+      told = told ∙ sym (append-nil o.told);
+    }
+
+pub grown_join : (table : Table) (new more : List Run) (o m t : Moment) → Grown table new o m → Grown table more m t → Grown table (new ++ more) o t
+grown_join table new more o m t a b =
+    record {
+      runs = b.runs ∙ ap (λ l. l ++ more) a.runs ∙ append_assoc o.results.runs new more;
+      grown = a.grown ++ b.grown;
+      is = ran_join table new more a.grown b.grown a.is b.is;
+      ran = b.ran ∙ ap (λ l. l ++ b.grown) a.ran ∙ append_assoc o.results.ran a.grown b.grown;
+      told = b.told ∙ ap (λ l. l ++ paths_of b.grown) a.told ∙ append_assoc o.told (paths_of a.grown) (paths_of b.grown) ∙ ap (λ l. o.told ++ l) (sym (paths_of-append a.grown b.grown));
+    }
 
 pub advances_none : (setting : Setting) (job : Job) (pairs : List Pair) (o : Outside) → Advances setting job pairs pairs [] o o
 advances_none setting job pairs o = record { rest = λ text runs. ap (λ (l : List Run). rest_of setting job text pairs l o) (sym (append-nil runs)); same_depth = refl }
@@ -24,13 +52,13 @@ advances_join setting job ps qs rs new more o t u a b =
     record { rest = λ text runs. a.rest text runs ∙ b.rest text (runs ++ new) ∙ ap (λ (l : List Run). rest_of setting job text rs l u) (append_assoc runs new more); same_depth = b.same_depth ∙ a.same_depth }
 
 -- a load that was answered
-pub advances_load : (setting : Setting) (job : Job) (pairs : List Pair) (op : Op) (a : Answer) (o t : Outside) (e0 e1 : List (List ℕ))
-    → EndsInTime setting.body → Goes (setting.body job) [] (pairs ++ (op, a) ∷ []) → DidLoad (responds setting.functions (fresh setting (room o.live)) op o) a o t e0 e1
-    → Advances setting job pairs (pairs ++ (op, a) ∷ []) (responds setting.functions (fresh setting (room o.live)) op o).runs o t
-advances_load setting job pairs op a o t e0 e1 in_time goes did =
-    let r = responds setting.functions (fresh setting (room o.live)) op o in
+pub advances_load : (setting : Setting) (table : Table) (job : Job) (pairs : List Pair) (op : Op) (a : Answer) (o t : Moment)
+    → EndsInTime setting.body → Goes (setting.body job) [] (pairs ++ (op, a) ∷ []) → DidLoad table (responds setting.functions (fresh setting (room o.outside.live)) op o.outside) a o t
+    → Advances setting job pairs (pairs ++ (op, a) ∷ []) (responds setting.functions (fresh setting (room o.outside.live)) op o.outside).runs o.outside t.outside
+advances_load setting table job pairs op a o t in_time goes did =
+    let r = responds setting.functions (fresh setting (room o.outside.live)) op o.outside in
     record {
-      rest = λ text runs. rest_more setting job text pairs ((op, a) ∷ []) runs o t r.runs in_time goes (sym did.answered, tt) (sym did.outside) (append-nil r.runs) did.same_depth;
+      rest = λ text runs. rest_more setting job text pairs ((op, a) ∷ []) runs o.outside t.outside r.runs in_time goes (sym did.answered, tt) (sym did.outside) (append-nil r.runs) did.same_depth;
       same_depth = did.same_depth;
     }
 

@@ -6,12 +6,12 @@ use Rattle.sw_world.specs.declared.op.Op.{Op}
 use Rattle.sw_world.specs.declared.op.Op.TheVariants.{Load, Find, Get, Put, Say, Call}
 use Rattle.sw_world.specs.declared.answer.Answer.{Answer}
 use Rattle.sw_world.specs.declared.end.End.{End}
-use Rattle.sw_world.specs.Body.{Pair, Job, Next, Ends, Goes, Leads, answers}
+use Rattle.sw_world.specs.Body.{Pair, Job, Run, Next, Ends, Goes, Leads, answers}
 use Rattle.sw_world.specs.Questions.{IsLoad}
 use Rattle.sw_world.specs.Laws.{EndsInTime, most_asked}
 use Rattle.sw_modules.specs.State.{State}
 use Rattle.sw_modules.specs.Outside.{Functions, Outside, plain}
-use Rattle.sw_modules.specs.Fresh.{Setting, Run, Evaluation, Response, responds, goes_on, fresh, room, rest_of, from_open, ended, turn, evaluated_by}
+use Rattle.sw_modules.specs.Fresh.{Setting, Evaluation, Response, responds, goes_on, fresh, room, rest_of, from_open, ended, turn, evaluated_by}
 use Rattle.sw_modules.specs.Law.{left_after, runs_of, AreAnswers}
 use Rattle.sw_modules.proofs.ComesBy as law
 use Rattle.sw_keeper.proofs.Pairs.{goes_rest, within}

@@ -1,12 +1,12 @@
 -- What a keeper holds (this project's own rule): its folder, and for each entry and path the latest run that ended well.
-use Rattle.std.specs.Prelude.{ℕ, List, [], ◌∷◌, bytes_eq, unwrap_or}
+use Rattle.std.specs.Prelude.{◌≡◌, ℕ, List, [], ◌∷◌, bytes_eq, unwrap_or, Some}
 use Rattle.std.specs.Map.{lookup}
 use Rattle.indexmap.specs.IndexMap.{insert_entry}
 use Rattle.sw_folder.specs.Files.{Files}
 use Rattle.sw_world.specs.declared.end.End.{End}
 use Rattle.sw_world.specs.declared.end.End.TheVariants.{Done, Fault}
 use Rattle.sw_world.specs.Body.{Run}
-use Rattle.sw_record.specs.Ran.{Table}
+use Rattle.sw_record.specs.Ran.{Table, kept_at}
 
 -- the kept runs by the entries of their compiles
 abbrev pub Tables : Type 0
@@ -33,3 +33,7 @@ with_runs table (run ∷ runs) = with_runs (with_run_by table run run.end) runs
 abbrev pub kept_after : Tables → List ℕ → List Run → Tables
 kept_after tables entry [] = tables
 kept_after tables entry (run ∷ runs) = insert_entry bytes_eq tables entry (with_runs (table_of tables entry) (run ∷ runs))
+
+-- each run is kept at the path of its module
+abbrev pub EachAtItsPath : Table → Type 0
+EachAtItsPath table = (path : List ℕ) (run : Run) → kept_at table path ≡ Some run → run.path ≡ path

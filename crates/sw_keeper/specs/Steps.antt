@@ -1,13 +1,45 @@
 -- What the steps of a compile do.
-use Rattle.std.specs.Prelude.{◌≡◌, ℕ, ◌<◌, List, [], ◌∷◌, ◌++◌, length, Option, None, Some}
+use Rattle.std.specs.Prelude.{◌≡◌, ℕ, ◌<◌, List, [], ◌∷◌, ◌++◌, length, Option, None, Some, Result}
+use Rattle.sw_text.specs.declared.fault.Fault.{Fault}
+use Rattle.sw_tree.specs.declared.sheet.Sheet.{Sheet}
 use Rattle.sw_values.specs.declared.node.Node.{Node}
+use Rattle.sw_world.specs.Hosts.{HostState}
 use Rattle.sw_world.specs.declared.answer.Answer.{Answer}
 use Rattle.sw_world.specs.declared.end.End.{End}
-use Rattle.sw_world.specs.Body.{Pair, Job}
+use Rattle.sw_world.specs.Body.{Pair, Job, Run, BodyOf}
 use Rattle.sw_world.specs.Progress.{Progress, Running, Ended, IsBody}
-use Rattle.sw_modules.specs.Outside.{Outside}
-use Rattle.sw_modules.specs.Fresh.{Setting, Run, Response, rest_of, ended, from_open}
+use Rattle.sw_modules.specs.State.{State}
+use Rattle.sw_modules.specs.Outside.{Functions, Outside}
+use Rattle.sw_modules.specs.Fresh.{Setting, Response, rest_of, ended, from_open}
+use Rattle.sw_record.specs.declared.reply.Cause.{Cause}
+use Rattle.sw_record.specs.Ran.{Table, Ran, IsCause, kept_at}
 use Rattle.sw_keeper.specs.Compile.{paths_of}
+use Rattle.sw_keeper.specs.Results.{Results}
+
+-- a moment of a compile: what is outside the bodies, the results so far, and of which bodies the engine has told
+pub record Moment : Type 0 where
+  pub outside : Outside
+  pub results : Results
+  pub told : List (List ℕ)
+
+-- what an evaluation rests on, by its parts
+abbrev pub setting_of : (HostState → List ℕ → List Node → Option Node) → (HostState → List ℕ → List Node → HostState) → (List ℕ → List ℕ → Result Sheet Fault) → BodyOf → Setting
+setting_of answer after read body = record { functions = record { answer = answer; after = after }; read = read; body = body }
+
+abbrev pub moment : State → HostState → Results → List (List ℕ) → Moment
+moment live hosts results told = record { outside = record { live = live; hosts = hosts }; results = results; told = told }
+
+-- a body that ended
+abbrev pub run_of : Job → List ℕ → List Pair → End → Run
+run_of job text seen end = record { path = job.path; text = text; config = job.config; seen = seen; end = end }
+
+-- these runs ended, and of those of them that aren't the kept ones the bodies ran and the engine told
+pub record Grown (table : Table) (new : List Run) (old now : Moment) : Type 0 where
+  pub runs : now.results.runs ≡ old.results.runs ++ new
+  pub grown : List (List ℕ × Cause)
+  pub is : Ran table new grown
+  pub ran : now.results.ran ≡ old.results.ran ++ grown
+  pub told : now.told ≡ old.told ++ paths_of grown
 
 -- a body that had these pairs behind it has those now, as the evaluation goes
 pub record Advances (setting : Setting) (job : Job) (before after : List Pair) (new : List Run) (old now : Outside) : Type 0 where
@@ -15,26 +47,26 @@ pub record Advances (setting : Setting) (job : Job) (before after : List Pair) (
   pub same_depth : length now.live.opened ≡ length old.live.opened
 
 -- an answered load
-pub record DidLoad (response : Response) (answer : Answer) (old now : Outside) (ran_old ran_new : List (List ℕ)) : Type 0 where
+pub record DidLoad (table : Table) (response : Response) (answer : Answer) (old now : Moment) : Type 0 where
   pub answered : answer ≡ response.answer
-  pub outside : now ≡ response.outside
-  pub same_depth : length now.live.opened ≡ length old.live.opened
-  pub ran : ran_new ≡ ran_old ++ paths_of response.runs
+  pub outside : now.outside ≡ response.outside
+  pub same_depth : length now.outside.live.opened ≡ length old.outside.live.opened
+  pub grown : Grown table response.runs old now
 
--- a body that went from its start to its end
-pub record DidEnd (setting : Setting) (job : Job) (end : End) (old now : Outside) (ran_old ran_new : List (List ℕ)) : Type 0 where
+-- a body that went to its end, from where it had these pairs behind it
+pub record DidEnd (setting : Setting) (table : Table) (job : Job) (text : List ℕ) (known : List Pair) (end : End) (old now : Moment) : Type 0 where
   pub seen : List Pair
   pub new : List Run
-  pub ends : (text : List ℕ) → rest_of setting job text [] [] old ≡ ended job text seen new now end
-  pub same_depth : length now.live.opened ≡ length old.live.opened
-  pub ran : ran_new ≡ ran_old ++ (paths_of new ++ job.path ∷ [])
+  pub ends : (runs : List Run) → rest_of setting job text known runs old.outside ≡ ended job text seen (runs ++ new) now.outside end
+  pub same_depth : length now.outside.live.opened ≡ length old.outside.live.opened
+  pub grown : Grown table (new ++ run_of job text seen end ∷ []) old now
 
 -- a text that was evaluated at an open path
-pub record DidEvaluate (setting : Setting) (path text : List ℕ) (config : List (List ℕ × Node)) (end : End) (old now : Outside) (ran_old ran_new : List (List ℕ)) : Type 0 where
+pub record DidEvaluate (setting : Setting) (table : Table) (path text : List ℕ) (config : List (List ℕ × Node)) (end : End) (old now : Moment) : Type 0 where
   pub runs : List Run
-  pub gives : from_open setting old path text config ≡ record { outside = now; runs = runs; end = end }
-  pub same_depth : length now.live.opened ≡ length old.live.opened
-  pub ran : ran_new ≡ ran_old ++ paths_of runs
+  pub gives : from_open setting old.outside path text config ≡ record { outside = now.outside; runs = runs; end = end }
+  pub same_depth : length now.outside.live.opened ≡ length old.outside.live.opened
+  pub grown : Grown table runs old now
 
 -- a body went on, up to a load or its end
 pub record WentOn (setting : Setting) (p q : Progress) (old now : Outside) : Type 0 where
@@ -52,22 +84,45 @@ abbrev pub ran_at : Option End → List ℕ → List (List ℕ)
 ran_at None path = []
 ran_at (Some end) path = path ∷ []
 
-pub record Turned (setting : Setting) (p q : Progress) (end : Option End) (old now : Outside) (ran_old ran_new : List (List ℕ)) : Type 0 where
+pub record Turned (setting : Setting) (table : Table) (p q : Progress) (end : Option End) (old now : Moment) : Type 0 where
   pub same_job : q.job ≡ p.job
   pub left : q.left ≡ []
+  pub more : List Pair
+  pub extends : q.seen ≡ (p.seen ++ p.left) ++ more
   pub new : List Run
-  pub advances : Advances setting p.job (p.seen ++ p.left) q.seen new old now
-  pub ran : ran_new ≡ ran_old ++ (paths_of new ++ ran_at end q.job.path)
+  pub advances : Advances setting p.job (p.seen ++ p.left) q.seen new old.outside now.outside
+  pub runs : now.results.runs ≡ old.results.runs ++ new
+  pub grown : List (List ℕ × Cause)
+  pub is : Ran table new grown
+  pub ran : now.results.ran ≡ old.results.ran ++ grown
+  pub told : now.told ≡ old.told ++ (paths_of grown ++ ran_at end q.job.path)
   pub place : IsTurned end p q
 
--- a body on its way
-pub record RunsOn (setting : Setting) (job : Job) (p : Progress) (old now : Outside) (ran_old ran_new : List (List ℕ)) : Type 0 where
+-- a body on its way, from where it had the known pairs behind it
+pub record RunsOn (setting : Setting) (table : Table) (job : Job) (known : List Pair) (p : Progress) (old now : Moment) : Type 0 where
   pub running : p.status ≡ Running
   pub is_body : IsBody setting.body p
   pub same_job : p.job ≡ job
+  pub more : List Pair
+  pub extends : p.seen ++ p.left ≡ known ++ more
   pub new : List Run
-  pub advances : Advances setting job [] (p.seen ++ p.left) new old now
-  pub ran : ran_new ≡ ran_old ++ paths_of new
+  pub advances : Advances setting job known (p.seen ++ p.left) new old.outside now.outside
+  pub grown : Grown table new old now
+
+-- the kept run of the path, with this text and this configuration
+pub record IsSame (table : Table) (path text : List ℕ) (config : List (List ℕ × Node)) (run : Run) : Type 0 where
+  pub at : kept_at table path ≡ Some run
+  pub path_is : run.path ≡ path
+  pub text_is : run.text ≡ text
+  pub config_is : run.config ≡ config
+
+abbrev pub NoneSame : Table → List ℕ → List ℕ → List (List ℕ × Node) → Type 0
+NoneSame table path text config = (run : Run) → kept_at table path ≡ Some run → run.text ≡ text → run.config ≡ config → ⊥
+
+-- however the body ends that has these pairs behind it, this is why it ran
+abbrev pub DiffersBy : Table → List ℕ → List ℕ → List (List ℕ × Node) → List Pair → Cause → Type 0
+DiffersBy table path text config known cause =
+    (more : List Pair) (end : End) → IsCause (kept_at table path) (record { path = path; text = text; config = config; seen = known ++ more; end = end }) cause
 
 -- some bodies ran, whichever they are
 abbrev pub RanMore : List (List ℕ) → List (List ℕ) → Type 0

@@ -4,24 +4,29 @@ ghost use Rattle.std.specs.FinMap as files;
 ghost use Rattle.sw_folder.specs.Edits.{after_put, after_removal, IsFaultOf};
 ghost use Rattle.sw_record.specs.Ran.{Ran};
 ghost use Rattle.sw_keeper.specs.Compile.{compiled, outcome_of, paths_of};
-ghost use Rattle.sw_keeper.specs.Keeping.{table_of, kept_after};
-ghost use Rattle.sw_keeper.specs.Steps.{RanMore};
+ghost use Rattle.sw_keeper.specs.Keeping.{table_of, with_runs, kept_after};
+ghost use Rattle.sw_keeper.specs.Steps.{RanMore, setting_of};
+ghost use Rattle.sw_keeper.specs.Whole.{IsCompiled};
 
 use crate::Reader;
-use crate::kept::KeptRun;
+use crate::evaluate::evaluate;
+use crate::kept::{KeptRun, KeptRuns};
+use crate::results::Results;
 use std::alloc::Global;
 use std::marker::Model;
+use sw_css_print::print;
+use sw_css_tree::CssTree;
 use sw_folder::{EditFault, Folder};
-use sw_modules::Table;
-use sw_record::Reply;
-use sw_text::{Memory, Name};
-use sw_world::{Engine, Hosts};
+use sw_modules::{Enter, Finished, Live, Table};
+use sw_record::{Outcome, Reply};
+use sw_text::{List, Memory, Name, Shared};
+use sw_world::{End, Engine, Hosts};
 
 /// A folder that is compiled again and again, and the runs that are kept of its compiles. Contracts see both.
 #[derive(Drop)]
 pub struct Keeper<R: Reader, E: Engine> {
     folder: Folder,
-    kept: Table<Table<KeptRun<R, E>>>,
+    kept: Table<KeptRuns<R, E>>,
     alloc: Global,
 }
 
@@ -96,6 +101,135 @@ impl<R: Reader, E: Engine> Keeper<R, E> {
         ensures folder { self.new.folder ≡ self.old.folder }
         ensures unchanged { OnErr result (self.new ≡ self.old) }
     {
-        Err(Memory)
+        let none = KeptRuns::new(self.alloc);
+        let kept = kept_of(&self.kept, &none, entry);
+        let Compiled { reply, runs } = compile_folder(
+            self.alloc,
+            &self.folder,
+            kept,
+            reader,
+            entry,
+            paths,
+            engine,
+            hosts,
+        )?;
+        keep_runs(self.alloc, &mut self.kept, entry, &runs)?;
+        Ok(reply)
+    }
+}
+
+/// Keeps the runs of a compile of an entry. After `Memory` the tables are as before.
+#[tactic(auto, using(crate::proofs::Tables::kept_some, crate::proofs::Tables::kept_none))]
+fn keep_runs<R: Reader, E: Engine>(
+    alloc: Global,
+    tables: &mut Table<KeptRuns<R, E>>,
+    entry: &Name,
+    runs: &List<KeptRun<R, E>>,
+) -> Result<(), Memory>
+    ensures ok { OnOk result (tables.new ≡ kept_after tables.old entry.now runs.now) }
+    ensures err { OnErr result (tables.new ≡ tables.old) }
+{
+    if runs.is_empty() {
+        return Ok(());
+    }
+    let after = kept_with(alloc, tables, entry, runs)?;
+    tables.add(entry.share()?, after)?;
+    Ok(())
+}
+
+/// The kept runs of an entry after these.
+fn kept_with<R: Reader, E: Engine>(
+    alloc: Global,
+    tables: &Table<KeptRuns<R, E>>,
+    entry: &Name,
+    runs: &List<KeptRun<R, E>>,
+) -> Result<KeptRuns<R, E>, Memory>
+    ensures { IfOk result (λ after. after ≡ with_runs (table_of tables.now entry.now) runs.now) }
+{
+    let none = KeptRuns::new(alloc);
+    let kept = kept_of(tables, &none, entry);
+    let after = kept.with(alloc, runs.as_slice())?;
+    Ok(after)
+}
+
+/// What a compile replies, and the runs that ended in it.
+#[derive(Drop)]
+struct Compiled<R: Reader, E: Engine> {
+    reply: Reply,
+    runs: List<KeptRun<R, E>>,
+}
+
+/// The kept runs of an entry.
+fn kept_of<'k, R: Reader, E: Engine>(
+    tables: &'k Table<KeptRuns<R, E>>,
+    none: &'k KeptRuns<R, E>,
+    entry: &Name,
+) -> &'k KeptRuns<R, E>
+    requires { none.now ≡ [] }
+    ensures { result.now ≡ table_of tables.now entry.now }
+{
+    match tables.get(entry) {
+        Some(kept) => kept,
+        None => none,
+    }
+}
+
+fn compile_folder<R: Reader, E: Engine, H: Hosts>(
+    alloc: Global,
+    folder: &Folder,
+    kept: &KeptRuns<R, E>,
+    reader: &R,
+    entry: &Name,
+    paths: &[Name],
+    engine: &mut E,
+    hosts: &mut H,
+) -> Result<Compiled<R, E>, Memory>
+    ensures did { IfOk result (λ given. IsCompiled (compiled (setting_of H.answer H.after R.reads E.body) folder.now paths.now entry.now (H.state hosts.old))
+        kept.now given.reply given.runs (H.state hosts.new) (E.ran engine.old) (E.ran engine.new)) }
+    ensures grew { OnErr result (RanMore (E.ran engine.old) (E.ran engine.new)) }
+{
+    let mut live = Live::new(alloc, folder, paths);
+    match live.enter(entry)? {
+        Enter::Refused(fault) => Ok(Compiled {
+            reply: Reply {
+                says: List::new(alloc),
+                ran: List::new(alloc),
+                outcome: Outcome::Error(fault),
+            },
+            runs: List::new(alloc),
+        }),
+        Enter::Open { path, text } => {
+            let config = Shared::new(alloc, List::new(alloc))?;
+            let mut results = Results::new(alloc);
+            let end = evaluate(
+                alloc,
+                reader,
+                &mut live,
+                hosts,
+                engine,
+                kept,
+                &mut results,
+                &path,
+                &text,
+                &config,
+            )?;
+            live.leave(&end)?;
+            let Finished { says, outputs } = live.finish();
+            let outcome = outcome_of(alloc, end, &outputs)?;
+            let (runs, ran) = results.into_parts();
+            Ok(Compiled {
+                reply: Reply { says, ran, outcome },
+                runs,
+            })
+        }
+    }
+}
+
+fn outcome_of(alloc: Global, end: End, outputs: &List<Shared<CssTree>>) -> Result<Outcome, Memory>
+    ensures { IfOk result (λ outcome. outcome ≡ outcome_of end outputs.now) }
+{
+    match end {
+        End::Done(_) => Ok(Outcome::Css(List::from_vec(print(alloc, outputs.as_slice())?))),
+        End::Fault(fault) => Ok(Outcome::Error(fault)),
     }
 }

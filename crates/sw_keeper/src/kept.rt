@@ -1,11 +1,18 @@
-// A run that is kept, of a text that reads to its sheet.
-ghost use Rattle.std.specs.Prelude.{◌≡◌, Ok, IfOk};
+// Runs that are kept, of texts that read to their sheets.
+ghost use Rattle.std.specs.Prelude.{◌≡◌, ℕ, List, [], bytes_eq, slice_get, Ok, Some, IfOk, IfSome, OnOk};
+ghost use Rattle.std.specs.Option.{option_copied};
+ghost use Rattle.indexmap.specs.IndexMap.{insert_entry};
+ghost use Rattle.sw_world.specs.Body as bodies;
+ghost use Rattle.sw_record.specs.Ran.{kept_at};
+ghost use Rattle.sw_keeper.specs.Keeping.{with_run_by, with_runs};
 
 use crate::Reader;
+use std::alloc::Global;
 use std::marker::{Model, PhantomData};
+use sw_modules::Table;
 use sw_record::Run;
-use sw_text::Memory;
-use sw_world::Engine;
+use sw_text::{Memory, Name};
+use sw_world::{End, Engine};
 
 /// A run whose sheet is what its path and text read to. Contracts see the run.
 #[derive(Drop)]
@@ -55,5 +62,115 @@ impl<R: Reader, E: Engine> KeptRun<R, E> {
             run: self.run.share()?,
             read_by: PhantomData,
         })
+    }
+}
+
+/// The kept runs of an entry, by the paths of their modules. Contracts see the table.
+#[derive(Drop)]
+pub(crate) struct KeptRuns<R: Reader, E: Engine> {
+    table: Table<KeptRun<R, E>>,
+}
+
+impl<R: Reader, E: Engine> Model for KeptRuns<R, E> {
+    ghost use Rattle.std.specs.Coded.{codes};
+    ghost use Rattle.sw_tree.specs.contracts.statement.Statement as statement;
+    ghost use Rattle.sw_record.specs.Ran as ran;
+    ghost use Rattle.sw_keeper.specs.Keeping.{EachAtItsPath};
+
+    ghost Value = { ran.Table };
+
+    ghost coded = { Prim.hlevel (codes, statement.the_row.coded) };
+
+    ghost view = { λ kept. kept.table };
+
+    ghost invariant = { λ kept. EachAtItsPath kept.table };
+}
+
+impl<R: Reader, E: Engine> KeptRuns<R, E> {
+    /// None is kept. Takes no memory.
+    pub(crate) fn new(alloc: Global) -> KeptRuns<R, E>
+        ensures { result ≡ [] }
+    {
+        KeptRuns {
+            table: Table::new(alloc),
+        }
+    }
+
+    /// The kept run of a module.
+    pub(crate) fn get(&self, path: &Name) -> Option<&KeptRun<R, E>>
+        ensures value { option_copied result ≡ kept_at self.now path.now }
+        ensures path { IfSome result (λ kept. kept.now.path ≡ path.now) }
+    {
+        self.table.get(path)
+    }
+
+    /// The kept runs after these, of which those that ended well take the places of the kept ones of their modules. All are shared in constant time.
+    pub(crate) fn with(
+        &self,
+        alloc: Global,
+        runs: &[KeptRun<R, E>],
+    ) -> Result<KeptRuns<R, E>, Memory>
+        ensures { IfOk result (λ kept. kept ≡ with_runs self.now runs.now) }
+    {
+        let mut table = share_table(alloc, &self.table)?;
+        add_runs(&mut table, runs)?;
+        Ok(KeptRuns { table })
+    }
+}
+
+fn share_table<R: Reader, E: Engine>(
+    alloc: Global,
+    old: &Table<KeptRun<R, E>>,
+) -> Result<Table<KeptRun<R, E>>, Memory>
+    ensures { IfOk result (λ table. table ≡ old.now) }
+{
+    let mut table = Table::new(alloc);
+    for place in 0..old.len() {
+        share_entry(&mut table, old, place)?;
+    }
+    Ok(table)
+}
+
+fn share_entry<R: Reader, E: Engine>(
+    table: &mut Table<KeptRun<R, E>>,
+    old: &Table<KeptRun<R, E>>,
+    place: usize,
+) -> Result<(), Memory>
+    ensures { OnOk result ((entry : List ℕ × bodies.Run) → slice_get old.now place ≡ Some entry → table.new ≡ insert_entry bytes_eq table.old entry.0 entry.1) }
+{
+    match old.at(place) {
+        Some((path, kept)) => {
+            table.add(path.share()?, kept.share()?)?;
+            Ok(())
+        }
+        None => Ok(()),
+    }
+}
+
+fn add_runs<R: Reader, E: Engine>(
+    table: &mut Table<KeptRun<R, E>>,
+    runs: &[KeptRun<R, E>],
+) -> Result<(), Memory>
+    ensures { OnOk result (table.new ≡ with_runs table.old runs.now) }
+{
+    for kept in runs {
+        add_run(table, kept)?;
+    }
+    Ok(())
+}
+
+fn add_run<R: Reader, E: Engine>(
+    table: &mut Table<KeptRun<R, E>>,
+    kept: &KeptRun<R, E>,
+) -> Result<(), Memory>
+    ensures { OnOk result (table.new ≡ with_run_by table.old kept.now kept.now.end) }
+{
+    let run = kept.run();
+    match run.end() {
+        End::Done(_) => {
+            table.add(run.path().share()?, kept.share()?)?;
+            Ok(())
+        }
+        End::Fault(_) => Ok(()),
     }
 }

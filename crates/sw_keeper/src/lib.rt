@@ -1,11 +1,16 @@
 //! A folder and its compiles, with any engine and any host. Edits and requests to compile flow in, messages and CSS or a fault flow out.
 #![tactic(auto)]
 
+mod departure;
 mod evaluate;
 mod keeper;
+mod kept;
+mod laws;
+mod outside;
 mod reader;
-#[cfg(test)]
-mod tests;
+mod reading;
+mod results;
 
-pub use keeper::{Compiled, Keeper, Outcome};
+pub use keeper::Keeper;
+pub use laws::keeps_the_latest;
 pub use reader::Reader;

@@ -9,9 +9,9 @@ ghost use Rattle.sw_modules.specs.Names.{found, used_member, loaded_member, publ
 ghost use Rattle.sw_modules.specs.Outside.{plain};
 ghost use Rattle.sw_modules.specs.State.{path_in, uses_in, with_variable};
 
+use crate::Live;
 use crate::loads::{is_innermost, use_of};
 use crate::names::{is_private, variable_of};
-use crate::Live;
 use std::alloc::Global;
 use sw_text::{Memory, Name, Span};
 use sw_tree::Kind;

@@ -1,7 +1,9 @@
 // A table by names.
-ghost use Rattle.std.specs.Prelude.{◌≡◌, [], bytes_eq, IfOk, OnOk, OnErr};
-ghost use Rattle.std.specs.Map.{lookup, set_value};
-ghost use Rattle.std.specs.Option.{option_copied, is_some};
+ghost use Rattle.std.specs.Prelude.{◌≡◌, [], bytes_eq, length, slice_get, IfOk, OnOk, OnErr};
+ghost use Rattle.std.specs.List.{IsDistinct};
+ghost use Rattle.std.specs.Map.{lookup, set_value, keys_of};
+ghost use Rattle.std.specs.Option.{option_copied, option_map, is_some};
+ghost use Rattle.std.specs.Map.Iter.{deref_pair};
 ghost use Rattle.indexmap.specs.IndexMap.{insert_entry};
 
 use crate::Module;
@@ -47,6 +49,21 @@ impl<V> Table<V> {
         ensures { result ≡ is_some (lookup (bytes_eq name.now) self.now) }
     {
         self.entries.contains_key(name)
+    }
+
+    /// How many names it has.
+    pub fn len(&self) -> usize
+        ensures count { result ≡ length self.now }
+        ensures distinct { IsDistinct bytes_eq (keys_of self.now) }
+    {
+        self.entries.len()
+    }
+
+    /// The entry at a place.
+    pub fn at(&self, place: usize) -> Option<(&Name, &V)>
+        ensures { option_map deref_pair result ≡ slice_get self.now place }
+    {
+        self.entries.get_index(place)
     }
 }
 

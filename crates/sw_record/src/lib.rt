@@ -2,9 +2,11 @@
 #![tactic(auto)]
 
 mod again;
+mod laws;
 mod reply;
 mod run;
 
 pub use again::{Replayed, replay};
+pub use laws::ran_is_one;
 pub use reply::{Cause, Outcome, Reply};
 pub use run::Run;

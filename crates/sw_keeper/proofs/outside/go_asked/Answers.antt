@@ -1,13 +1,12 @@
+use Rattle.sw_keeper.specs.Steps.{setting_of}
 use Rattle.sw_keeper.proofs.Parts.{went_on, led_keeps}
-use Rattle.sw_keeper.proofs.Turns.{runs_end}
-use Rattle.sw_keeper.proofs.Loads.{did_opened}
 use Rattle.sw_keeper.proofs.More.{on_err, ran_none}
-use Rattle.sw_keeper.proofs.evaluate.go_asked.Goals as goal
+use Rattle.sw_keeper.proofs.outside.go_asked.Goals as goal
 
 pub returns-clause-went : goal.returns-clause-went
 returns-clause-went g c =
     let went = c.in_ok-turn.ensures.went in
-    went_on _ (λ w. record { live = w.live.now; hosts = g.H.Hosts.state w.hosts.now }) (record { functions = record { answer = g.H.Hosts.answer; after = g.H.Hosts.after }; read = g.R.Reader.reads; body = g.E.Engine.body }) (λ w op a t h. h.0)
+    went_on _ (λ w. record { live = w.live.now; hosts = g.H.Hosts.state w.hosts.now }) (setting_of g.H.Hosts.answer g.H.Hosts.after g.R.Reader.reads g.E.Engine.body) (λ w op a t h. h.0)
     (g.E.Engine.progress c.args.body.now) (g.E.Engine.progress c.go.new.running) c.args.asked.now c.go.new.world went.0 went.1
     g.met.E.Engine.ends_in_time c.in_ok-turn.ensures.is_body c.in_ok-turn.ensures.stopped.1 went.2
 

@@ -1,0 +1,146 @@
+-- Kept runs by the paths of their modules.
+use Rattle.std.proofs.Common.{◌≡◌, ◌≢◌, ℕ, suc, ◌+◌, ◌<◌, ◌&&◌, Bool, true, false, cond, List, [], ◌∷◌, ◌++◌, length, take, drop, bytes_eq, Option, Some, None, unwrap_or, get_or, arith, refl, sym, ◌∙◌, ap, subst, drop-cons, slice_get}
+use Rattle.std.specs.Cmp.{IsEquivalence}
+use Rattle.std.specs.List.{IsDistinct}
+use Rattle.std.specs.Map.{lookup, keys_of}
+use Rattle.std.proofs.lemmas.List.{take-append-drop, take_more}
+use Rattle.std.proofs.lemmas.Option.{get_or_from_slice_get, slice_get_within, slice_get-get_or}
+use Rattle.std.proofs.lemmas.Slice.Eq.{bytes_eq-Decides}
+use Rattle.indexmap.specs.IndexMap.{insert_entry}
+use Rattle.indexmap.proofs.MapLemmas.{absent_before, absent_from_lookup, insert_entry-absent}
+use Rattle.sw_world.specs.declared.end.End.{End}
+use Rattle.sw_world.specs.declared.end.End.TheVariants.{Done, Fault}
+use Rattle.sw_world.specs.Body.{Run}
+use Rattle.sw_record.specs.Ran.{Table, kept_at}
+use Rattle.sw_keeper.specs.Keeping.{Tables, EachAtItsPath, table_of, with_run_by, with_runs, kept_after}
+use Rattle.sw_keeper.specs.Latest.{is_done, latest, KeepsTheLatest}
+
+-- what is at a name after a value was given to one
+pub lookup-insert_entry : {X : Type 0} (q k : List ℕ) (v : X) (es : List (List ℕ × X)) → lookup (bytes_eq q) (insert_entry bytes_eq es k v) ≡ cond (bytes_eq q k) (Some v) (lookup (bytes_eq q) es)
+lookup-insert_entry q k v [] = refl
+lookup-insert_entry {X} q k v (e ∷ es) = by (bytes_eq k e.0) refl (lookup-insert_entry q k v es)
+  where
+    both : (c : Bool) → cond c (Some v) (lookup (bytes_eq q) es) ≡ cond c (Some v) (cond c (Some e.1) (lookup (bytes_eq q) es))
+    both true = refl
+    both false = refl
+
+    by : (b : Bool) → bytes_eq k e.0 ≡ b → lookup (bytes_eq q) (insert_entry bytes_eq es k v) ≡ cond (bytes_eq q k) (Some v) (lookup (bytes_eq q) es)
+        → lookup (bytes_eq q) (cond b ((e.0, v) ∷ es) (e ∷ insert_entry bytes_eq es k v)) ≡ cond (bytes_eq q k) (Some v) (cond (bytes_eq q e.0) (Some e.1) (lookup (bytes_eq q) es))
+    by true t ih =
+        let same : k ≡ e.0 = (bytes_eq-Decides k e.0).0 t in
+        subst (λ (x : List ℕ). cond (bytes_eq q e.0) (Some v) (lookup (bytes_eq q) es) ≡ cond (bytes_eq q x) (Some v) (cond (bytes_eq q e.0) (Some e.1) (lookup (bytes_eq q) es))) (sym same) (both (bytes_eq q e.0))
+    by false f ih = ap (λ (o : Option X). cond (bytes_eq q e.0) (Some e.1) o) ih ∙ swap (bytes_eq q e.0) (bytes_eq q k) refl refl
+      where
+        swap : (c d : Bool) → bytes_eq q e.0 ≡ c → bytes_eq q k ≡ d → cond c (Some e.1) (cond d (Some v) (lookup (bytes_eq q) es)) ≡ cond d (Some v) (cond c (Some e.1) (lookup (bytes_eq q) es))
+        swap true true x y =
+            let same : k ≡ e.0 = sym ((bytes_eq-Decides q k).0 y) ∙ (bytes_eq-Decides q e.0).0 x in
+            let is : bytes_eq k e.0 ≡ true = (bytes_eq-Decides k e.0).1 same in
+            cc
+        swap true false x y = refl
+        swap false true x y = refl
+        swap false false x y = refl
+
+-- each run stays at its path
+each_with : (table : Table) (run : Run) (end : End) → EachAtItsPath table → (path : List ℕ) (r : Run) → kept_at (with_run_by table run end) path ≡ Some r → r.path ≡ path
+each_with table run (Fault fault) each path r here = each path r here
+each_with table run (Done finish) each path r here = by (bytes_eq path run.path) refl (sym (lookup-insert_entry path run.path run table) ∙ here)
+  where
+    by : (b : Bool) → bytes_eq path run.path ≡ b → cond b (Some run) (lookup (bytes_eq path) table) ≡ Some r → r.path ≡ path
+    by true t h = let one : run ≡ r = cc in ap (λ (x : Run). x.path) (sym one) ∙ sym ((bytes_eq-Decides path run.path).0 t)
+    by false f h = each path r h
+
+pub each_runs : (table : Table) (runs : List Run) → EachAtItsPath table → EachAtItsPath (with_runs table runs)
+each_runs table [] each = each
+each_runs table (run ∷ runs) each = each_runs (with_run_by table run run.end) runs (each_with table run run.end each)
+
+pub each_now : (old mid now : Table) (runs : List Run) → EachAtItsPath old → mid ≡ old → now ≡ with_runs mid runs → EachAtItsPath now
+each_now old mid now runs each same is =
+    let there : EachAtItsPath (with_runs mid runs) = each_runs mid runs (subst EachAtItsPath (sym same) each) in
+    subst EachAtItsPath (sym is) there
+
+pub each_none : EachAtItsPath []
+each_none path run here = cc
+
+-- names are equal where they are the same
+same_test : (x y u v : List ℕ) → (x ≡ y → u ≡ v) → (u ≡ v → x ≡ y) → bytes_eq x y ≡ bytes_eq u v
+same_test x y u v to from = by (bytes_eq x y) (bytes_eq u v) refl refl
+  where
+    by : (a b : Bool) → bytes_eq x y ≡ a → bytes_eq u v ≡ b → a ≡ b
+    by true true s t = refl
+    by false false s t = refl
+    by true false s t = let is : bytes_eq u v ≡ true = (bytes_eq-Decides u v).1 (to ((bytes_eq-Decides x y).0 s)) in cc
+    by false true s t = let is : bytes_eq x y ≡ true = (bytes_eq-Decides x y).1 (from ((bytes_eq-Decides u v).0 t)) in cc
+
+names_compare : IsEquivalence bytes_eq
+names_compare = record {
+  refl = λ x. (bytes_eq-Decides x x).1 refl;
+  symm = λ x y. same_test x y y x sym sym;
+  congr = λ x y z t. let same : x ≡ y = (bytes_eq-Decides x y).0 t in same_test x z y z (λ e. sym same ∙ e) (λ e. same ∙ e);
+}
+
+-- the first entries of a table, and the next one
+pub next_entry : {X : Type 0} (es : List (List ℕ × X)) (at : ℕ) (e : List ℕ × X) → IsDistinct bytes_eq (keys_of es) → slice_get es at ≡ Some e → insert_entry bytes_eq (take at es) e.0 e.1 ≡ take (at + 1) es
+next_entry {X} es at e distinct here =
+    let inside : at < length es = slice_get_within es at e here in
+    let cons : drop at es ≡ e ∷ drop (suc at) es = drop-cons es at e inside ∙ ap (λ x. x ∷ drop (suc at) es) (get_or_from_slice_get es at e e here) in
+    let split : es ≡ take at es ++ e ∷ drop (suc at) es = sym (take-append-drop at es) ∙ ap (λ l. take at es ++ l) cons in
+    let apart : IsDistinct bytes_eq (keys_of (take at es ++ e ∷ drop (suc at) es)) = subst (λ (l : List (List ℕ × X)). IsDistinct bytes_eq (keys_of l)) split distinct in
+    let none : lookup (bytes_eq e.0) (take at es) ≡ None = absent_before names_compare (take at es) (drop (suc at) es) e apart in
+    insert_entry-absent bytes_eq e.0 e.1 (take at es) (absent_from_lookup (bytes_eq e.0) (take at es) none)
+    ∙ sym (take_more es at e inside ∙ ap (λ x. take at es ++ x ∷ []) (get_or_from_slice_get es at e e here))
+
+pub next_shared : {X : Type 0} (es t u : List (List ℕ × X)) (at : ℕ) → at < length es → IsDistinct bytes_eq (keys_of es) → t ≡ take at es
+    → ((e : List ℕ × X) → slice_get es at ≡ Some e → u ≡ insert_entry bytes_eq t e.0 e.1) → u ≡ take (at + 1) es
+next_shared [] t u at inside distinct is adds = absurd (none at inside)
+  where
+    none : (n : ℕ) → n < 0 → ⊥
+    none n lt = omega (arith, lt)
+next_shared {X} (x ∷ xs) t u at inside distinct is adds =
+    let e : List ℕ × X = get_or (x ∷ xs) at x in
+    let here : slice_get (x ∷ xs) at ≡ Some e = slice_get-get_or (x ∷ xs) at x inside in
+    adds e here ∙ ap (λ l. insert_entry bytes_eq l e.0 e.1) is ∙ next_entry (x ∷ xs) at e distinct here
+
+-- a lookup after runs ended
+one_latest : (table : Table) (run : Run) (end : End) (path : List ℕ) → kept_at (with_run_by table run end) path ≡ cond (is_done end && bytes_eq path run.path) (Some run) (kept_at table path)
+one_latest table run (Done finish) path = lookup-insert_entry path run.path run table
+one_latest table run (Fault fault) path = refl
+
+runs_latest : (table : Table) (runs : List Run) (path : List ℕ) → kept_at (with_runs table runs) path ≡ latest runs path (kept_at table path)
+runs_latest table [] path = refl
+runs_latest table (run ∷ runs) path =
+    runs_latest (with_run_by table run run.end) runs path ∙ ap (latest runs path) (one_latest table run run.end path)
+
+unwrap_same : (b : Bool) (table : Table) (rest : Option Table) → b ≡ true → unwrap_or (cond b (Some table) rest) [] ≡ table
+unwrap_same true table rest t = refl
+unwrap_same false table rest t = cc
+
+unwrap_other : (b : Bool) (table : Table) (rest : Option Table) → b ≡ false → unwrap_or (cond b (Some table) rest) [] ≡ unwrap_or rest []
+unwrap_other false table rest f = refl
+unwrap_other true table rest f = cc
+
+other_name : (x y : List ℕ) → x ≢ y → bytes_eq x y ≡ false
+other_name x y ne = by (bytes_eq x y) refl
+  where
+    by : (b : Bool) → bytes_eq x y ≡ b → b ≡ false
+    by false f = refl
+    by true t = absurd (ne ((bytes_eq-Decides x y).0 t))
+
+pub keeps_the_latest : KeepsTheLatest
+keeps_the_latest tables entry [] path = (refl, λ other ne. refl)
+keeps_the_latest tables entry (run ∷ runs) path =
+    let table : Table = with_runs (table_of tables entry) (run ∷ runs) in
+    let here : table_of (insert_entry bytes_eq tables entry table) entry ≡ table =
+    ap (λ (o : Option Table). unwrap_or o []) (lookup-insert_entry entry entry table tables)
+    ∙ unwrap_same (bytes_eq entry entry) table (lookup (bytes_eq entry) tables) ((bytes_eq-Decides entry entry).1 refl) in (
+      ap (λ (t : Table). kept_at t path) here ∙ runs_latest (table_of tables entry) (run ∷ runs) path,
+      λ other ne. ap (λ (o : Option Table). unwrap_or o []) (lookup-insert_entry other entry table tables) ∙ unwrap_other (bytes_eq other entry) table (lookup (bytes_eq other) tables) (other_name other entry ne),
+    )
+
+-- the tables after a compile
+pub kept_some : (tables now : Tables) (entry : List ℕ) (runs : List Run) (after : Table) → (runs ≡ [] → ⊥) → after ≡ with_runs (table_of tables entry) runs → now ≡ insert_entry bytes_eq tables entry after
+    → now ≡ kept_after tables entry runs
+kept_some tables now entry [] after some is put = absurd (some refl)
+kept_some tables now entry (run ∷ runs) after some is put = put ∙ ap (λ (t : Table). insert_entry bytes_eq tables entry t) is
+
+pub kept_none : (tables : Tables) (entry : List ℕ) (runs : List Run) → runs ≡ [] → tables ≡ kept_after tables entry runs
+kept_none tables entry runs none = subst (λ (l : List Run). tables ≡ kept_after tables entry l) (sym none) refl

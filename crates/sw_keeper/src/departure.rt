@@ -1,0 +1,60 @@
+// Where a replay departs from the kept run.
+ghost use Rattle.std.specs.Prelude.{◌≡◌, ◌++◌, ◌∷◌, ◌≤◌, [], length, take, slice_get, Some, IfOk};
+ghost use Rattle.sw_record.specs.Ran.{IsCauseBy};
+ghost use Rattle.sw_world.specs.Body.{Pair};
+ghost use Rattle.sw_keeper.specs.Departures.{HasTwoAnswers};
+
+use std::alloc::Global;
+use sw_record::Cause;
+use sw_text::{List, Memory};
+use sw_world::{Answer, Op};
+
+/// The kept pairs up to the first question that is answered otherwise, that question with its new answer, and the cause that it is.
+#[derive(Drop)]
+pub struct Departure {
+    pub known: List<(Op, Answer)>,
+    pub cause: Cause,
+}
+
+/// The departure at a place of a kept run.
+pub(crate) fn departure_of(
+    alloc: Global,
+    seen: &[(Op, Answer)],
+    place: usize,
+    answer: Answer,
+) -> Result<Departure, Memory>
+    requires { (pair : Pair) × (slice_get seen.now place ≡ Some pair) × HasTwoAnswers pair.0 }
+    ensures known { IfOk result (λ departure. (pair : Pair) → slice_get seen.now place ≡ Some pair → departure.known ≡ take place seen.now ++ (pair.0, answer) ∷ []) }
+    ensures cause { IfOk result (λ departure. (pair : Pair) → slice_get seen.now place ≡ Some pair → IsCauseBy pair.0 departure.cause) }
+{
+    let mut known = share_pairs(alloc, &seen[..place])?;
+    let op = &seen[place].0;
+    let cause = cause_of(op);
+    known.push((op.share()?, answer))?;
+    Ok(Departure { known, cause })
+}
+
+fn share_pairs(alloc: Global, pairs: &[(Op, Answer)]) -> Result<List<(Op, Answer)>, Memory>
+    ensures { IfOk result (λ all. all ≡ pairs.now) }
+{
+    let mut all = List::new(alloc);
+    for pair in pairs {
+        all.push((pair.0.share()?, pair.1.share()?))?;
+    }
+    Ok(all)
+}
+
+/// The cause that another answer to the question is.
+fn cause_of(op: &Op) -> Cause
+    requires { HasTwoAnswers op.now }
+    ensures { IsCauseBy op.now result }
+{
+    match op {
+        Op::Load { .. } => Cause::Load,
+        Op::Find { .. } => Cause::Member,
+        Op::Get { .. } => Cause::Variable,
+        Op::Call { .. } => Cause::Call,
+        Op::Put { .. } => unreachable!(),
+        Op::Say { .. } => unreachable!(),
+    }
+}

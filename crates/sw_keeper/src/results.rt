@@ -1,0 +1,93 @@
+// What a compile has come to so far.
+ghost use Rattle.std.specs.Prelude.{◌≡◌, ◌++◌, ◌∷◌, [], Ok, IfOk, OnOk};
+ghost use Rattle.sw_world.specs.Body.{Goes, Ends, answers};
+
+use crate::Reader;
+use crate::kept::KeptRun;
+use std::alloc::Global;
+use std::marker::Model;
+use sw_record::{Cause, Run};
+use sw_text::{List, Memory, Name, Shared};
+use sw_tree::Sheet;
+use sw_world::{Answer, Config, End, Engine, Op};
+
+/// The run of a body that ended.
+pub(crate) fn run_ended<E: Engine>(
+    alloc: Global,
+    path: &Name,
+    text: &Name,
+    sheet: &Shared<Sheet>,
+    config: &Config,
+    seen: List<(Op, Answer)>,
+    end: End,
+) -> Result<Run<E>, Memory>
+    requires goes { Goes (E.body (record { sheet = sheet.now; config = config.now; path = path.now })) [] seen }
+    requires ends { E.body (record { sheet = sheet.now; config = config.now; path = path.now }) (answers seen) ≡ Ends end }
+    ensures { IfOk result (λ run. run ≡ record { sheet = sheet.now; run = record { path = path.now; text = text.now; config = config.now; seen = seen; end = end } }) }
+{
+    let path = path.share()?;
+    let text = text.share()?;
+    let sheet = sheet.share()?;
+    let config = config.share()?;
+    let seen = Shared::new(alloc, seen)?;
+    Ok(Run::new(path, text, sheet, config, seen, end))
+}
+
+/// The runs that ended in a compile, kept ones and new ones, and the modules whose bodies ran, each with its cause; both in the order in which the bodies ended.
+#[derive(Drop)]
+pub(crate) struct Results<R: Reader, E: Engine> {
+    runs: List<KeptRun<R, E>>,
+    ran: List<(Name, Cause)>,
+}
+
+impl<R: Reader, E: Engine> Model for Results<R, E> {
+    ghost use Rattle.std.specs.Coded.{codes};
+    ghost use Rattle.sw_tree.specs.contracts.statement.Statement as statement;
+    ghost use Rattle.sw_keeper.specs.Results as specs;
+
+    ghost Value = { specs.Results };
+
+    ghost coded = { Prim.hlevel (codes, statement.the_row.coded) };
+
+    ghost view = { λ results. record { runs = results.runs; ran = results.ran } };
+}
+
+impl<R: Reader, E: Engine> Results<R, E> {
+    /// None ended yet. Takes no memory.
+    pub(crate) fn new(alloc: Global) -> Results<R, E>
+        ensures { result ≡ record { runs = []; ran = [] } }
+    {
+        Results {
+            runs: List::new(alloc),
+            ran: List::new(alloc),
+        }
+    }
+
+    /// The runs, and the modules whose bodies ran.
+    pub(crate) fn into_parts(self) -> (List<KeptRun<R, E>>, List<(Name, Cause)>)
+        ensures { result ≡ (self.runs, self.ran) }
+    {
+        let Results { runs, ran } = self;
+        (runs, ran)
+    }
+
+    /// Adds the run of the body of the module at this path, which ran for this cause.
+    pub(crate) fn add(&mut self, path: Name, run: Run<E>, cause: Cause) -> Result<(), Memory>
+        requires { R.reads run.run.path run.run.text ≡ Ok run.sheet }
+        ensures runs { OnOk result (self.new.runs ≡ self.old.runs ++ run.run ∷ []) }
+        ensures ran { OnOk result (self.new.ran ≡ self.old.ran ++ (path, cause) ∷ []) }
+    {
+        self.runs.push(KeptRun::new(run))?;
+        self.ran.push((path, cause))?;
+        Ok(())
+    }
+
+    /// Takes a kept run over, in constant time, and gives its end.
+    pub(crate) fn take_over(&mut self, kept: &KeptRun<R, E>) -> Result<End, Memory>
+        ensures end { IfOk result (λ end. end ≡ kept.now.end) }
+        ensures runs { OnOk result (self.new ≡ record self.old { runs = self.old.runs ++ kept.now ∷ [] }) }
+    {
+        self.runs.push(kept.share()?)?;
+        kept.run().end().share()
+    }
+}
