@@ -1,6 +1,6 @@
 #!/bin/sh
-# How long a compile takes in a session that has compiled the same folder before: one entry loads N modules, each with a variable that it
-# reads. The second compile finds all as it was, the third one module edited. The fastest of five sessions counts.
+# How long a compile takes in a session that has compiled the same folder before: one entry loads N modules, each with 1 or 20 variables,
+# and reads one of each. The second compile finds all as it was, the third one module edited. The fastest of five sessions counts.
 # Usage: again.sh PROGRAM
 set -eu
 exec python3 - "$1" <<'END'
@@ -44,10 +44,11 @@ class Session:
         assert self.process.wait() == 0
 
 
-def measured(program, modules):
+def measured(program, modules, variables):
     session = Session(program)
     for number in range(modules):
-        session.edit(f"m{number}.scss", f"$v: w{number};")
+        others = "".join(f"$v{other}: w{other};\n" for other in range(1, variables))
+        session.edit(f"m{number}.scss", f"{others}$v: w{number};")
     loads = "".join(f'@use "m{number}";\n' for number in range(modules))
     lines = "".join(f"p{number}: m{number}.$v;\n" for number in range(modules))
     session.edit("main.scss", loads + "a {\n" + lines + "}")
@@ -60,11 +61,12 @@ def measured(program, modules):
     return first, second, edited
 
 
-for modules in (100, 200, 400):
-    times = [measured(sys.argv[1], modules) for _ in range(5)]
-    first, second, edited = (min(column) * 1000 for column in zip(*times))
-    print(
-        f"{modules} modules: first {first:.2f} ms, second {second:.2f} ms, ratio {second / first:.2f};"
-        f" after one edit {edited:.2f} ms, ratio {edited / first:.2f}"
-    )
+for variables in (1, 20):
+    for modules in (100, 200, 400):
+        times = [measured(sys.argv[1], modules, variables) for _ in range(5)]
+        first, second, edited = (min(column) * 1000 for column in zip(*times))
+        print(
+            f"{modules} modules of {variables}: first {first:.2f} ms, second {second:.2f} ms, ratio {second / first:.3f};"
+            f" after one edit {edited:.2f} ms, ratio {edited / first:.3f}"
+        )
 END
