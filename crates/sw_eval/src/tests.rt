@@ -1,8 +1,6 @@
-// Bodies over a world that finds no memory at one question, and a second engine beside the evaluator.
-ghost use Rattle.std.specs.Prelude.{IfOk};
+// Bodies over a world that finds no memory at one question.
 
 use crate::Evaluator;
-use crate::announcer::Announcer;
 use crate::told::Told;
 use std::alloc::Global;
 use std::process::Abort;
@@ -121,36 +119,5 @@ fn starved_at_each_question(rt: HostRuntime) -> Result<(), Fail> {
     for at in 0..5 {
         starved_at(&rt, rt.alloc(), at)?;
     }
-    Ok(())
-}
-
-// A body of any engine that is done in one turn.
-fn run_once<E: Engine>(
-    alloc: Global,
-    engine: &mut E,
-    sheet: &Shared<Sheet>,
-    world: &mut Told,
-) -> Result<(Turn, usize), Memory> {
-    let path = Name::new(alloc, "a.scss")?;
-    let mut body = engine.start(alloc, sheet, &no_config(alloc)?, &path, &[])?;
-    let turn = engine.go(alloc, &mut body, world)?;
-    let seen = engine.close(body);
-    Ok((turn, seen.len()))
-}
-
-#[test]
-fn two_engines(rt: HostRuntime) -> Result<(), Fail> {
-    let alloc = rt.alloc();
-    let sheet = sheet(alloc)?;
-    let mut world = Told::starving_at(100);
-    let mut evaluator = Evaluator::new(alloc);
-    let (turn, seen) = run_once(alloc, &mut evaluator, &sheet, &mut world)?;
-    assert_eq!(rt; fault_column(&turn), Some(3));
-    assert_eq!(rt; seen, 5);
-    let mut announcer = Announcer::new(alloc);
-    let (turn, seen) = run_once(alloc, &mut announcer, &sheet, &mut world)?;
-    assert_eq!(rt; fault_column(&turn), Some(1));
-    assert_eq!(rt; seen, 1);
-    assert_eq!(rt; world.asked, 6);
     Ok(())
 }
