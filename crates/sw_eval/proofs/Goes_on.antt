@@ -21,7 +21,7 @@ unfolding bind
 stops Memory l f s u is = tt
 stops (Fault code) l f s u is = ap (λ (t : Talk _). bind t f) is
 
--- what `?` returns
+-- what a failed call returns
 pub err_of : {A : Type 0} (r : Result A Stop) (e : Stop) → IsErr r × IsErrAnd r (λ x. x ≡ e) → r ≡ Err e
 err_of (Ok v) e p = absurd p.1
 err_of (Err x) e p = ap Err p.1
@@ -82,7 +82,7 @@ module _ {W : Type 0} {gives : W → Op → Answer → W → Type 0} where
   did_stop {t = t} f {a = a} {b = b} {w = w} {x = x} {e = e} {s = s} {u = u} d =
       record { last = bind d.last f; ran = within t d.last f a b w x d.ran; is_return = stops e d.last f s u d.is_return }
 
-  -- the same, as `?` returns it
+  -- the same, as a failed call returns it
   pub did_err : {A B : Type 0} {t : Talk (A × State)} (f : A × State → Talk (B × State)) {a b : Stand} {w x : W} {e : Stop} {r : Result B Stop} {s u : State}
       → Did gives t a w (Err e) s b x → IsErr r × IsErrAnd r (λ y. y ≡ e) → Did gives (bind t f) a w r u b x
   did_err f {e = e} {r = r} d p = rw (err_of r e p) (did_stop f d)

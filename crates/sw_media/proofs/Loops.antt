@@ -25,7 +25,7 @@ fails_by MediaJoin said other h f = h
 fails_by TooLarge said other h f = h
 fails_by Memory said other h f = tt
 
--- what a `?` hands on
+-- what a failed call hands on
 pub handed_on : {T U : Type 0} (e : MediaFault) (r : Result U MediaFault) (said : Option T) (other : Option U)
     → IsErrAnd r (λ d. d ≡ e) → IsRead {T = T} (Err e) said → (said ≡ None → other ≡ None) → IsRead r other
 handed_on {T} {U} e r said other a h f =

@@ -27,7 +27,7 @@ fails_by NoParent said other h f = h
 fails_by TooLarge said other h f = h
 fails_by Memory said other h f = tt
 
--- what a `?` hands on
+-- what a failed call hands on
 pub handed_on : {T U : Type 0} (e : SelectorFault) (r : Result U SelectorFault) (said : Option T) (other : Option U)
     → IsErrAnd r (λ d. d ≡ e) → IsRead {T = T} (Err e) said → (said ≡ None → other ≡ None) → IsRead r other
 handed_on {T} {U} e r said other a h f =
