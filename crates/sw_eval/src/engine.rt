@@ -15,7 +15,7 @@ use std::marker::Model;
 use std::mem;
 use sw_text::{List, Memory, Name, Shared};
 use sw_tree::Sheet;
-use sw_world::{Answer, Config, Engine, Op, Turn, World};
+use sw_world::{Answer, Config, Engine, Op, Turn, World, share_pairs};
 
 /// A body that the evaluator runs: its sheet, its pairs, and where its evaluation stands.
 #[derive(Drop)]
@@ -43,20 +43,6 @@ impl Model for Evaluation {
     ghost view = { λ b. record { job = record { sheet = b.sheet; config = b.config; path = b.path }; pairs = b.asked.pairs.items; started = b.started; place = b.place } };
 
     ghost invariant = { λ b. Keeps (record { sheet = b.sheet; config = b.config; path = b.path }) b.asked.pairs.items b.asked.at b.next b.state b.place (vec_len b.asked.pairs) (vec_capacity b.asked.pairs) };
-}
-
-// The pairs, each part with one more owner.
-fn share_pairs(alloc: Global, known: &[(Op, Answer)]) -> Result<Vec<(Op, Answer)>, Memory>
-    ensures { IfOk result (λ v. v.items ≡ known.now) }
-{
-    let mut pairs = Vec::new(alloc);
-    for i in 0..known.len() {
-        let pair = &known[i];
-        let op = pair.0.share()?;
-        let answer = pair.1.share()?;
-        pairs.push((op, answer))?;
-    }
-    Ok(pairs)
 }
 
 // A turn, with what it adds to what ran. Room for the path is taken first.
@@ -160,7 +146,7 @@ impl Engine for Evaluator {
         path: &Name,
         known: &[(Op, Answer)],
     ) -> Result<Evaluation, Memory> {
-        let pairs = share_pairs(alloc, known)?;
+        let pairs = share_pairs(alloc, known)?.into_vec();
         let sheet = sheet.share()?;
         let config = config.share()?;
         let path = path.share()?;

@@ -9,7 +9,6 @@ mod output;
 mod place;
 mod state;
 mod stop;
-mod table;
 #[cfg(test)]
 mod tests;
 #[cfg(test)]

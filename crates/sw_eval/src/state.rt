@@ -1,5 +1,6 @@
 // What an evaluation has made so far.
 ghost use Rattle.std.specs.Prelude.{◌≡◌, ◌<◌, length, option_copied, OnOk, IfErr, IfSome};
+ghost use Rattle.sw_eval.specs.Table.{look_top, assign_top};
 ghost use Rattle.sw_eval.specs.Scope.{place, look_local, assign_local, own, set_by};
 ghost use Rattle.sw_eval.specs.Did.{IsReturn};
 ghost use Rattle.sw_eval.specs.Means.{begin};
@@ -7,11 +8,11 @@ ghost use Rattle.sw_eval.specs.Talk.{Gives};
 ghost use Rattle.sw_eval.specs.declared.stop.Stop.TheVariants as S;
 
 use crate::stop::Stop;
-use crate::table::Table;
 use std::alloc::Global;
 use sw_css_tree::CssTree;
 use sw_text::{List, Name};
 use sw_values::Value;
+use sw_world::Table;
 
 /// Where a statement stands: at the top level, or in a rule's block.
 #[derive(Clone, Copy)]
@@ -24,7 +25,7 @@ pub(crate) enum Level {
 #[derive(Drop)]
 pub(crate) struct State {
     /// The module's own variables.
-    pub top: Table,
+    pub top: Table<Value>,
     /// The variables of the open blocks, from the outermost on.
     pub locals: List<(Name, Value)>,
     pub css: CssTree,
@@ -74,6 +75,13 @@ fn look_local<'a>(vars: &'a [(Name, Value)], name: &Name) -> Option<&'a Value>
     }
 }
 
+#[tactic(auto, unfolding(crate::specs::Table::look_top))]
+fn look_top<'a>(top: &'a Table<Value>, name: &Name) -> Option<&'a Value>
+    ensures { option_copied result ≡ look_top top.now name.now }
+{
+    top.get(name)
+}
+
 // A variable of this module.
 #[tactic(auto, unfolding(crate::specs::Scope::own))]
 pub(crate) fn own<'a>(state: &'a State, name: &Name) -> Option<&'a Value>
@@ -81,7 +89,7 @@ pub(crate) fn own<'a>(state: &'a State, name: &Name) -> Option<&'a Value>
 {
     match look_local(state.locals.as_slice(), name) {
         Some(value) => Some(value),
-        None => state.top.look(name),
+        None => look_top(&state.top, name),
     }
 }
 
@@ -98,12 +106,22 @@ fn assign_local(locals: &mut List<(Name, Value)>, name: Name, value: Value) -> R
     Ok(())
 }
 
+// The name has the value, in its old place or behind the others.
+#[tactic(auto, unfolding(crate::specs::Table::assign_top))]
+fn assign_top(top: &mut Table<Value>, name: Name, value: Value) -> Result<(), Stop>
+    ensures ok { OnOk result (top.new ≡ assign_top top.old (name, value)) }
+    ensures err { IfErr result (λ stop. stop ≡ S.Memory) }
+{
+    top.add(name, value)?;
+    Ok(())
+}
+
 // Sets a variable, by where the statement stands.
 pub(crate) fn set_by(level: Level, state: &mut State, name: Name, value: Value) -> Result<(), Stop>
     ensures { IsReturn result state.new (Gives (tt, set_by level state.old (name, value))) }
 {
     match level {
-        Level::Top => state.top.assign(name, value)?,
+        Level::Top => assign_top(&mut state.top, name, value)?,
         Level::Block => assign_local(&mut state.locals, name, value)?,
     }
     Ok(())

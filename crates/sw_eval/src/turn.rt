@@ -7,7 +7,6 @@ ghost use Rattle.sw_eval.specs.Resume.{IsResume, TurnDid, IsStep, HasRoomAt};
 use crate::asked::Asked;
 use crate::state::State;
 use crate::stop::Stop;
-use crate::table::Table;
 use crate::top::walk_on;
 use std::alloc::Global;
 use std::mem;
@@ -15,7 +14,7 @@ use sw_css_tree::CssTree;
 use sw_text::{List, Memory, Name, Shared};
 use sw_tree::Sheet;
 use sw_values::Value;
-use sw_world::{Config, End, Finish, Turn, World};
+use sw_world::{Config, End, Finish, Table, Turn, World};
 
 // Lets the next turn begin from the start.
 fn reset(alloc: Global, next: &mut usize, state: &mut State, asked: &mut Asked)
@@ -30,10 +29,9 @@ fn reset(alloc: Global, next: &mut usize, state: &mut State, asked: &mut Asked)
 }
 
 // What a body leaves behind.
-fn finish(alloc: Global, top: Table, css: CssTree) -> Result<End, Memory>
-    ensures { IfOk result (λ end. end ≡ Done (record { variables = top; callables = []; css = css; taken = [] })) }
+fn finish(alloc: Global, variables: Table<Value>, css: CssTree) -> Result<End, Memory>
+    ensures { IfOk result (λ end. end ≡ Done (record { variables = variables; callables = []; css = css; taken = [] })) }
 {
-    let variables = top.list(alloc)?;
     let css = Shared::new(alloc, css)?;
     let finish = Finish {
         variables,

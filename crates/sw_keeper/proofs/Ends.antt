@@ -1,5 +1,5 @@
 -- Evaluations that begin with a kept run.
-use Rattle.std.proofs.Common.{◌≡◌, ◌≢◌, ℕ, suc, ◌<◌, List, [], ◌∷◌, ◌++◌, length, take, drop, Option, Some, None, Result, Ok, refl, sym, ◌∙◌, ap, subst, append_assoc, append-nil, slice_get, inl}
+use Rattle.std.proofs.Common.{◌≡◌, ℕ, suc, List, [], ◌∷◌, ◌++◌, length, take, drop, Option, Some, None, Ok, refl, sym, ◌∙◌, ap, subst, append_assoc, append-nil, inl}
 use Rattle.sw_text.specs.declared.place.Span.{Span}
 use Rattle.sw_tree.specs.declared.sheet.Sheet.{Sheet}
 use Rattle.sw_values.specs.declared.node.Node.{Node}
@@ -13,11 +13,11 @@ use Rattle.sw_world.specs.Body.{Pair, Job, Run, Goes}
 use Rattle.sw_world.specs.Questions.{Fits}
 use Rattle.sw_world.specs.Laws.{EndsInTime}
 use Rattle.sw_modules.specs.Outside.{Outside}
-use Rattle.sw_modules.specs.Fresh.{Setting, ended, rest_of}
+use Rattle.sw_modules.specs.Fresh.{Setting, ended}
 use Rattle.sw_record.specs.declared.reply.Cause.{Cause}
-use Rattle.sw_record.specs.declared.reply.Cause.TheVariants.{First, Text, Config, Load, Member, Variable, Call}
-use Rattle.sw_record.specs.Kept.{Kept, IsKept, job_of}
-use Rattle.sw_record.specs.Ran.{Table, Ran, IsCause, IsCauseBy, IsAnswered, FirstDiffer, Differs, kept_at}
+use Rattle.sw_record.specs.declared.reply.Cause.TheVariants.{First, Text, Config}
+use Rattle.sw_record.specs.Kept.{Kept, job_of}
+use Rattle.sw_record.specs.Ran.{Table, IsCause, IsCauseBy, IsAnswered, FirstDiffer, Differs, kept_at}
 use Rattle.sw_keeper.specs.declared.departure.Departure.{Departure}
 use Rattle.sw_keeper.specs.Results.{Results}
 use Rattle.sw_keeper.specs.Departures.{HasTwoAnswers}

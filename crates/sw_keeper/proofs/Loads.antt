@@ -1,5 +1,5 @@
 -- Answered loads, and texts that are evaluated.
-use Rattle.std.proofs.Common.{◌≡◌, ℕ, suc, ◌+◌, ◌<◌, List, [], ◌∷◌, ◌++◌, length, Result, Ok, Err, refl, sym, ◌∙◌, ap, subst, length-append, arith}
+use Rattle.std.proofs.Common.{◌≡◌, ℕ, suc, ◌+◌, ◌<◌, List, [], ◌∷◌, ◌++◌, length, Ok, Err, refl, sym, ◌∙◌, ap, subst, length-append, arith}
 use Rattle.sw_text.specs.declared.fault.Fault.{Fault}
 use Rattle.sw_tree.specs.declared.sheet.Sheet.{Sheet}
 use Rattle.sw_values.specs.declared.node.Node.{Node}
@@ -9,14 +9,13 @@ use Rattle.sw_world.specs.declared.answer.Answer.{Answer}
 use Rattle.sw_world.specs.declared.answer.Answer.TheVariants.{Loaded, Refused}
 use Rattle.sw_world.specs.declared.end.End.{End}
 use Rattle.sw_world.specs.declared.end.End.TheVariants.{Fault as Fault_end}
-use Rattle.sw_world.specs.Body.{Job, Run}
+use Rattle.sw_world.specs.Body.{Job}
 use Rattle.sw_world.specs.Questions.{IsLoad, Fits}
-use Rattle.sw_modules.specs.declared.live.Begin.{Begin}
 use Rattle.sw_modules.specs.declared.live.Begin.TheVariants.{Answered, Open}
 use Rattle.sw_modules.specs.State.{State, open_at, path_in}
 use Rattle.sw_modules.specs.Loads.{begun, ended_by, AnswersLoad}
 use Rattle.sw_modules.specs.Outside.{Functions, Outside}
-use Rattle.sw_modules.specs.Fresh.{Setting, Outcome, Evaluation, Response, responds, load_response, load_ended, at_once, fresh, room, from_open, evaluated_by, rest_of, ended}
+use Rattle.sw_modules.specs.Fresh.{Setting, Outcome, Evaluation, Response, responds, load_response, load_ended, at_once, fresh, room, evaluated_by, rest_of}
 use Rattle.sw_record.specs.Ran.{Table}
 use Rattle.sw_keeper.specs.Steps.{Moment, Grown, DidLoad, DidEnd, DidEvaluate, moment, run_of}
 use Rattle.sw_keeper.proofs.Rest.{fresh_opens}

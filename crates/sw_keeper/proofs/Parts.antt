@@ -1,12 +1,12 @@
 -- How the parts of a compile join.
-use Rattle.std.proofs.Common.{◌≡◌, ℕ, List, [], ◌∷◌, ◌++◌, length, refl, sym, ◌∙◌, ap, subst, append_assoc, append-nil, inl, inr}
+use Rattle.std.proofs.Common.{◌≡◌, ℕ, List, [], ◌∷◌, ◌++◌, refl, sym, ◌∙◌, ap, subst, append_assoc, append-nil, inl, inr}
 use Rattle.std.proofs.lemmas.List.{map-append}
 use Rattle.sw_world.specs.declared.op.Op.{Op}
 use Rattle.sw_world.specs.declared.answer.Answer.{Answer}
-use Rattle.sw_world.specs.Body.{Pair, Job, Run, Next, Goes, Leads}
+use Rattle.sw_world.specs.Body.{Pair, Job, Run, Goes, Leads}
 use Rattle.sw_world.specs.Laws.{EndsInTime}
 use Rattle.sw_world.specs.Progress.{Progress, IsBody, Went}
-use Rattle.sw_modules.specs.Outside.{Functions, Outside, plain}
+use Rattle.sw_modules.specs.Outside.{Outside, plain}
 use Rattle.sw_modules.specs.Fresh.{Setting, responds, fresh, room, rest_of}
 use Rattle.sw_record.specs.declared.reply.Cause.{Cause}
 use Rattle.sw_record.specs.Ran.{Table, Ran}

@@ -1,10 +1,9 @@
 -- The turns of a replay.
-use Rattle.std.proofs.Common.{◌≡◌, ℕ, ◌+◌, ◌<◌, ◌≤◌, List, [], ◌∷◌, ◌++◌, length, take, get_or, refl, sym, ◌∙◌, ap, subst, arith, Option, Some, None, slice_get}
+use Rattle.std.proofs.Common.{◌≡◌, ℕ, ◌+◌, ◌<◌, ◌≤◌, List, [], ◌∷◌, ◌++◌, length, take, get_or, refl, sym, ◌∙◌, ap, subst, arith, Some, None, slice_get}
 use Rattle.std.proofs.lemmas.List.{take_more}
 use Rattle.std.proofs.lemmas.Option.{get_or_from_slice_get, slice_get_within}
-use Rattle.sw_world.specs.declared.op.Op.{Op}
 use Rattle.sw_world.specs.declared.answer.Answer.{Answer}
-use Rattle.sw_world.specs.Body.{Pair, Job, Run, Goes}
+use Rattle.sw_world.specs.Body.{Pair, Goes}
 use Rattle.sw_world.specs.Questions.{IsLoad, Fits}
 use Rattle.sw_world.specs.Laws.{EndsInTime}
 use Rattle.sw_modules.specs.Fresh.{Setting, responds, fresh, room}
@@ -17,7 +16,7 @@ use Rattle.sw_keeper.specs.declared.evaluate.Came.{Came}
 use Rattle.sw_keeper.specs.declared.evaluate.Came.TheVariants.{Whole, Next, Upto}
 use Rattle.sw_keeper.specs.Departures.{HasTwoAnswers}
 use Rattle.sw_keeper.specs.Steps.{Moment, Grown, Advances, DidLoad}
-use Rattle.sw_keeper.specs.Replays.{AskedTo, DidTurn, DidReplay, ReplaysOn, IsDeparture, IsCame, reached, behind}
+use Rattle.sw_keeper.specs.Replays.{AskedTo, DidTurn, DidReplay, ReplaysOn, IsDeparture, IsCame, reached}
 use Rattle.sw_keeper.proofs.Pairs.{goes_departs, fits_at}
 use Rattle.sw_keeper.proofs.Parts.{advances_none, advances_join, advances_load, grown_none, grown_join}
 

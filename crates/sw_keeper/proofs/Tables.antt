@@ -1,13 +1,8 @@
 -- Kept runs by the paths of their modules.
-use Rattle.std.proofs.Common.{◌≡◌, ◌≢◌, ℕ, suc, ◌+◌, ◌<◌, ◌&&◌, Bool, true, false, cond, List, [], ◌∷◌, ◌++◌, length, take, drop, bytes_eq, Option, Some, None, unwrap_or, get_or, arith, refl, sym, ◌∙◌, ap, subst, drop-cons, slice_get}
-use Rattle.std.specs.Cmp.{IsEquivalence}
-use Rattle.std.specs.List.{IsDistinct}
-use Rattle.std.specs.Map.{lookup, keys_of}
-use Rattle.std.proofs.lemmas.List.{take-append-drop, take_more}
-use Rattle.std.proofs.lemmas.Option.{get_or_from_slice_get, slice_get_within, slice_get-get_or}
+use Rattle.std.proofs.Common.{◌≡◌, ◌≢◌, ℕ, ◌&&◌, Bool, true, false, cond, List, [], ◌∷◌, bytes_eq, Option, Some, unwrap_or, refl, sym, ◌∙◌, ap, subst}
+use Rattle.std.specs.Map.{lookup}
 use Rattle.std.proofs.lemmas.Slice.Eq.{bytes_eq-Decides}
 use Rattle.indexmap.specs.IndexMap.{insert_entry}
-use Rattle.indexmap.proofs.MapLemmas.{absent_before, absent_from_lookup, insert_entry-absent}
 use Rattle.sw_world.specs.declared.end.End.{End}
 use Rattle.sw_world.specs.declared.end.End.TheVariants.{Done, Fault}
 use Rattle.sw_world.specs.Body.{Run}
@@ -60,45 +55,6 @@ each_now old mid now runs each same is =
 
 pub each_none : EachAtItsPath []
 each_none path run here = cc
-
--- names are equal where they are the same
-same_test : (x y u v : List ℕ) → (x ≡ y → u ≡ v) → (u ≡ v → x ≡ y) → bytes_eq x y ≡ bytes_eq u v
-same_test x y u v to from = by (bytes_eq x y) (bytes_eq u v) refl refl
-  where
-    by : (a b : Bool) → bytes_eq x y ≡ a → bytes_eq u v ≡ b → a ≡ b
-    by true true s t = refl
-    by false false s t = refl
-    by true false s t = let is : bytes_eq u v ≡ true = (bytes_eq-Decides u v).1 (to ((bytes_eq-Decides x y).0 s)) in cc
-    by false true s t = let is : bytes_eq x y ≡ true = (bytes_eq-Decides x y).1 (from ((bytes_eq-Decides u v).0 t)) in cc
-
-names_compare : IsEquivalence bytes_eq
-names_compare = record {
-  refl = λ x. (bytes_eq-Decides x x).1 refl;
-  symm = λ x y. same_test x y y x sym sym;
-  congr = λ x y z t. let same : x ≡ y = (bytes_eq-Decides x y).0 t in same_test x z y z (λ e. sym same ∙ e) (λ e. same ∙ e);
-}
-
--- the first entries of a table, and the next one
-pub next_entry : {X : Type 0} (es : List (List ℕ × X)) (at : ℕ) (e : List ℕ × X) → IsDistinct bytes_eq (keys_of es) → slice_get es at ≡ Some e → insert_entry bytes_eq (take at es) e.0 e.1 ≡ take (at + 1) es
-next_entry {X} es at e distinct here =
-    let inside : at < length es = slice_get_within es at e here in
-    let cons : drop at es ≡ e ∷ drop (suc at) es = drop-cons es at e inside ∙ ap (λ x. x ∷ drop (suc at) es) (get_or_from_slice_get es at e e here) in
-    let split : es ≡ take at es ++ e ∷ drop (suc at) es = sym (take-append-drop at es) ∙ ap (λ l. take at es ++ l) cons in
-    let apart : IsDistinct bytes_eq (keys_of (take at es ++ e ∷ drop (suc at) es)) = subst (λ (l : List (List ℕ × X)). IsDistinct bytes_eq (keys_of l)) split distinct in
-    let none : lookup (bytes_eq e.0) (take at es) ≡ None = absent_before names_compare (take at es) (drop (suc at) es) e apart in
-    insert_entry-absent bytes_eq e.0 e.1 (take at es) (absent_from_lookup (bytes_eq e.0) (take at es) none)
-    ∙ sym (take_more es at e inside ∙ ap (λ x. take at es ++ x ∷ []) (get_or_from_slice_get es at e e here))
-
-pub next_shared : {X : Type 0} (es t u : List (List ℕ × X)) (at : ℕ) → at < length es → IsDistinct bytes_eq (keys_of es) → t ≡ take at es
-    → ((e : List ℕ × X) → slice_get es at ≡ Some e → u ≡ insert_entry bytes_eq t e.0 e.1) → u ≡ take (at + 1) es
-next_shared [] t u at inside distinct is adds = absurd (none at inside)
-  where
-    none : (n : ℕ) → n < 0 → ⊥
-    none n lt = omega (arith, lt)
-next_shared {X} (x ∷ xs) t u at inside distinct is adds =
-    let e : List ℕ × X = get_or (x ∷ xs) at x in
-    let here : slice_get (x ∷ xs) at ≡ Some e = slice_get-get_or (x ∷ xs) at x inside in
-    adds e here ∙ ap (λ l. insert_entry bytes_eq l e.0 e.1) is ∙ next_entry (x ∷ xs) at e distinct here
 
 -- a lookup after runs ended
 one_latest : (table : Table) (run : Run) (end : End) (path : List ℕ) → kept_at (with_run_by table run end) path ≡ cond (is_done end && bytes_eq path run.path) (Some run) (kept_at table path)

@@ -3,10 +3,10 @@ use Rattle.std.proofs.Common.{◌≡◌, ℕ, suc, ◌-◌, ◌<◌, ◌≤◌, 
 use Rattle.sw_world.specs.declared.op.Op.{Op}
 use Rattle.sw_world.specs.declared.answer.Answer.{Answer}
 use Rattle.sw_world.specs.declared.end.End.{End}
-use Rattle.sw_world.specs.Body.{Pair, Job, Run, Next, Ends, BodyOf, Goes, answers}
+use Rattle.sw_world.specs.Body.{Pair, Job, Run, Ends, BodyOf, Goes, answers}
 use Rattle.sw_world.specs.Questions.{Fits}
 use Rattle.sw_world.specs.Laws.{EndsInTime, most_asked}
-use Rattle.sw_world.specs.Progress.{Progress, Status, Running, Waiting, Ended, IsBody, IsAt, begun, given}
+use Rattle.sw_world.specs.Progress.{Progress, Status, Waiting, Ended, IsBody, IsAt, begun, given}
 use Rattle.sw_modules.specs.Outside.{Outside}
 use Rattle.sw_modules.specs.Fresh.{Setting, responds, fresh, room, ended, rest_of}
 use Rattle.sw_record.specs.declared.reply.Cause.{Cause}

@@ -7,7 +7,6 @@ use Rattle.sw_values.specs.declared.node.Node.{Node}
 use Rattle.sw_world.specs.Hosts.{HostState}
 use Rattle.sw_world.specs.declared.end.End.{End}
 use Rattle.sw_world.specs.declared.op.Saying.{Saying}
-use Rattle.sw_world.specs.Body.{Run}
 use Rattle.sw_modules.specs.declared.live.Enter.{Enter}
 use Rattle.sw_modules.specs.declared.live.Enter.TheVariants.{Refused, Open}
 use Rattle.sw_modules.specs.State.{State, nothing_loaded}

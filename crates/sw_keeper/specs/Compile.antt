@@ -1,6 +1,5 @@
 -- What a compile gives (this project's own rule): what the evaluation of the entry from nothing gives.
-use Rattle.std.specs.Prelude.{◌≡◌, ℕ, List, [], ◌++◌, map}
-use Rattle.sw_text.specs.declared.fault.Fault.{Fault}
+use Rattle.std.specs.Prelude.{ℕ, List, [], map}
 use Rattle.sw_css_tree.specs.Output.{Output}
 use Rattle.sw_css_print.specs.Page.{print}
 use Rattle.sw_folder.specs.Files.{Files}
@@ -12,7 +11,6 @@ use Rattle.sw_modules.specs.declared.live.Enter.{Enter}
 use Rattle.sw_modules.specs.declared.live.Enter.TheVariants.{Refused, Open}
 use Rattle.sw_modules.specs.State.{State, nothing_loaded}
 use Rattle.sw_modules.specs.Loads.{entered, entry_text, left_by}
-use Rattle.sw_modules.specs.Outside.{Outside}
 use Rattle.sw_world.specs.Body.{Run}
 use Rattle.sw_modules.specs.Fresh.{Setting, Outcome as Evaluated, from_open}
 use Rattle.sw_record.specs.declared.reply.Cause.{Cause}

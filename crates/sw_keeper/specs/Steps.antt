@@ -9,7 +9,7 @@ use Rattle.sw_world.specs.declared.end.End.{End}
 use Rattle.sw_world.specs.Body.{Pair, Job, Run, BodyOf}
 use Rattle.sw_world.specs.Progress.{Progress, Running, Ended, IsBody}
 use Rattle.sw_modules.specs.State.{State}
-use Rattle.sw_modules.specs.Outside.{Functions, Outside}
+use Rattle.sw_modules.specs.Outside.{Outside}
 use Rattle.sw_modules.specs.Fresh.{Setting, Response, rest_of, ended, from_open}
 use Rattle.sw_record.specs.declared.reply.Cause.{Cause}
 use Rattle.sw_record.specs.Ran.{Table, Ran, IsCause, kept_at}

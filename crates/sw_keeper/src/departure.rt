@@ -7,7 +7,7 @@ ghost use Rattle.sw_keeper.specs.Departures.{HasTwoAnswers};
 use std::alloc::Global;
 use sw_record::Cause;
 use sw_text::{List, Memory};
-use sw_world::{Answer, Op};
+use sw_world::{Answer, Op, share_pairs};
 
 /// The kept pairs up to the first question that is answered otherwise, that question with its new answer, and the cause that it is.
 #[derive(Drop)]
@@ -32,16 +32,6 @@ pub(crate) fn departure_of(
     let cause = cause_of(op);
     known.push((op.share()?, answer))?;
     Ok(Departure { known, cause })
-}
-
-fn share_pairs(alloc: Global, pairs: &[(Op, Answer)]) -> Result<List<(Op, Answer)>, Memory>
-    ensures { IfOk result (λ all. all ≡ pairs.now) }
-{
-    let mut all = List::new(alloc);
-    for pair in pairs {
-        all.push((pair.0.share()?, pair.1.share()?))?;
-    }
-    Ok(all)
 }
 
 /// The cause that another answer to the question is.

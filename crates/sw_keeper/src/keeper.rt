@@ -17,10 +17,10 @@ use std::marker::Model;
 use sw_css_print::print;
 use sw_css_tree::CssTree;
 use sw_folder::{EditFault, Folder};
-use sw_modules::{Enter, Finished, Live, Table};
+use sw_modules::{Enter, Finished, Live};
 use sw_record::{Outcome, Reply};
 use sw_text::{List, Memory, Name, Shared};
-use sw_world::{End, Engine, Hosts};
+use sw_world::{End, Engine, Hosts, Table};
 
 /// A folder that is compiled again and again, and the runs that are kept of its compiles. Contracts see both.
 #[derive(Drop)]

@@ -9,10 +9,9 @@ ghost use Rattle.sw_keeper.specs.Keeping.{with_run_by, with_runs};
 use crate::Reader;
 use std::alloc::Global;
 use std::marker::{Model, PhantomData};
-use sw_modules::Table;
 use sw_record::Run;
 use sw_text::{Memory, Name};
-use sw_world::{End, Engine};
+use sw_world::{End, Engine, Table};
 
 /// A run whose sheet is what its path and text read to. Contracts see the run.
 #[derive(Drop)]

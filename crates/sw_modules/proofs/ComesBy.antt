@@ -4,7 +4,7 @@ use Rattle.sw_world.specs.declared.op.Op.{Op}
 use Rattle.sw_world.specs.Body.{Pair, Run, Job, Asks, Goes, answers}
 use Rattle.sw_modules.specs.Outside.{Outside}
 use Rattle.sw_modules.specs.Fresh.{Setting, Evaluation, responds, goes_on, turn}
-use Rattle.sw_modules.specs.Law.{left_after, runs_of, AreAnswers, ComesBy}
+use Rattle.sw_modules.specs.Law.{ComesBy}
 
 pub answers-append : (ps qs : List Pair) → answers (ps ++ qs) ≡ answers ps ++ answers qs
 answers-append [] qs = refl

@@ -1,5 +1,5 @@
 -- That answers fit their questions.
-use Rattle.std.proofs.Common.{◌≡◌, ℕ, Bool, true, false, List, Option, None, Some, Result, Ok, Err, IfOk, cond, is_some, bytes_eq, ap, sym, subst}
+use Rattle.std.proofs.Common.{◌≡◌, ℕ, Bool, true, false, List, Option, None, Some, Result, Ok, Err, IfOk, cond, is_some, bytes_eq, sym, subst}
 use Rattle.std.specs.Map.{lookup}
 use Rattle.sw_tree.specs.declared.callable.Kind.{Kind}
 use Rattle.sw_tree.specs.declared.callable.Kind.TheVariants.{Variable, Function, Mixin}

@@ -1,5 +1,5 @@
 -- What a load comes to: the refusals in their order, an answer at once, or a module whose body has to run (the Sass specification's modules; the limit of open loads is this project's own).
-use Rattle.std.specs.Prelude.{◌≡◌, ◌<◌, ◌≤◌, ℕ, ◌&&◌, not, nat_le, List, [], ◌∷◌, length, map, find, bytes_eq, Option, None, Some, Result, Ok, Err, is_some, if◌then◌else◌, Bool, true, false}
+use Rattle.std.specs.Prelude.{◌≡◌, ◌<◌, ◌≤◌, ℕ, ◌&&◌, not, nat_le, List, [], length, map, find, bytes_eq, Option, None, Some, Result, Ok, Err, is_some, if◌then◌else◌, Bool}
 use Rattle.std.specs.List.{list_any}
 use Rattle.std.specs.Map.{lookup}
 use Rattle.std.specs.FinMap.{get}

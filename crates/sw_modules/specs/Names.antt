@@ -1,5 +1,5 @@
 -- What a name means in a module (the Sass specification's modules; sheets have variables alone so far, and each use has a namespace).
-use Rattle.std.specs.Prelude.{ℕ, ◌==◌, ◌||◌, List, [], ◌∷◌, bytes_eq, Option, None, Some, is_some, if◌then◌else◌, Bool, true, false}
+use Rattle.std.specs.Prelude.{ℕ, ◌==◌, ◌||◌, List, [], ◌∷◌, bytes_eq, Option, None, Some, is_some, if◌then◌else◌, Bool, false}
 use Rattle.std.specs.Option.{option_map_or}
 use Rattle.std.specs.Map.{lookup}
 use Rattle.sw_tree.specs.declared.callable.Kind.{Kind}
@@ -9,7 +9,6 @@ use Rattle.sw_values.specs.declared.node.Node.TheVariants.{Text}
 use Rattle.sw_world.specs.declared.answer.Answer.{Answer}
 use Rattle.sw_world.specs.declared.answer.Answer.TheVariants.{Owner, NoNamespace, NoMember}
 use Rattle.sw_modules.specs.declared.module.Module.{Module}
-use Rattle.sw_modules.specs.declared.module.Opened.{Opened}
 use Rattle.sw_modules.specs.State.{State, path_in, uses_in}
 
 -- a member whose name begins with `-` or `_` is private

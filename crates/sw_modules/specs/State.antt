@@ -1,8 +1,8 @@
 -- The state of one compile outside the bodies of its modules (this project's own rule).
-use Rattle.std.specs.Prelude.{◌≡◌, ℕ, ◌-◌, List, [], ◌∷◌, ◌++◌, length, take, slice_get, slice_set, bytes_eq, Option, None, Some}
+use Rattle.std.specs.Prelude.{ℕ, ◌-◌, List, [], ◌∷◌, ◌++◌, length, take, slice_get, slice_set, bytes_eq, Option}
 use Rattle.std.specs.Option.{option_map_or}
 use Rattle.std.specs.Map.{lookup, set_value}
-use Rattle.indexmap.specs.IndexMap.{insert_entry, insert_all}
+use Rattle.indexmap.specs.IndexMap.{insert_entry}
 use Rattle.sw_css_tree.specs.Output.{Output}
 use Rattle.sw_folder.specs.Files.{Files}
 use Rattle.sw_values.specs.declared.node.Node.{Node}
@@ -50,7 +50,7 @@ closed s = record s { opened = take (length s.opened - 1) s.opened }
 
 -- the module that a body left behind, with these uses
 abbrev pub module_of : Finish → List (List ℕ × List ℕ) → Module
-module_of finish uses = record { variables = insert_all bytes_eq [] finish.variables; uses = uses; finish = finish }
+module_of finish uses = record { variables = finish.variables; uses = uses; finish = finish }
 
 -- the innermost load's module is loaded
 abbrev pub loaded_now : Finish → State → State

@@ -3,12 +3,14 @@
 
 mod ask;
 mod live;
+mod loaded;
 mod loads;
 mod module;
 mod names;
-mod table;
+mod variables;
 
 pub use ask::{Asked, comes_by};
 pub use live::{Begin, Enter, Finished, Live};
+pub use loaded::Loaded;
 pub use module::{Module, Opened};
-pub use table::Table;
+pub use variables::Variables;

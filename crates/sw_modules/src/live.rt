@@ -10,16 +10,15 @@ ghost use Rattle.sw_modules.specs.Loads.{entry_fault, is_explicit, refused, firs
 
 use crate::loads::{
     add_use, config_of, first_untaken, has_use, is_explicit, is_open, refused, share_names,
-    variables_of,
 };
-use crate::{Module, Opened, Table};
+use crate::{Loaded, Module, Opened, Variables};
 use std::alloc::Global;
 use std::marker::Model;
 use sw_css_tree::CssTree;
 use sw_folder::{Folder, ResolveFault, has_extension, is_path};
 use sw_text::{Fault, FaultCode, List, Memory, Name, Pos, Shared, Span};
 use sw_values::Value;
-use sw_world::{Answer, Config, End, Finish, Given, How, Op, SayKind, Saying};
+use sw_world::{Answer, Config, End, Finish, Given, How, Op, SayKind, Saying, Table};
 
 const MOST_OPEN: usize = 64;
 
@@ -56,7 +55,7 @@ pub struct Live<'a> {
     alloc: Global,
     folder: &'a Folder,
     paths: &'a [Name],
-    loaded: Table<Module>,
+    loaded: Loaded,
     opened: Vec<Opened>,
     says: List<Saying>,
     outputs: List<Shared<CssTree>>,
@@ -87,7 +86,7 @@ impl<'a> Live<'a> {
             alloc,
             folder,
             paths,
-            loaded: Table::new(alloc),
+            loaded: Loaded::new(alloc),
             opened: Vec::new(alloc),
             says: List::new(alloc),
             outputs: List::new(alloc),
@@ -359,7 +358,7 @@ impl<'a> Live<'a> {
         self.opened.as_slice()
     }
 
-    pub(crate) fn loaded(&self) -> &Table<Module>
+    pub(crate) fn loaded(&self) -> &Loaded
         ensures { result.now ≡ self.now.loaded }
     {
         &self.loaded
@@ -371,8 +370,7 @@ impl<'a> Live<'a> {
         ensures err { OnErr result (self.new ≡ self.old) }
     {
         let value = value.share()?;
-        self.loaded.set_variable(owner, name, value);
-        Ok(())
+        self.loaded.assign(self.alloc, owner, name, value)
     }
 
     /// Adds a message. After `Memory` the state is as before.
@@ -402,7 +400,7 @@ impl<'a> Live<'a> {
         ensures state { OnOk result (self.new ≡ loaded_now finish.now self.old) }
         ensures closes { OnOk result (length self.new.opened + 1 ≡ length self.old.opened) }
     {
-        let variables = variables_of(self.alloc, finish.get().variables.as_slice())?;
+        let variables = Variables::of(finish)?;
         self.outputs.push(finish.get().css.share()?)?;
         let Some(Opened { path, uses }) = self.opened.pop() else {
             unreachable!()

@@ -3,15 +3,13 @@ ghost use Rattle.std.specs.Prelude.{◌≡◌, ◌<◌, ◌&&◌, ◌∷◌, [],
 ghost use Rattle.std.specs.List.{list_any};
 ghost use Rattle.std.specs.Map.{lookup};
 ghost use Rattle.std.specs.Option.{option_copied};
-ghost use Rattle.indexmap.specs.IndexMap.{insert_all};
 ghost use Rattle.sw_modules.specs.State.{path_in, uses_in, with_use};
 ghost use Rattle.sw_modules.specs.Loads.{refused, is_open, config_of, is_explicit, first_untaken};
 
-use crate::{Opened, Table};
+use crate::Opened;
 use std::alloc::Global;
 use sw_text::{Fault, FaultCode, List, Memory, Name, Shared, Span};
-use sw_values::Value;
-use sw_world::{Answer, Config, Given};
+use sw_world::{Answer, Config, Given, Table};
 
 /// The answer that a load is refused at a place.
 pub(crate) fn refused(code: FaultCode, span: &Span) -> Result<Answer, Memory>
@@ -104,20 +102,6 @@ fn has_name(names: &[Name], name: &Name) -> bool
     ensures { result ≡ list_any (bytes_eq name.now) names.now }
 {
     names.iter().any(|other| name.same(other))
-}
-
-/// The variables that a body left behind, by their names.
-pub(crate) fn variables_of(
-    alloc: Global,
-    variables: &[(Name, Value)],
-) -> Result<Table<Value>, Memory>
-    ensures { IfOk result (λ table. table ≡ insert_all bytes_eq [] variables.now) }
-{
-    let mut table = Table::new(alloc);
-    for variable in variables {
-        table.add(variable.0.share()?, variable.1.share()?)?;
-    }
-    Ok(table)
 }
 
 /// The same names, shared.

@@ -1,14 +1,13 @@
 // Modules and open loads.
-use crate::Table;
+use crate::Variables;
 use sw_text::{Name, Shared};
-use sw_values::Value;
-use sw_world::Finish;
+use sw_world::{Finish, Table};
 
 /// A loaded module.
 #[derive(Drop)]
 pub struct Module {
     /// The values that its own variables have now.
-    pub variables: Table<Value>,
+    pub variables: Variables,
     /// The paths of the modules that it uses, by their namespaces.
     pub uses: Table<Name>,
     /// What its body left behind.

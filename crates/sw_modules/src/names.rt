@@ -23,7 +23,7 @@ pub(crate) fn variable_of(path: &Name, name: &Name, held: Option<&Module>) -> Re
     match held {
         None => Ok(Answer::NoMember),
         Some(held) => {
-            if held.variables.has(name) {
+            if held.variables.get(name).is_some() {
                 Ok(Answer::Owner {
                     path: path.share()?,
                     name: name.share()?,

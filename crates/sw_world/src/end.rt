@@ -1,7 +1,7 @@
 // How bodies end, and where they stop.
 ghost use Rattle.std.specs.Prelude.{◌≡◌, IfOk};
 
-use crate::Op;
+use crate::{Op, Table};
 use sw_css_tree::CssTree;
 use sw_text::{Fault, List, Memory, Name, Shared};
 use sw_tree::Callable;
@@ -14,7 +14,7 @@ pub type Config = Shared<List<(Name, Value)>>;
 #[derive(Drop)]
 pub struct Finish {
     /// The module's own variables with their values.
-    pub variables: List<(Name, Value)>,
+    pub variables: Table<Value>,
     /// The module's own functions and mixins.
     pub callables: List<Shared<Callable>>,
     pub css: Shared<CssTree>,

@@ -7,6 +7,7 @@ mod engine;
 mod hosts;
 mod op;
 mod parts;
+mod table;
 mod world;
 
 pub use answer::Answer;
@@ -14,4 +15,6 @@ pub use end::{Config, End, Finish, Turn};
 pub use engine::Engine;
 pub use hosts::{Hosts, NoHosts};
 pub use op::{Filter, Given, How, Member, Op, SayKind, Saying};
+pub use parts::share_pairs;
+pub use table::Table;
 pub use world::World;

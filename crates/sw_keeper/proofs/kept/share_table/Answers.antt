@@ -1,5 +1,5 @@
 use Rattle.std.proofs.Common.{arith}
-use Rattle.sw_keeper.proofs.Tables.{next_shared}
+use Rattle.sw_world.proofs.Entries.{next_shared}
 use Rattle.sw_keeper.proofs.kept.share_table.Goals as goal
 
 pub loop-place-preserved : goal.loop-place-preserved

@@ -1,0 +1,65 @@
+// The variables of a loaded module.
+ghost use Rattle.std.specs.Prelude.{◌≡◌, bytes_eq, IfOk, OnOk, OnErr};
+ghost use Rattle.std.specs.Map.{lookup, set_value};
+ghost use Rattle.std.specs.Option.{option_copied};
+
+use std::alloc::Global;
+use std::marker::Model;
+use sw_text::{Memory, Name, Shared};
+use sw_values::Value;
+use sw_world::{Finish, Table};
+
+/// The variables of a loaded module: those that its body left behind, shared with its run, until the first of them is given another value. Contracts see the names with their values.
+#[derive(Drop)]
+pub struct Variables {
+    finish: Shared<Finish>,
+    own: Option<Table<Value>>,
+}
+
+impl Model for Variables {
+    ghost use Rattle.std.specs.Prelude.{List, ℕ};
+    ghost use Rattle.std.specs.Option.{option_map_or};
+    ghost use Rattle.sw_values.specs.declared.node.Node.{Node};
+
+    ghost Value = { List (List ℕ × Node) };
+
+    ghost view = { λ variables. option_map_or (λ own. own) variables.own variables.finish.variables };
+}
+
+impl Variables {
+    /// What a body left behind, in constant time.
+    pub fn of(finish: &Shared<Finish>) -> Result<Variables, Memory>
+        ensures { IfOk result (λ variables. variables ≡ finish.now.variables) }
+    {
+        Ok(Variables {
+            finish: finish.share()?,
+            own: None,
+        })
+    }
+
+    /// The value of a name.
+    pub fn get(&self, name: &Name) -> Option<&Value>
+        ensures { option_copied result ≡ lookup (bytes_eq name.now) self.now }
+    {
+        match &self.own {
+            Some(own) => own.get(name),
+            None => self.finish.get().variables.get(name),
+        }
+    }
+
+    /// Gives a name that is there a value; no other changes the variables. The first time it takes a table of its own. After `Memory` the variables are as before.
+    pub fn set(&mut self, alloc: Global, name: &Name, value: Value) -> Result<(), Memory>
+        ensures ok { OnOk result (self.new ≡ set_value (bytes_eq name.now) self.old value) }
+        ensures err { OnErr result (self.new ≡ self.old) }
+    {
+        match &mut self.own {
+            Some(own) => own.set(name, value),
+            None => {
+                let mut own = self.finish.get().variables.share(alloc)?;
+                own.set(name, value);
+                self.own = Some(own);
+            }
+        }
+        Ok(())
+    }
+}
