@@ -46,7 +46,10 @@ impl Model for Evaluation {
 }
 
 // The pairs, each part with one more owner.
-fn share_pairs(alloc: Global, known: &[(Op, Answer)]) -> Result<Vec<(Op, Answer)>, Memory>
+pub(crate) fn share_pairs(
+    alloc: Global,
+    known: &[(Op, Answer)],
+) -> Result<Vec<(Op, Answer)>, Memory>
     ensures { IfOk result (λ v. v.items ≡ known.now) }
 {
     let mut pairs = Vec::new(alloc);
