@@ -8,3 +8,5 @@ pub mod Weighs
 pub mod Tops
 pub mod Turns
 pub mod Engines
+pub mod Announced
+pub mod Given

@@ -11,3 +11,4 @@ pub mod Body_laws
 pub mod Told
 pub mod Tops
 pub mod Resume
+pub mod Announcing

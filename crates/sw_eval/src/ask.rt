@@ -87,7 +87,7 @@ fn answer_of<W: World>(
 }
 
 // Puts a pair behind the others, for which there is room.
-fn push_pair(pairs: &mut Vec<(Op, Answer)>, op: Op, answer: Answer)
+pub(crate) fn push_pair(pairs: &mut Vec<(Op, Answer)>, op: Op, answer: Answer)
     requires { vec_len pairs.old < vec_capacity pairs.old }
     ensures { pairs.new.items ≡ pairs.old.items ++ (op, answer) ∷ [] }
 {
