@@ -1,12 +1,13 @@
 -- Kept runs by the paths of their modules.
-use Rattle.std.proofs.Common.{◌≡◌, ◌≢◌, ℕ, ◌&&◌, Bool, true, false, cond, List, [], ◌∷◌, bytes_eq, Option, Some, unwrap_or, refl, sym, ◌∙◌, ap, subst}
+use Rattle.std.proofs.Common.{◌≡◌, ◌≢◌, ℕ, ◌&&◌, inl, inr, Bool, true, false, cond, List, [], ◌∷◌, bytes_eq, Option, Some, None, unwrap_or, refl, sym, ◌∙◌, ap, subst}
 use Rattle.std.specs.Map.{lookup}
 use Rattle.std.proofs.lemmas.Slice.Eq.{bytes_eq-Decides}
 use Rattle.indexmap.specs.IndexMap.{insert_entry}
 use Rattle.sw_world.specs.declared.end.End.{End}
 use Rattle.sw_world.specs.declared.end.End.TheVariants.{Done, Fault}
 use Rattle.sw_world.specs.Body.{Run}
-use Rattle.sw_record.specs.Ran.{Table, kept_at}
+use Rattle.sw_record.specs.Ran.{Table, Ran, kept_at}
+use Rattle.sw_record.specs.declared.reply.Cause.{Cause}
 use Rattle.sw_keeper.specs.Keeping.{Tables, EachAtItsPath, table_of, with_run_by, with_runs, kept_after}
 use Rattle.sw_keeper.specs.Latest.{is_done, latest, KeepsTheLatest}
 
@@ -92,11 +93,44 @@ keeps_the_latest tables entry (run ∷ runs) path =
       λ other ne. ap (λ (o : Option Table). unwrap_or o []) (lookup-insert_entry other entry table tables) ∙ unwrap_other (bytes_eq other entry) table (lookup (bytes_eq other) tables) (other_name other entry ne),
     )
 
--- the tables after a compile
-pub kept_some : (tables now : Tables) (entry : List ℕ) (runs : List Run) (after : Table) → (runs ≡ [] → ⊥) → after ≡ with_runs (table_of tables entry) runs → now ≡ insert_entry bytes_eq tables entry after
-    → now ≡ kept_after tables entry runs
-kept_some tables now entry [] after some is put = absurd (some refl)
-kept_some tables now entry (run ∷ runs) after some is put = put ∙ ap (λ (t : Table). insert_entry bytes_eq tables entry t) is
+-- a value that is there already, given again, changes nothing
+insert_same : {X : Type 0} (k : List ℕ) (v : X) (es : List (List ℕ × X)) → lookup (bytes_eq k) es ≡ Some v → insert_entry bytes_eq es k v ≡ es
+insert_same k v [] here = cc
+insert_same {X} k v (e ∷ es) here = by (bytes_eq k e.0) here (λ there. insert_same k v es there)
+  where
+    by : (b : Bool) → cond b (Some e.1) (lookup (bytes_eq k) es) ≡ Some v → (lookup (bytes_eq k) es ≡ Some v → insert_entry bytes_eq es k v ≡ es)
+        → cond b ((e.0, v) ∷ es) (e ∷ insert_entry bytes_eq es k v) ≡ e ∷ es
+    by true h rest = let same : e.1 ≡ v = cc in ap (λ (x : X). (e.0, x) ∷ es) (sym same)
+    by false h rest = ap (λ l. e ∷ l) (rest h)
 
-pub kept_none : (tables : Tables) (entry : List ℕ) (runs : List Run) → runs ≡ [] → tables ≡ kept_after tables entry runs
-kept_none tables entry runs none = subst (λ (l : List Run). tables ≡ kept_after tables entry l) (sym none) refl
+same_run : (table : Table) (run : Run) (end : End) → kept_at table run.path ≡ Some run → with_run_by table run end ≡ table
+same_run table run (Done finish) here = insert_same run.path run table here
+same_run table run (Fault fault) here = refl
+
+-- where no body ran, the runs are the kept ones
+same_runs : (table : Table) (runs : List Run) (ran : List (List ℕ × Cause)) → ran ≡ [] → Ran table runs ran → with_runs table runs ≡ table
+same_runs table [] ran none are = refl
+same_runs table (run ∷ runs) ran none (inl are) =
+    ap (λ (t : Table). with_runs t runs) (same_run table run run.end are.0) ∙ same_runs table runs ran none are.1
+same_runs table (run ∷ runs) ran none (inr are) = cc
+
+-- and their table is there
+same_table : (tables : Tables) (entry : List ℕ) (found : Option Table) (run : Run) → lookup (bytes_eq entry) tables ≡ found → kept_at (unwrap_or found []) run.path ≡ Some run
+    → lookup (bytes_eq entry) tables ≡ Some (unwrap_or found [])
+same_table tables entry (Some table) run is here = is
+same_table tables entry None run is here = cc
+
+-- the tables after a compile
+pub kept_some : (tables now : Tables) (entry : List ℕ) (runs : List Run) (ran : List (List ℕ × Cause)) (after : Table) → (ran ≡ [] → ⊥) → Ran (table_of tables entry) runs ran
+    → after ≡ with_runs (table_of tables entry) runs → now ≡ insert_entry bytes_eq tables entry after → now ≡ kept_after tables entry runs
+kept_some tables now entry [] ran after some are is put = absurd (some are)
+kept_some tables now entry (run ∷ runs) ran after some are is put = put ∙ ap (λ (t : Table). insert_entry bytes_eq tables entry t) is
+
+pub kept_same : (tables : Tables) (entry : List ℕ) (runs : List Run) (ran : List (List ℕ × Cause)) → ran ≡ [] → Ran (table_of tables entry) runs ran → tables ≡ kept_after tables entry runs
+kept_same tables entry [] ran none are = refl
+kept_same tables entry (run ∷ runs) ran none (inl are) =
+    let table : Table = table_of tables entry in
+    let all : with_runs table (run ∷ runs) ≡ table = same_runs table (run ∷ runs) ran none (inl are) in
+    let there : lookup (bytes_eq entry) tables ≡ Some table = same_table tables entry (lookup (bytes_eq entry) tables) run refl are.0 in
+    sym (ap (λ (t : Table). insert_entry bytes_eq tables entry t) all ∙ insert_same entry table tables there)
+kept_same tables entry (run ∷ runs) ran none (inr are) = cc

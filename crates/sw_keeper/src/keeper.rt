@@ -18,7 +18,7 @@ use sw_css_print::print;
 use sw_css_tree::CssTree;
 use sw_folder::{EditFault, Folder};
 use sw_modules::{Enter, Finished, Live};
-use sw_record::{Outcome, Reply};
+use sw_record::{Cause, Outcome, Reply};
 use sw_text::{List, Memory, Name, Shared};
 use sw_world::{End, Engine, Hosts, Table};
 
@@ -113,23 +113,25 @@ impl<R: Reader, E: Engine> Keeper<R, E> {
             engine,
             hosts,
         )?;
-        keep_runs(self.alloc, &mut self.kept, entry, &runs)?;
+        keep_runs(self.alloc, &mut self.kept, entry, &runs, &reply.ran)?;
         Ok(reply)
     }
 }
 
-/// Keeps the runs of a compile of an entry. After `Memory` the tables are as before.
-#[tactic(auto, using(crate::proofs::Tables::kept_some, crate::proofs::Tables::kept_none))]
+/// Keeps the runs of a compile of an entry, in which these bodies ran. Where none did, all are kept already. After `Memory` the tables are as before.
+#[tactic(auto, using(crate::proofs::Tables::kept_some))]
 fn keep_runs<R: Reader, E: Engine>(
     alloc: Global,
     tables: &mut Table<KeptRuns<R, E>>,
     entry: &Name,
     runs: &List<KeptRun<R, E>>,
+    ran: &List<(Name, Cause)>,
 ) -> Result<(), Memory>
+    requires { Ran (table_of tables.old entry.now) runs.now ran.now }
     ensures ok { OnOk result (tables.new ≡ kept_after tables.old entry.now runs.now) }
     ensures err { OnErr result (tables.new ≡ tables.old) }
 {
-    if runs.is_empty() {
+    if ran.is_empty() {
         return Ok(());
     }
     let after = kept_with(alloc, tables, entry, runs)?;
