@@ -1,6 +1,7 @@
 #!/bin/sh
-# How long a compile takes in a session that has compiled the same folder before: one entry loads N modules, each with 1 or 20 variables,
-# and reads one of each. The second compile finds all as it was, the third one module edited. The fastest of five sessions counts.
+# How long a compile takes in a session that has compiled the same folder before: one entry loads N modules, each with 1 or 20 variables
+# and with no rule or ten, and reads one variable of each. The second compile finds all as it was, the third one module edited. The
+# fastest of five sessions counts.
 # Usage: again.sh PROGRAM
 set -eu
 exec python3 - "$1" <<'END'
@@ -44,11 +45,16 @@ class Session:
         assert self.process.wait() == 0
 
 
-def measured(program, modules, variables):
+def module(number, variables, rules):
+    others = "".join(f"$v{other}: w{other};\n" for other in range(1, variables))
+    blocks = "".join(f".m{number}-{rule} {{\n  color: $v;\n  border: $v;\n}}\n" for rule in range(rules))
+    return f"{others}$v: w{number};\n{blocks}"
+
+
+def measured(program, modules, variables, rules):
     session = Session(program)
     for number in range(modules):
-        others = "".join(f"$v{other}: w{other};\n" for other in range(1, variables))
-        session.edit(f"m{number}.scss", f"{others}$v: w{number};")
+        session.edit(f"m{number}.scss", module(number, variables, rules))
     loads = "".join(f'@use "m{number}";\n' for number in range(modules))
     lines = "".join(f"p{number}: m{number}.$v;\n" for number in range(modules))
     session.edit("main.scss", loads + "a {\n" + lines + "}")
@@ -61,12 +67,12 @@ def measured(program, modules, variables):
     return first, second, edited
 
 
-for variables in (1, 20):
+for variables, rules in ((1, 0), (20, 0), (20, 10)):
     for modules in (100, 200, 400):
-        times = [measured(sys.argv[1], modules, variables) for _ in range(5)]
+        times = [measured(sys.argv[1], modules, variables, rules) for _ in range(5)]
         first, second, edited = (min(column) * 1000 for column in zip(*times))
         print(
-            f"{modules} modules of {variables}: first {first:.2f} ms, second {second:.2f} ms, ratio {second / first:.3f};"
+            f"{modules} modules of {variables} and {rules}: first {first:.2f} ms, second {second:.2f} ms, ratio {second / first:.3f};"
             f" after one edit {edited:.2f} ms, ratio {edited / first:.3f}"
         )
 END
