@@ -1,4 +1,8 @@
 // The words of the command line.
+ghost use Rattle.std.specs.Prelude.{◌≡◌, ◌≢◌};
+ghost use Rattle.std.specs.IoError.{error_kind};
+ghost use Rattle.std.specs.declared.io.ErrorKind.TheVariants.{OutOfMemory};
+
 use std::rt::Env;
 use std::{env, io};
 use sw_text::{List, Memory, Name};
@@ -13,7 +17,10 @@ pub enum WordFault {
 
 impl WordFault {
     /// The status with which the program ends.
-    pub fn status(self) -> u8 {
+    pub fn status(self) -> u8
+        ensures not_text { self ≡ WordFault.NotText → result ≡ 7 }
+        ensures memory { self ≡ WordFault.Memory → result ≡ 6 }
+    {
         match self {
             WordFault::NotText => 7,
             WordFault::Memory => 6,
@@ -22,7 +29,10 @@ impl WordFault {
 }
 
 impl From<io::Error> for WordFault {
-    fn from(error: io::Error) -> Self {
+    fn from(error: io::Error) -> Self
+        ensures memory { error_kind error ≡ OutOfMemory → result ≡ WordFault.Memory }
+        ensures not_text { error_kind error ≢ OutOfMemory → result ≡ WordFault.NotText }
+    {
         match error.kind() {
             io::ErrorKind::OutOfMemory => WordFault::Memory,
             _ => WordFault::NotText,
@@ -31,7 +41,9 @@ impl From<io::Error> for WordFault {
 }
 
 impl From<Memory> for WordFault {
-    fn from(_: Memory) -> Self {
+    fn from(_: Memory) -> Self
+        ensures { result ≡ WordFault.Memory }
+    {
         WordFault::Memory
     }
 }
