@@ -72,7 +72,7 @@ for variables, rules in ((1, 0), (20, 0), (20, 10)):
         times = [measured(sys.argv[1], modules, variables, rules) for _ in range(5)]
         first, second, edited = (min(column) * 1000 for column in zip(*times))
         print(
-            f"{modules} modules of {variables} and {rules}: first {first:.2f} ms, second {second:.2f} ms, ratio {second / first:.3f};"
+            f"{modules} modules of {variables} variables and {rules} rules: first {first:.2f} ms, second {second:.2f} ms, ratio {second / first:.3f};"
             f" after one edit {edited:.2f} ms, ratio {edited / first:.3f}"
         )
 END
