@@ -2,12 +2,6 @@
 //! Words and bytes flow in, replies flow out, and the status tells how the session ended.
 #![tactic(auto)]
 
-#[cfg(test)]
-mod fault_tests;
-#[cfg(test)]
-mod kept_tests;
-#[cfg(test)]
-mod tests;
 mod words;
 
 use crate::words::words;

@@ -4,6 +4,3 @@
 mod page;
 
 pub use page::print;
-
-#[cfg(test)]
-mod tests;

@@ -8,6 +8,3 @@ mod fault;
 pub use block::{Block, Line};
 pub use css_tree::CssTree;
 pub use fault::TreeFault;
-
-#[cfg(test)]
-mod tests;

@@ -8,5 +8,3 @@ pub mod Weighs
 pub mod Tops
 pub mod Turns
 pub mod Engines
-pub mod Announced
-pub mod Given

@@ -11,4 +11,3 @@ pub mod Body_laws
 pub mod Told
 pub mod Tops
 pub mod Resume
-pub mod Announcing

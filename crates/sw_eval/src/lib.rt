@@ -1,8 +1,6 @@
 //! The evaluator: a module's body goes through the statements of its sheet, asks the world what lies outside, and leaves variables and output behind. It takes trees from below and hands questions and ends up.
 #![tactic(auto)]
 
-#[cfg(test)]
-mod announcer;
 mod ask;
 mod asked;
 mod engine;
@@ -11,10 +9,6 @@ mod output;
 mod place;
 mod state;
 mod stop;
-#[cfg(test)]
-mod tests;
-#[cfg(test)]
-mod told;
 mod top;
 mod turn;
 mod value;

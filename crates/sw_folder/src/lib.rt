@@ -5,8 +5,6 @@ mod edit;
 mod folder;
 mod path;
 mod resolve;
-#[cfg(test)]
-mod tests;
 
 pub use edit::{EditFault, unread_fault};
 pub use folder::Folder;

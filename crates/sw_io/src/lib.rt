@@ -10,8 +10,6 @@ mod mem_source;
 mod reader;
 mod steady;
 mod stop;
-#[cfg(test)]
-mod tests;
 mod traits;
 
 pub use adapters::{StdSink, StdSource};

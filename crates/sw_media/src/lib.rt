@@ -7,8 +7,6 @@ mod joining;
 mod laws;
 mod query;
 mod reader;
-#[cfg(test)]
-mod tests;
 mod words;
 mod write;
 

@@ -5,8 +5,6 @@ mod brackets;
 mod bytes;
 mod pieces;
 mod runs;
-#[cfg(test)]
-mod tests;
 
 pub use brackets::{Stops, stop_at, string_end};
 pub use bytes::{byte_at, is_letter, is_white};

@@ -15,6 +15,3 @@ mod word;
 
 pub use end::ReadEnd;
 pub use sheet::{read_sheet, sheets_are_of_the_grammar};
-
-#[cfg(test)]
-mod sheet_tests;

@@ -13,8 +13,6 @@ mod reader;
 mod selector;
 mod simple;
 mod splice;
-#[cfg(test)]
-mod tests;
 mod turn;
 mod units;
 mod write;

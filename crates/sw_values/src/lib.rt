@@ -10,6 +10,3 @@ mod value;
 pub use fault::ValueFault;
 pub use node::Node;
 pub use value::Value;
-
-#[cfg(test)]
-mod tests;

@@ -8,8 +8,6 @@ mod number;
 mod read;
 mod reply;
 mod request;
-#[cfg(test)]
-mod tests;
 mod words;
 
 pub use fault::LineFault;
