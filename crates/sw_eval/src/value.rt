@@ -3,6 +3,7 @@ ghost use Rattle.std.specs.Prelude.{◌≡◌, IsTrue, None, option_copied};
 ghost use Rattle.sw_eval.specs.Did.{Did, IsReturn, stand};
 ghost use Rattle.sw_eval.specs.Means.{weighed, outside, variable, is_private, qualified, assigned, span_of, value_one, value_to, plain};
 ghost use Rattle.sw_eval.specs.declared.state.State.{State};
+ghost use Rattle.sw_values.specs.Shape.{plain_of};
 
 use crate::ask::{ask, got, owner, target};
 use crate::asked::Asked;
@@ -24,11 +25,13 @@ pub(crate) fn plain(parts: &Parts) -> &Name
 
 // The value of a node that stands here.
 fn weighed(node: Node, at: &Span) -> Result<Value, Stop>
-    ensures { (s : State) → IsReturn result s (weighed node at.now s) }
+    ensures { (s : State) → IsReturn result s (weighed (plain_of node) at.now s) }
 {
     match Value::of(node) {
         Ok(value) => Ok(value),
         Err(ValueFault::TooLarge) => fails(FaultCode::TooLarge, at),
+        Err(ValueFault::NotCss) => unreachable!(),
+        Err(ValueFault::DuplicateKey(_)) => unreachable!(),
         Err(ValueFault::Memory) => Err(Stop::Memory),
     }
 }

@@ -3,7 +3,7 @@ use Rattle.std.proofs.Common.{◌≡◌, ℕ, List, [], ◌++◌, append-nil, re
 use Rattle.sw_text.specs.declared.fault.Fault.{Fault}
 use Rattle.sw_css_tree.specs.Output.{Output}
 use Rattle.sw_folder.specs.Files.{Files}
-use Rattle.sw_values.specs.declared.node.Node.{Node}
+use Rattle.sw_values.specs.declared.plain.Plain.{Plain}
 use Rattle.sw_world.specs.Hosts.{HostState}
 use Rattle.sw_world.specs.declared.end.End.{End}
 use Rattle.sw_world.specs.declared.op.Saying.{Saying}
@@ -38,7 +38,7 @@ is_refused setting folder paths entry hosts table enter fault s t told starts en
     (record { says = refl; outcome = refl; same_runs = refl; same_hosts = refl; ran = refl; told = sym (append-nil told) })
 
 -- an entry that was evaluated
-pub is_opened : (setting : Setting) (folder : Files) (paths : List (List ℕ)) (entry : List ℕ) (hosts : HostState) (table : Table) (enter : Enter) (path text : List ℕ) (config : List (List ℕ × Node)) (end : End) (s m u : State) (r0 : Results) (told : List (List ℕ)) (t : Moment)
+pub is_opened : (setting : Setting) (folder : Files) (paths : List (List ℕ)) (entry : List ℕ) (hosts : HostState) (table : Table) (enter : Enter) (path text : List ℕ) (config : List (List ℕ × Plain)) (end : End) (s m u : State) (r0 : Results) (told : List (List ℕ)) (t : Moment)
     (says : List Saying) (outputs : List Output) (outcome : Outcome)
     → s ≡ nothing_loaded folder paths → entered entry (entry_text s.folder entry) s ≡ (enter, m) → enter ≡ Open path text → config ≡ [] → r0 ≡ record { runs = []; ran = [] }
     → DidEvaluate setting table path text config end (moment m hosts r0 told) t → u ≡ left_by end t.outside.live → says ≡ u.says → outputs ≡ u.outputs → outcome ≡ outcome_of end outputs
