@@ -92,11 +92,15 @@ unfoldable pub qualified : List ℕ → Qualified → Eval Plain
 qualified site q s =
     if is_private q.name then Fails (fault C.Private q.span) else outside C.UnknownMember site (Some q.space) q.name q.span q.space_span s
 
+-- the owner of a variable is given the value
+abbrev pub put : List ℕ × List ℕ → Plain → Span → Eval (Unit {0})
+put found v at s = bind (asking (Put found.0 found.1 v) at s) (λ b. Gives (tt, b.1))
+
 -- an assignment to a variable behind a namespace: its owner is found, and then given the value
 unfoldable pub assigned : List ℕ → Qualified → Plain → Span → Eval (Unit {0})
 assigned site q v at s =
     if is_private q.name then Fails (fault C.Private q.span)
-    else bind (asking (Find site (Some q.space) K.Variable q.name) at s) (λ a. bind (target at q a.0 a.1) (λ o. bind (asking (Put o.0.0 o.0.1 v) at o.1) (λ b. Gives (tt, b.1))))
+    else bind (asking (Find site (Some q.space) K.Variable q.name) at s) (λ a. bind (target at q a.0 a.1) (λ o. put o.0 v at o.1))
 
 -- ---- expressions
 
