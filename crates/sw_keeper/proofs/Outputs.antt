@@ -4,7 +4,7 @@ use Rattle.std.proofs.lemmas.List.Concat.{flat_map-append}
 use Rattle.sw_text.specs.declared.place.Span.{Span}
 use Rattle.sw_text.specs.declared.fault.Fault.{Fault}
 use Rattle.sw_tree.specs.declared.sheet.Sheet.{Sheet}
-use Rattle.sw_values.specs.declared.node.Node.{Node}
+use Rattle.sw_values.specs.declared.plain.Plain.{Plain}
 use Rattle.sw_css_tree.specs.Output.{Output}
 use Rattle.sw_css_print.specs.declared.part.Printed.{Printed}
 use Rattle.sw_css_print.specs.Page.{print}
@@ -93,7 +93,7 @@ outputs_then c = (left_by c.end c.outside.live).outputs
 
 -- an evaluation adds the outputs of its runs
 abbrev Adds : Evaluation → Type 0
-Adds inner = (o : Outside) (path text : List ℕ) (config : List (List ℕ × Node)) → outputs_then (inner o path text config) ≡ o.live.outputs ++ outputs_of (inner o path text config).runs
+Adds inner = (o : Outside) (path text : List ℕ) (config : List (List ℕ × Plain)) → outputs_then (inner o path text config) ≡ o.live.outputs ++ outputs_of (inner o path text config).runs
 
 append : (xs ys : List Run) → outputs_of (xs ++ ys) ≡ outputs_of xs ++ outputs_of ys
 append xs ys = flat_map-append (λ run. output_of run.end) xs ys

@@ -2,7 +2,7 @@
 use Rattle.std.proofs.Common.{◌≡◌, ℕ, List, [], ◌++◌, append-nil, refl, sym, ◌∙◌, ap, subst, Option, None, Some}
 use Rattle.sw_text.specs.declared.fault.Fault.{Fault}
 use Rattle.sw_folder.specs.Files.{Files}
-use Rattle.sw_values.specs.declared.node.Node.{Node}
+use Rattle.sw_values.specs.declared.plain.Plain.{Plain}
 use Rattle.sw_world.specs.Hosts.{HostState}
 use Rattle.sw_world.specs.declared.end.End.{End}
 use Rattle.sw_world.specs.declared.op.Saying.{Saying}
@@ -43,7 +43,7 @@ entered_outputs entry None s = refl
 entered_outputs entry (Some text) s = refl
 
 -- an entry that was evaluated
-pub is_opened : (setting : Setting) (folder : Files) (paths : List (List ℕ)) (entry : List ℕ) (hosts : HostState) (table : Table) (enter : Enter) (path text : List ℕ) (config : List (List ℕ × Node)) (end : End) (s m u : State) (r0 : Results) (told : List (List ℕ)) (t : Moment)
+pub is_opened : (setting : Setting) (folder : Files) (paths : List (List ℕ)) (entry : List ℕ) (hosts : HostState) (table : Table) (enter : Enter) (path text : List ℕ) (config : List (List ℕ × Plain)) (end : End) (s m u : State) (r0 : Results) (told : List (List ℕ)) (t : Moment)
     (says : List Saying) (outcome : Outcome)
     → s ≡ nothing_loaded folder paths → entered entry (entry_text s.folder entry) s ≡ (enter, m) → enter ≡ Open path text → config ≡ [] → r0 ≡ record { runs = []; ran = [] }
     → DidEvaluate setting table path text config end (moment m hosts r0 told) t → u ≡ left_by end t.outside.live → says ≡ u.says → outcome ≡ outcome_of end (outputs_of t.results.runs)
