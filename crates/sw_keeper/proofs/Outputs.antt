@@ -1,14 +1,15 @@
 -- The outputs of a compile are those of its runs.
-use Rattle.std.proofs.Common.{◌≡◌, Bool, true, false, if◌then◌else◌, ℕ, zero, suc, List, [], ◌∷◌, ◌++◌, map, append_assoc, append-nil, refl, sym, ◌∙◌, ap, Option, None, Some, Result, Ok, Err}
+use Rattle.std.proofs.Common.{◌≡◌, Bool, true, false, if◌then◌else◌, ℕ, zero, suc, ◌-◌, nat_le, bytes_eq, length, List, [], ◌∷◌, ◌++◌, append_assoc, append-nil, refl, sym, ◌∙◌, ap, Option, None, Some, Result, Ok, Err}
+use Rattle.std.specs.Map.{lookup}
+use Rattle.std.specs.FinMap.{get}
 use Rattle.std.proofs.lemmas.List.Concat.{flat_map-append}
 use Rattle.sw_text.specs.declared.place.Span.{Span}
 use Rattle.sw_text.specs.declared.fault.Fault.{Fault}
+use Rattle.sw_text.specs.declared.fault.FaultCode.TheVariants.{Loop, Depth}
 use Rattle.sw_tree.specs.declared.sheet.Sheet.{Sheet}
 use Rattle.sw_values.specs.declared.plain.Plain.{Plain}
 use Rattle.sw_css_tree.specs.Output.{Output}
-use Rattle.sw_css_print.specs.declared.part.Printed.{Printed}
 use Rattle.sw_css_print.specs.Page.{print}
-use Rattle.sw_css_print.specs.Parts.{print_one}
 use Rattle.sw_folder.specs.Files.{Files}
 use Rattle.sw_folder.specs.declared.resolve.ResolveFault.{ResolveFault}
 use Rattle.sw_folder.specs.declared.resolve.ResolveFault.TheVariants as R
@@ -27,11 +28,11 @@ use Rattle.sw_modules.specs.declared.module.Module.{Module}
 use Rattle.sw_modules.specs.declared.live.Begin.{Begin}
 use Rattle.sw_modules.specs.declared.live.Begin.TheVariants.{Answered, Open}
 use Rattle.sw_modules.specs.State.{State, nothing_loaded, open_at, path_in, loaded_now}
-use Rattle.sw_modules.specs.Loads.{begun, begin_url, begin_path, begin_module, at_once, used_as, used_unless, ended_by, left_by, entered, entry_text, first_untaken}
+use Rattle.sw_modules.specs.Loads.{is_open, refused, begun, begin_url, begin_path, begin_module, at_once, used_as, used_unless, ended_by, left_by, entered, entry_text, first_untaken}
 use Rattle.sw_modules.specs.Outside.{Functions, Outside}
-use Rattle.sw_modules.specs.Fresh.{Setting, Outcome as Evaluated, Evaluation, Response, load_by, responds, ended, turn, goes_on, evaluated_by, fresh, from_open}
+use Rattle.sw_modules.specs.Fresh.{Setting, Outcome as Evaluated, Evaluation, Response, load_by, responds, ended, turn, goes_on, evaluated_by, fresh, room, rest_of, from_open}
+use Rattle.sw_world.specs.Laws.{most_asked}
 use Rattle.sw_record.specs.declared.reply.Outcome.{Outcome}
-use Rattle.sw_record.specs.Kept.{printed_of}
 use Rattle.sw_keeper.specs.Compile.{compiled, compile_by, outcome_of}
 use Rattle.sw_keeper.specs.Outputs.{output_of, outputs_of, IsCssOf, CssIsOfRuns}
 
@@ -77,7 +78,10 @@ module_outputs None None path span how config s = refl
 module_outputs None (Some text) path span how config s = refl
 
 path_outputs : (path : List ℕ) (span : Span) (how : How) (config : List Given) (s : State) → (begin_path path span how config s).1.outputs ≡ s.outputs
-path_outputs path span how config s = either_state _ _ _ s.outputs refl (either_state _ _ _ s.outputs refl (module_outputs _ _ path span how config s))
+path_outputs path span how config s =
+    let inner : Begin × State = begin_module (lookup (bytes_eq path) s.loaded) (get s.folder path) path span how config s in
+    either_state (is_open s.opened path) (Answered (refused Loop span), s) (if nat_le 64 (length s.opened) then (Answered (refused Depth span), s) else inner) s.outputs refl
+    (either_state (nat_le 64 (length s.opened)) (Answered (refused Depth span), s) inner s.outputs refl (module_outputs (lookup (bytes_eq path) s.loaded) (get s.folder path) path span how config s))
 
 url_outputs : (found : Result (List ℕ) ResolveFault) (span : Span) (how : How) (config : List Given) (s : State) → (begin_url found span how config s).1.outputs ≡ s.outputs
 url_outputs (Ok path) span how config s = path_outputs path span how config s
@@ -152,13 +156,13 @@ fresh_adds : (setting : Setting) (depth : ℕ) → Adds (fresh setting depth)
 unfolding fresh
 fresh_adds setting zero o path text config = sym (append-nil o.live.outputs)
 fresh_adds setting (suc depth) o path text config =
-    read_outputs _ o (setting.read path text)
-    (λ sheet. rest_outputs setting (fresh setting depth) (fresh_adds setting depth) (record { sheet = sheet; config = config; path = path }) text o.live.outputs _ [] [] o (sym (append-nil o.live.outputs)))
+    read_outputs (λ (sheet : Sheet). goes_on setting (fresh setting depth) (record { sheet = sheet; config = config; path = path }) text (suc most_asked) [] [] o) o (setting.read path text)
+    (λ sheet. rest_outputs setting (fresh setting depth) (fresh_adds setting depth) (record { sheet = sheet; config = config; path = path }) text o.live.outputs (suc most_asked) [] [] o (sym (append-nil o.live.outputs)))
 
 pub open_adds : (setting : Setting) → Adds (from_open setting)
 open_adds setting o path text config =
-    read_outputs _ o (setting.read path text)
-    (λ sheet. rest_outputs setting _ (fresh_adds setting _) (record { sheet = sheet; config = config; path = path }) text o.live.outputs _ [] [] o (sym (append-nil o.live.outputs)))
+    read_outputs (λ (sheet : Sheet). rest_of setting (record { sheet = sheet; config = config; path = path }) text [] [] o) o (setting.read path text)
+    (λ sheet. rest_outputs setting (fresh setting (room o.live)) (fresh_adds setting (room o.live)) (record { sheet = sheet; config = config; path = path }) text o.live.outputs (suc most_asked - 0) [] [] o (sym (append-nil o.live.outputs)))
 
 -- Compiles
 
@@ -175,13 +179,3 @@ entry_css setting folder paths entry hosts (Some text) =
 
 pub css_is_of_runs : CssIsOfRuns
 css_is_of_runs setting folder paths entry hosts = entry_css setting folder paths entry hosts (entry_text folder entry)
-
--- Parts
-
-pub part_of_done : (end : End) (printed : Printed) → Some printed ≡ printed_of end → map print_one (output_of end) ≡ printed ∷ []
-part_of_done (Done finish) printed is = cc
-part_of_done (Fault_end fault) printed is = absurd cc
-
-pub part_of_fault : (end : End) → None {A = Printed} ≡ printed_of end → map print_one (output_of end) ≡ []
-part_of_fault (Done finish) is = absurd cc
-part_of_fault (Fault_end fault) is = refl

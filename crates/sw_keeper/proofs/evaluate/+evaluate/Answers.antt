@@ -11,7 +11,7 @@ use Rattle.sw_keeper.proofs.Turns.{is_body_given, turned_load, turned_end, runs_
 use Rattle.sw_keeper.proofs.Loads.{fits_load, did_answered, did_opened, did_read, did_not_read}
 use Rattle.sw_keeper.proofs.Replays.{replays_none, turn_whole, two_differs, turn_differs, load_here, load_within, two_load, turn_load_same, turn_load_differs, replay_whole, replay_next, replay_upto}
 use Rattle.sw_keeper.proofs.Ends.{did_known, did_whole, known_goes, known_departs, kept_reads}
-use Rattle.sw_keeper.proofs.More.{ran_none, ran_on}
+use Rattle.sw_keeper.proofs.More.{on_err, ran_none, ran_on}
 use Rattle.sw_keeper.proofs.evaluate.+evaluate.Goals as goal
 
 not_true : false ≡ true → ⊥
@@ -199,3 +199,11 @@ run_body-returns-in_err-run-clause-grew g t c =
     ran_on (g.E.Engine.ran c.args.engine.now) (g.E.Engine.ran c.loop-body.engine) (g.E.Engine.ran c.turn.new.engine) (paths_of c.loop-body.invariant.grown.grown) c.loop-body.invariant.grown.told
     (paths_of turned.grown ++ ran_at c.in_ok-end.field-0 (g.E.Engine.progress c.turn.new.body).job.path, turned.told) in
     search (rules, more)
+
+pub replay_turn-returns-in_err-replay_outside-clause-grew : goal.replay_turn-returns-in_err-replay_outside-clause-grew
+replay_turn-returns-in_err-replay_outside-clause-grew g t c =
+    on_err c.from_residual.result (ran_none (g.E.Engine.ran c.args.engine.now) (g.E.Engine.ran c.args.engine.now) refl)
+
+pub replay_turn-returns-in_err-departure-in-Differs-clause-grew : goal.replay_turn-returns-in_err-departure-in-Differs-clause-grew
+replay_turn-returns-in_err-departure-in-Differs-clause-grew g t c =
+    on_err c.from_residual-in_err-departure-in-Differs.result (ran_none (g.E.Engine.ran c.args.engine.now) (g.E.Engine.ran c.args.engine.now) refl)
