@@ -1,3 +1,3 @@
-pub mod RunLemmas
+pub mod Bounds
 pub mod PieceLemmas
 pub mod ScanLemmas
