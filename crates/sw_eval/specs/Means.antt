@@ -92,11 +92,15 @@ unfoldable pub qualified : List ℕ → Qualified → Eval Plain
 qualified site q s =
     if is_private q.name then Fails (fault C.Private q.span) else outside C.UnknownMember site (Some q.space) q.name q.span q.space_span s
 
+-- the owner of a variable is given the value
+abbrev pub put : List ℕ × List ℕ → Plain → Span → Eval (Unit {0})
+put found v at s = bind (asking (Put found.0 found.1 v) at s) (λ b. Gives (tt, b.1))
+
 -- an assignment to a variable behind a namespace: its owner is found, and then given the value
 unfoldable pub assigned : List ℕ → Qualified → Plain → Span → Eval (Unit {0})
 assigned site q v at s =
     if is_private q.name then Fails (fault C.Private q.span)
-    else bind (asking (Find site (Some q.space) K.Variable q.name) at s) (λ a. bind (target at q a.0 a.1) (λ o. bind (asking (Put o.0.0 o.0.1 v) at o.1) (λ b. Gives (tt, b.1))))
+    else bind (asking (Find site (Some q.space) K.Variable q.name) at s) (λ a. bind (target at q a.0 a.1) (λ o. put o.0 v at o.1))
 
 -- ---- expressions
 
@@ -174,9 +178,17 @@ module _ (value : List ℕ → Expr → Eval Plain) (does : Level → List ℕ �
   declaration site property e at s =
       if is_open s.css then bind (value site e s) (λ r. written property r.0 (span_of e) at r.1) else Fails (fault C.BadPlace at)
 
+  -- a variable's declaration
+  abbrev pub set_variable : Level → List ℕ → List ℕ → Expr → Eval (Unit {0})
+  set_variable level site name e s = bind (value site e s) (λ r. Gives (tt, set_by level r.1 (name, r.0)))
+
+  -- an assignment behind a namespace
+  abbrev pub assignment : List ℕ → Qualified → Expr → Span → Eval (Unit {0})
+  assignment site q e at s = bind (value site e s) (λ r. assigned site q r.0 at r.1)
+
   abbrev pub does_layer : Level → List ℕ → Statement-F Statement → Eval (Unit {0})
-  does_layer level site (Statement-F.Variable name e flags at) s = bind (value site e s) (λ r. Gives (tt, set_by level r.1 (name, r.0)))
-  does_layer level site (Statement-F.Assignment q e flags at) s = bind (value site e s) (λ r. assigned site q r.0 at r.1)
+  does_layer level site (Statement-F.Variable name e flags at) s = set_variable level site name e s
+  does_layer level site (Statement-F.Assignment q e flags at) s = assignment site q e at s
   does_layer level site (Statement-F.Declaration property e at) s = declaration site (plain property.parts) e at s
   does_layer level site (Statement-F.Rule selector xs at) s = rule level site (plain selector.parts) xs at s
   does_layer level site (Statement-F.Use url namespace config at) s = Fails (fault C.BadPlace at)

@@ -35,10 +35,11 @@ impl Model for Evaluation {
     ghost use Rattle.std.specs.Coded.{codes};
     ghost use Rattle.sw_eval.specs.Resume.{Shown, Keeps};
     ghost use Rattle.sw_tree.specs.contracts.statement.Statement as s;
+    ghost use Rattle.sw_values.specs.contracts.plain.Plain as p;
 
     ghost Value = { Shown };
 
-    ghost coded = { Prim.hlevel (codes, s.the_row.coded) };
+    ghost coded = { Prim.hlevel (codes, s.the_row.coded, p.the_row.coded) };
 
     ghost view = { λ b. record { job = record { sheet = b.sheet; config = b.config; path = b.path }; pairs = b.asked.pairs.items; started = b.started; place = b.place } };
 

@@ -23,11 +23,12 @@ pub struct Run<E: Engine> {
 impl<E: Engine> Model for Run<E> {
     ghost use Rattle.std.specs.Coded.{codes};
     ghost use Rattle.sw_tree.specs.contracts.statement.Statement as statement;
+    ghost use Rattle.sw_values.specs.contracts.plain.Plain as plain;
     ghost use Rattle.sw_record.specs.Kept.{Kept, IsKept};
 
     ghost Value = { Kept };
 
-    ghost coded = { Prim.hlevel (codes, statement.the_row.coded) };
+    ghost coded = { Prim.hlevel (codes, statement.the_row.coded, plain.the_row.coded) };
 
     ghost view = { λ run. record { sheet = run.sheet; run = record { path = run.path; text = run.text; config = run.config; seen = run.seen; end = run.end } } };
 

@@ -9,5 +9,6 @@ pub mod Products
 pub mod Saying
 pub mod Shows
 pub mod Sides
+pub mod Simple
 pub mod Told
 pub mod Within

@@ -4,7 +4,6 @@ use Rattle.std.proofs.lemmas.Bool.Decides.{nat_tests}
 use Rattle.sw_values.specs.declared.plain.Plain.{Plain}
 use Rattle.sw_values.specs.Weight.{weigh, nest, most, deepest, is_within}
 use Rattle.sw_values.specs.Shape.{IsCapped}
-use Rattle.sw_values.proofs.Capped.{split}
 
 is_le : (n m : ℕ) → n ≤ m → nat_le n m ≡ true
 is_le n m le = grind (arith, nat_tests)

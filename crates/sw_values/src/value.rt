@@ -2,7 +2,7 @@
 ghost use Rattle.std.specs.Prelude.{◌≡◌, ◌+◌, ◌<◌, ◌≤◌, ◌↔◌, ◌++◌, ◌∷◌, [], IfOk, IsErrOf, IsTrue, MatchResult, sum_by, true};
 ghost use Rattle.sw_values.specs.Weight.{weigh, nest, most, deepest, greatest_by, is_within};
 ghost use Rattle.sw_values.specs.Sizes.{pair_weight, pair_nest, named_weight, named_nest};
-ghost use Rattle.sw_values.specs.Shape.{plain_of, IsCapped, IsTooLarge};
+ghost use Rattle.sw_values.specs.Shape.{plain_of, node_of, truth_of, IsCapped, IsTooLarge};
 ghost use Rattle.sw_values.specs.declared.fault.ValueFault.TheVariants as F;
 ghost use Rattle.sw_values.specs.declared.plain.Plain.TheVariants as P;
 
@@ -10,6 +10,7 @@ mod coding;
 mod equality;
 mod inspected;
 mod maps;
+mod simple;
 mod texts;
 
 use crate::numbers::number_nesting;
@@ -150,9 +151,26 @@ impl Value {
 
     /// What the value is.
     pub fn node(&self) -> &Node
-        ensures { plain_of result.now ≡ self.now }
+        ensures plain { plain_of result.now ≡ self.now }
+        ensures node { result.now ≡ node_of self.now }
     {
         &self.node
+    }
+
+    /// Whether the value counts as true: only false and null don't. Takes no memory.
+    pub fn truth(&self) -> bool
+        ensures { result ≡ truth_of self.now }
+    {
+        match self.node() {
+            Node::Number(_) => true,
+            Node::Text { .. } => true,
+            Node::Colour(_) => true,
+            Node::List { .. } => true,
+            Node::Map(_) => true,
+            Node::Bool(truth) => *truth,
+            Node::Null => false,
+            Node::Args { .. } => true,
+        }
     }
 
     pub fn weight(&self) -> u32

@@ -27,6 +27,13 @@ impl Value {
         is_blank(true, self)
     }
 
+    /// Whether the value can be written in CSS, with quotes or without them. Takes no memory.
+    pub fn is_css(&self, quotes: bool) -> bool
+        ensures { result ≡ (shown quotes self.now).css }
+    {
+        is_css(quotes, self)
+    }
+
     /// The value's text in CSS. Without `quotes` no string in it is quoted.
     pub fn css_text(&self, alloc: Global, quotes: bool) -> Result<Name, ValueFault>
         ensures text { IfOk result (λ text. text ≡ (shown quotes self.now).text) }
@@ -34,7 +41,7 @@ impl Value {
         ensures light { IfOk result (λ text. length text < most) }
         ensures err { IfErr result (λ fault. IsTextFault (shown quotes self.now) fault) }
     {
-        if !is_css(quotes, self) {
+        if !self.is_css(quotes) {
             return Err(ValueFault::NotCss);
         }
         let out = match written(alloc, quotes, self) {
