@@ -18,7 +18,8 @@ use Rattle.sw_values.specs.declared.plain.Plain.{Plain}
 use Rattle.sw_values.specs.declared.plain.Plain.TheVariants as N
 use Rattle.sw_values.specs.Weight.{is_within, most as most_weight}
 use Rattle.sw_values.specs.Texts.{shown}
-use Rattle.sw_css_tree.specs.Output.{is_open, most as most_bytes}
+use Rattle.sw_css_tree.specs.declared.block.Line.TheVariants.{Declaration}
+use Rattle.sw_css_tree.specs.Output.{is_open, rule_opened, lined, most as most_bytes}
 use Rattle.sw_world.specs.declared.op.Op.{Op}
 use Rattle.sw_world.specs.declared.answer.Answer.{Answer}
 use Rattle.sw_world.specs.declared.answer.Answer.TheVariants.{Loaded, Refused, Owner, Callable, BuiltIn, NoNamespace, NoMember, LeftOut, Conflict, Value, Done, Hosted}
@@ -121,11 +122,11 @@ unfolding assigned asking bind
 assigned_keeps site q v at s = if_leaves (Same s) (is_private q.name) _ _ tt (λ a. target_keeps (Same s) at q a s _ (λ o. λ b. refl))
 
 lining_keeps : (property text : List ℕ) (at : Span) (s : State) → Leaves (SameTop s) (lining property text at s)
-lining_keeps property text at s = if_leaves (SameTop s) (nat_le (s.css.bytes + (length property + length text)) most_bytes) _ _ refl tt
+lining_keeps property text at s = if_leaves (SameTop s) (nat_le (lined s.css (Declaration property text)).bytes most_bytes) _ _ refl tt
 
 opening_keeps : (selectors : List ℕ) (at : Span) (s : State) → Leaves (SameTop s) (opening selectors at s)
 unfolding opening
-opening_keeps selectors at s = if_leaves (SameTop s) (nat_le (s.css.bytes + length selectors) most_bytes) _ _ refl tt
+opening_keeps selectors at s = if_leaves (SameTop s) (nat_le (rule_opened s.css selectors).bytes most_bytes) _ _ refl tt
 
 declaring_keeps : (property text : List ℕ) (at : Span) (s : State) → Leaves (SameTop s) (declaring property text at s)
 unfolding declaring

@@ -19,7 +19,7 @@ use Rattle.sw_values.specs.declared.plain.Plain.TheVariants as N
 use Rattle.sw_values.specs.Weight.{is_within, most as most_weight}
 use Rattle.sw_values.specs.Texts.{Shown, shown}
 use Rattle.sw_css_tree.specs.declared.block.Line.TheVariants.{Declaration}
-use Rattle.sw_css_tree.specs.Output.{Output, nothing, is_open, opened, declared, closed, most as most_bytes}
+use Rattle.sw_css_tree.specs.Output.{Output, nothing, is_open, rule_opened, lined, closed, most as most_bytes}
 use Rattle.sw_world.specs.declared.op.Op.{Op}
 use Rattle.sw_world.specs.declared.op.Op.TheVariants.{Load, Find, Get, Put}
 use Rattle.sw_world.specs.declared.op.How.TheVariants.{Use}
@@ -124,11 +124,14 @@ value_to (suc depth) site e s = value_one site e s
 
 -- what follows belongs to this statement; in an open rule it belongs to the rule's
 unfoldable pub numbered : ℕ → Output → Output
-numbered number out = if is_open out then out else record out { number = number }
+numbered number out = if is_open out then out else record out { statement = number }
+
+-- the output is this one now, where its bytes aren't too many
+abbrev pub output_is : Output → Span → Eval (Unit {0})
+output_is out at s = if nat_le out.bytes most_bytes then Gives (tt, record s { css = out }) else Fails (fault C.TooLarge at)
 
 unfoldable pub opening : List ℕ → Span → Eval (Unit {0})
-opening selectors at s =
-    if nat_le (s.css.bytes + length selectors) most_bytes then Gives (tt, record s { css = opened s.css selectors }) else Fails (fault C.TooLarge at)
+opening selectors at s = output_is (rule_opened s.css selectors) at s
 
 -- a text, at most as heavy as a value, of what can be written in CSS
 abbrev pub text_by : Shown → Span → Eval (List ℕ)
@@ -146,9 +149,7 @@ is_blank v = (shown true v).blank
 
 -- a line of the open rule
 abbrev pub lining : List ℕ → List ℕ → Span → Eval (Unit {0})
-lining property text at s =
-    if nat_le (s.css.bytes + (length property + length text)) most_bytes then Gives (tt, record s { css = declared s.css (Declaration property text) (length property + length text) })
-    else Fails (fault C.TooLarge at)
+lining property text at s = output_is (lined s.css (Declaration property text)) at s
 
 unfoldable pub declaring : List ℕ → List ℕ → Span → Eval (Unit {0})
 declaring property text at s = if is_open s.css then lining property text at s else Fails (fault C.BadPlace at)
@@ -178,17 +179,9 @@ module _ (value : List ℕ → Expr → Eval Plain) (does : Level → List ℕ �
   declaration site property e at s =
       if is_open s.css then bind (value site e s) (λ r. written property r.0 (span_of e) at r.1) else Fails (fault C.BadPlace at)
 
-  -- a variable's declaration
-  abbrev pub set_variable : Level → List ℕ → List ℕ → Expr → Eval (Unit {0})
-  set_variable level site name e s = bind (value site e s) (λ r. Gives (tt, set_by level r.1 (name, r.0)))
-
-  -- an assignment behind a namespace
-  abbrev pub assignment : List ℕ → Qualified → Expr → Span → Eval (Unit {0})
-  assignment site q e at s = bind (value site e s) (λ r. assigned site q r.0 at r.1)
-
   abbrev pub does_layer : Level → List ℕ → Statement-F Statement → Eval (Unit {0})
-  does_layer level site (Statement-F.Variable name e flags at) s = set_variable level site name e s
-  does_layer level site (Statement-F.Assignment q e flags at) s = assignment site q e at s
+  does_layer level site (Statement-F.Variable name e flags at) s = bind (value site e s) (λ r. Gives (tt, set_by level r.1 (name, r.0)))
+  does_layer level site (Statement-F.Assignment q e flags at) s = bind (value site e s) (λ r. assigned site q r.0 at r.1)
   does_layer level site (Statement-F.Declaration property e at) s = declaration site (plain property.parts) e at s
   does_layer level site (Statement-F.Rule selector xs at) s = rule level site (plain selector.parts) xs at s
   does_layer level site (Statement-F.Use url namespace config at) s = Fails (fault C.BadPlace at)

@@ -12,7 +12,8 @@ use Rattle.sw_values.specs.declared.plain.Plain.{Plain}
 use Rattle.sw_values.specs.declared.plain.Plain.TheVariants as N
 use Rattle.sw_values.specs.Weight.{is_within, most as most_weight}
 use Rattle.sw_values.specs.Texts.{shown}
-use Rattle.sw_css_tree.specs.Output.{is_open, most as most_bytes}
+use Rattle.sw_css_tree.specs.declared.block.Line.TheVariants.{Declaration}
+use Rattle.sw_css_tree.specs.Output.{is_open, rule_opened, lined, most as most_bytes}
 use Rattle.sw_world.specs.declared.op.Op.{Op}
 use Rattle.sw_world.specs.declared.op.Op.TheVariants.{Load}
 use Rattle.sw_world.specs.declared.op.How.TheVariants.{Use}
@@ -123,7 +124,7 @@ value_sourced zero path e seen s = tt
 value_sourced (suc depth) path e seen s = value_one_sourced path e seen s
 
 lining_sourced : (path : List ℕ) (seen : List Pair) (property text : List ℕ) (at : Span) (s : State) → Sourced path seen (lining property text at s)
-lining_sourced path seen property text at s = if_sourced path seen (nat_le (s.css.bytes + (length property + length text)) most_bytes) _ _ tt tt
+lining_sourced path seen property text at s = if_sourced path seen (nat_le (lined s.css (Declaration property text)).bytes most_bytes) _ _ tt tt
 
 declaring_sourced : (path : List ℕ) (seen : List Pair) (property text : List ℕ) (at : Span) (s : State) → Sourced path seen (declaring property text at s)
 unfolding declaring
@@ -135,7 +136,7 @@ text_sourced path seen v at s = if_sourced path seen (shown true v).css _ _ (if_
 
 opening_sourced : (path : List ℕ) (seen : List Pair) (selectors : List ℕ) (at : Span) (s : State) → Sourced path seen (opening selectors at s)
 unfolding opening
-opening_sourced path seen selectors at s = if_sourced path seen (nat_le (s.css.bytes + length selectors) most_bytes) _ _ tt tt
+opening_sourced path seen selectors at s = if_sourced path seen (nat_le (rule_opened s.css selectors).bytes most_bytes) _ _ tt tt
 
 written_sourced : (path : List ℕ) (seen : List Pair) (property : List ℕ) (v : Plain) (value_at at : Span) (s : State) → Sourced path seen (written property v value_at at s)
 unfolding written

@@ -1,7 +1,7 @@
 // Statements.
 ghost use Rattle.std.specs.Prelude.{◌≡◌, take, length};
 ghost use Rattle.sw_eval.specs.Did.{Did, IsReturn, stand};
-ghost use Rattle.sw_eval.specs.Means.{block, nested, rule, declaration, set_variable, assignment, does_one, does_to, value_to, place_of};
+ghost use Rattle.sw_eval.specs.Means.{block, nested, rule, declaration, does_one, does_to, value_to, place_of};
 ghost use Rattle.sw_eval.specs.declared.state.State.{State};
 
 use crate::asked::Asked;
@@ -11,7 +11,7 @@ use crate::stop::{Stop, fails};
 use crate::value::{assigned, plain, span_of, value};
 use std::alloc::Global;
 use sw_text::{FaultCode, Name, Span};
-use sw_tree::{Expr, Qualified, Statement};
+use sw_tree::{Expr, Statement};
 use sw_world::World;
 
 // Where a statement stands.
@@ -57,43 +57,6 @@ pub(crate) fn does<W: World>(
     )
 }
 
-// A variable's declaration.
-fn set_variable<W: World>(
-    alloc: Global,
-    inner: u32,
-    level: Level,
-    site: &Name,
-    name: &Name,
-    e: &Expr,
-    state: &mut State,
-    asked: &mut Asked,
-    world: &mut W,
-) -> Result<(), Stop>
-    ensures { Did W.gives (set_variable (value_to inner) (does_to inner) level site.now name.now e.now state.old) (stand asked.old) world.old result state.new (stand asked.new) world.new }
-{
-    let name = name.share()?;
-    let value = value(alloc, inner, site, e, state, asked, world)?;
-    set_by(level, state, name, value)
-}
-
-// An assignment behind a namespace.
-fn assignment<W: World>(
-    alloc: Global,
-    inner: u32,
-    site: &Name,
-    target: &Qualified,
-    e: &Expr,
-    span: &Span,
-    state: &mut State,
-    asked: &mut Asked,
-    world: &mut W,
-) -> Result<(), Stop>
-    ensures { Did W.gives (assignment (value_to inner) (does_to inner) site.now target.now e.now span.now state.old) (stand asked.old) world.old result state.new (stand asked.new) world.new }
-{
-    let value = value(alloc, inner, site, e, state, asked, world)?;
-    assigned(alloc, site, target, &value, span, asked, world)
-}
-
 #[cycle(walk)]
 fn does_one<W: World>(
     alloc: Global,
@@ -109,14 +72,19 @@ fn does_one<W: World>(
 {
     match statement {
         Statement::Variable { name, value: e, .. } => {
-            set_variable(alloc, inner, level, site, name, e, state, asked, world)
+            let value = value(alloc, inner, site, e, state, asked, world)?;
+            let name = name.share()?;
+            set_by(level, state, name, value)
         }
         Statement::Assignment {
             target,
             value: e,
             span,
             ..
-        } => assignment(alloc, inner, site, target, e, span, state, asked, world),
+        } => {
+            let value = value(alloc, inner, site, e, state, asked, world)?;
+            assigned(alloc, site, target, &value, span, asked, world)
+        }
         Statement::Declaration {
             property,
             value: e,

@@ -30,7 +30,7 @@ pub(crate) fn run_ended<E: Engine>(
     let sheet = sheet.share()?;
     let config = config.share()?;
     let seen = Shared::new(alloc, seen)?;
-    Ok(Run::new(path, text, sheet, config, seen, end))
+    Run::new(alloc, path, text, sheet, config, seen, end)
 }
 
 /// The runs that ended in a compile, kept ones and new ones, and the modules whose bodies ran, each with its cause; both in the order in which the bodies ended.

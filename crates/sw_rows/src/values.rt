@@ -71,10 +71,7 @@ fn pairs_of(value: &Value) -> Result<&Pairs, Refusal> {
 }
 
 fn css(alloc: Global, value: &Value, quotes: bool) -> Result<String, Refusal> {
-    Ok(String::from_str(
-        alloc,
-        value.css_text(alloc, quotes)?.as_str(),
-    )?)
+    Ok(String::from_str(alloc, value.css_text(alloc, quotes)?.as_str())?)
 }
 
 /// A value's text for a reader.

@@ -17,13 +17,28 @@ pub does-returns : goal.does-returns
 does-returns g t c =
     rw (one_level_does c.args.depth c.args.level c.args.site.now c.args.statement.now c.args.state.now (omega arith)) c.does_one.ensures
 
-pub does_one-returns-in-Variable : goal.does_one-returns-in-Variable
+pub does_one-returns-in_err-value-in-Variable : goal.does_one-returns-in_err-value-in-Variable
 unfolding does_one S.out-Statement denote.Hole.Carrier.out
-does_one-returns-in-Variable g t c = rw c.in-Variable.is c.set_variable.ensures
+does_one-returns-in_err-value-in-Variable g t c = rw c.in-Variable.is (did_err _ c.in_err-value-in-Variable.ensures c.from_residual.ensures)
 
-pub does_one-returns-in-Assignment : goal.does_one-returns-in-Assignment
+pub does_one-returns-in_err-name-in-Variable : goal.does_one-returns-in_err-name-in-Variable
 unfolding does_one S.out-Statement denote.Hole.Carrier.out
-does_one-returns-in-Assignment g t c = rw c.in-Assignment.is c.assignment.ensures
+does_one-returns-in_err-name-in-Variable g t c =
+    rw c.in-Variable.is (did_then _ c.in_ok-value-in-Variable.ensures (no_memory _ c.value.new.state _ _ _ c.from_residual-in_err-name-in-Variable.ensures))
+
+pub does_one-returns-in_ok-name-in-Variable : goal.does_one-returns-in_ok-name-in-Variable
+unfolding does_one S.out-Statement denote.Hole.Carrier.out
+does_one-returns-in_ok-name-in-Variable g t c =
+    rw c.in-Variable.is (did_then _ c.in_ok-value-in-Variable.ensures (did_plain _ _ _ _ _ (rw c.in_ok-name-in-Variable.ensures at c.set_by.ensures)))
+
+pub does_one-returns-in_err-value-in-Assignment : goal.does_one-returns-in_err-value-in-Assignment
+unfolding does_one S.out-Statement denote.Hole.Carrier.out
+does_one-returns-in_err-value-in-Assignment g t c = rw c.in-Assignment.is (did_err _ c.in_err-value-in-Assignment.ensures c.from_residual-in_err-value-in-Assignment.ensures)
+
+pub does_one-returns-in_ok-value-in-Assignment : goal.does_one-returns-in_ok-value-in-Assignment
+unfolding does_one S.out-Statement denote.Hole.Carrier.out
+does_one-returns-in_ok-value-in-Assignment g t c =
+    rw c.in-Assignment.is (did_then _ c.in_ok-value-in-Assignment.ensures (c.assigned.ensures c.value-in-Assignment.new.state))
 
 pub does_one-returns-in-Declaration : goal.does_one-returns-in-Declaration
 unfolding does_one S.out-Statement denote.Hole.Carrier.out
