@@ -1,0 +1,4 @@
+mod Examples
+pub mod Joins
+pub mod Groups
+pub mod Indents

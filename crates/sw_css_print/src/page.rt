@@ -1,133 +1,119 @@
-// Writing rule by rule.
-ghost use Rattle.std.specs.Prelude.{◌≡◌, ◌++◌, IsTrue, ◌↔◌, IfOk, OnOk};
-ghost use Rattle.sw_css_print.specs.Page.{Page, charset, rule_bytes, line_bytes, lines_bytes, is_written, gap, block_put, blocks_put, trees_put, print, past_ascii};
+// The page of several outputs, from their parts.
+ghost use Rattle.std.specs.Prelude.{◌≡◌, ◌++◌, List, map, IfOk, OnOk};
+ghost use Rattle.std.specs.List.{list_any, flat_map};
+ghost use Rattle.sw_css_tree.specs.Output.{Output};
+ghost use Rattle.sw_css_print.specs.Page.{gap, charset, print};
+ghost use Rattle.sw_css_print.specs.Parts.{print_one, join, body_joined, rests_after, after_imports};
 
+use crate::Printed;
+use crate::group::put_gap;
+use crate::part::print_one;
 use std::alloc::Global;
-use sw_css_tree::{Block, CssTree, Line};
+use sw_css_tree::CssTree;
 use sw_text::{Memory, Shared};
 
-const CHARSET: &[u8] = b"@charset \"UTF-8\";\n";
-
-/// A top-level statement: the place of its module among the others, and its number there.
-#[derive(Clone, Copy)]
-struct Group {
-    place: usize,
-    number: usize,
-}
-
-/// The bytes of these modules' outputs, in order. A rule without lines, or with the empty text as its selectors, isn't written; a blank line stands between what different top-level statements gave.
+/// The bytes of these outputs, in order: the imports of all, then the rest of all.
 pub fn print(alloc: Global, trees: &[Shared<CssTree>]) -> Result<Vec<u8>, Memory>
     ensures { IfOk result (λ bytes. bytes.items ≡ print trees.now) }
 {
+    let parts = parts(alloc, trees)?;
+    join(alloc, parts.as_slice())
+}
+
+fn parts(alloc: Global, trees: &[Shared<CssTree>]) -> Result<Vec<Shared<Printed>>, Memory>
+    ensures { IfOk result (λ parts. parts.items ≡ map print_one trees.now) }
+{
+    let mut parts = Vec::new(alloc);
+    for tree in trees {
+        let printed = print_one(alloc, tree.get())?;
+        parts.push(Shared::new(alloc, printed)?)?;
+    }
+    Ok(parts)
+}
+
+/// The bytes of the outputs of which these are the parts. Each part is copied once.
+pub fn join(alloc: Global, parts: &[Shared<Printed>]) -> Result<Vec<u8>, Memory>
+    ensures bytes { IfOk result (λ bytes. bytes.items ≡ join parts.now) }
+    ensures page { IfOk result (λ bytes. (trees : List Output) → parts.now ≡ map print_one trees → bytes.items ≡ print trees) }
+{
     let mut out = Vec::new(alloc);
-    let mut last = None;
-    for place in 0..trees.len() {
-        put_blocks(&mut out, &mut last, place, trees[place].get().blocks())?;
+    out.reserve(size(parts))?;
+    put_page(&mut out, parts)?;
+    Ok(out)
+}
+
+// No less than the bytes of the parts, with a blank line before each.
+fn size(parts: &[Shared<Printed>]) -> usize {
+    let mut size = 0usize;
+    for part in parts {
+        let part = part.get();
+        size = size
+            .saturating_add(part.imports.len())
+            .saturating_add(part.rest.len())
+            .saturating_add(1);
     }
-    charset_put(alloc, out)
+    size
 }
 
-// Puts the line that names the encoding in front, where a character past ASCII is written.
-fn charset_put(alloc: Global, out: Vec<u8>) -> Result<Vec<u8>, Memory>
-    ensures { IfOk result (λ bytes. bytes.items ≡ charset out.items) }
+fn put_page(out: &mut Vec<u8>, parts: &[Shared<Printed>]) -> Result<(), Memory>
+    ensures { OnOk result (out.new.items ≡ out.old.items ++ join parts.now) }
 {
-    if !past_ascii(out.as_slice()) {
-        return Ok(out);
-    }
-    let mut all = Vec::from_slice(alloc, CHARSET)?;
-    all.extend_from_slice(out.as_slice())?;
-    Ok(all)
+    put_charset(out, is_wide(parts))?;
+    put_body(out, parts)
 }
 
-fn past_ascii(bytes: &[u8]) -> bool
-    ensures { result ≡ past_ascii bytes.now }
+fn is_wide(parts: &[Shared<Printed>]) -> bool
+    ensures { result ≡ list_any (λ part. part.wide) parts.now }
 {
-    bytes.iter().any(|b| *b >= 128)
+    parts.iter().any(|part| part.get().wide)
 }
 
-fn put_blocks(
-    out: &mut Vec<u8>,
-    last: &mut Option<Group>,
-    place: usize,
-    blocks: &[Block],
-) -> Result<(), Memory>
-    ensures { OnOk result (record { bytes = out.new.items; last = last.new } ≡ blocks_put place (record { bytes = out.old.items; last = last.old }) blocks.now) }
+// Puts the line that names the encoding, where a character past ASCII is written.
+fn put_charset(out: &mut Vec<u8>, wide: bool) -> Result<(), Memory>
+    ensures { OnOk result (out.new.items ≡ out.old.items ++ charset wide) }
 {
-    for block in blocks {
-        put_block(out, last, place, block)?;
+    if wide {
+        out.extend_from_slice(b"@charset \"UTF-8\";\n")?;
     }
     Ok(())
 }
 
-fn put_block(
-    out: &mut Vec<u8>,
-    last: &mut Option<Group>,
-    place: usize,
-    block: &Block,
-) -> Result<(), Memory>
-    ensures { OnOk result (record { bytes = out.new.items; last = last.new } ≡ block_put place (record { bytes = out.old.items; last = last.old }) block.now) }
+fn put_body(out: &mut Vec<u8>, parts: &[Shared<Printed>]) -> Result<(), Memory>
+    ensures { OnOk result (out.new.items ≡ out.old.items ++ body_joined parts.now) }
 {
-    if !is_written(block) {
-        return Ok(());
+    let before = out.as_slice().len();
+    put_imports(out, parts)?;
+    let last = after_imports(out.as_slice().len() - before);
+    put_rests(out, last, parts)
+}
+
+// Imports aren't a comment.
+fn after_imports(len: usize) -> Option<bool>
+    ensures { result ≡ after_imports len }
+{
+    if len > 0 { Some(false) } else { None }
+}
+
+fn put_imports(out: &mut Vec<u8>, parts: &[Shared<Printed>]) -> Result<(), Memory>
+    ensures { OnOk result (out.new.items ≡ out.old.items ++ flat_map (λ part. part.imports) parts.now) }
+{
+    for part in parts {
+        out.extend_from_slice(part.get().imports.as_slice())?;
     }
-    let group = Group {
-        place,
-        number: block.number,
-    };
-    put_gap(out, *last, group)?;
-    put_rule(out, block)?;
-    *last = Some(group);
     Ok(())
 }
 
-fn is_written(block: &Block) -> bool
-    ensures { result ≡ is_written block.now }
+fn put_rests(out: &mut Vec<u8>, last: Option<bool>, parts: &[Shared<Printed>]) -> Result<(), Memory>
+    ensures { OnOk result (out.new.items ≡ out.old.items ++ rests_after last parts.now) }
 {
-    !block.selectors.as_str().is_empty() && !block.lines.as_slice().is_empty()
-}
-
-// A blank line between two top-level statements.
-fn put_gap(out: &mut Vec<u8>, last: Option<Group>, group: Group) -> Result<(), Memory>
-    ensures { OnOk result (out.new.items ≡ out.old.items ++ gap last group) }
-{
-    if let Some(before) = last {
-        if before.place != group.place || before.number != group.number {
-            out.push(b'\n')?;
+    let mut last = last;
+    for part in parts {
+        let part = part.get();
+        if !part.rest.is_empty() {
+            put_gap(out, last, part.opens)?;
+            out.extend_from_slice(part.rest.as_slice())?;
+            last = Some(part.shuts);
         }
     }
     Ok(())
-}
-
-fn put_rule(out: &mut Vec<u8>, block: &Block) -> Result<(), Memory>
-    ensures { OnOk result (out.new.items ≡ out.old.items ++ rule_bytes block.now) }
-{
-    out.extend_from_slice(block.selectors.as_str().as_bytes())?;
-    out.extend_from_slice(b" {\n")?;
-    put_lines(out, block.lines.as_slice())?;
-    out.extend_from_slice(b"}\n")?;
-    Ok(())
-}
-
-fn put_lines(out: &mut Vec<u8>, lines: &[Line]) -> Result<(), Memory>
-    ensures { OnOk result (out.new.items ≡ out.old.items ++ lines_bytes lines.now) }
-{
-    for line in lines {
-        put_line(out, line)?;
-    }
-    Ok(())
-}
-
-fn put_line(out: &mut Vec<u8>, line: &Line) -> Result<(), Memory>
-    ensures { OnOk result (out.new.items ≡ out.old.items ++ line_bytes line.now) }
-{
-    match line {
-        Line::Declaration { property, value } => {
-            out.extend_from_slice(b"  ")?;
-            out.extend_from_slice(property.as_str().as_bytes())?;
-            out.extend_from_slice(b": ")?;
-            out.extend_from_slice(value.as_str().as_bytes())?;
-            out.extend_from_slice(b";\n")?;
-            Ok(())
-        }
-    }
 }

@@ -3,7 +3,6 @@ pub mod Loops
 pub mod Places
 pub mod Opens
 pub mod Depth
-pub mod Outputs
 pub mod Weighs
 pub mod Tops
 pub mod Turns

@@ -2,7 +2,7 @@
 use Rattle.std.proofs.Common.{◌≡◌, ℕ, zero, suc, ◌+◌, ◌<◌, ◌≤◌, List, [], ◌∷◌, length, drop, get_or, Result, Ok, Err, refl, sym, ◌∙◌, ap, subst, add-one, arith}
 use Rattle.std.proofs.Math.Seq.{drop-cons}
 use Rattle.std.specs.Prelude.{IsErr, IsErrAnd}
-use Rattle.sw_values.specs.declared.node.Node.{Node}
+use Rattle.sw_values.specs.declared.plain.Plain.{Plain}
 use Rattle.sw_tree.specs.declared.expr.Expr.{Expr}
 use Rattle.sw_tree.specs.declared.statement.Statement.{Statement}
 use Rattle.sw_world.specs.declared.op.Op.{Op}
@@ -26,7 +26,7 @@ drop_all [] (suc i) le = refl
 drop_all (x ∷ xs) zero le = absurd (omega arith)
 drop_all (x ∷ xs) (suc i) le = drop_all xs i (omega arith)
 
-module _ {W : Type 0} {gives : W → Op → Answer → W → Type 0} (value : List ℕ → Expr → Eval Node) (does : Level → List ℕ → Statement → Eval (Unit {0})) where
+module _ {W : Type 0} {gives : W → Op → Answer → W → Type 0} (value : List ℕ → Expr → Eval Plain) (does : Level → List ℕ → Statement → Eval (Unit {0})) where
   block_open : {T : Talk (Unit {0} × State)} {z a : Stand} {q w : W} (site : List ℕ) (xs : List Statement) (i : ℕ) (y : Statement) (s : State) → i < length xs → y ≡ get_or xs i y
       → Ran gives T z q (block value does site (drop i xs) s) a w → Ran gives T z q (bind (does Block site y s) (λ r. block value does site (drop (i + 1) xs) r.1)) a w
   block_open {T = T} {z = z} {a = a} {q = q} {w = w} site xs i y s lt is on = subst (λ (l : List Statement). Ran gives T z q (block value does site l s) a w) (next_item xs i y lt is) on

@@ -14,11 +14,12 @@ use Rattle.sw_tree.specs.declared.expr.Expr.TheVariants as E
 use Rattle.sw_tree.specs.declared.statement.Statement.{Statement, out-Statement}
 use Rattle.sw_tree.specs.declared.statement.Statement.TheOpen.{Statement-F}
 use Rattle.sw_tree.specs.Globals.{declared, declared_by, joined, globals_after, globals}
-use Rattle.sw_values.specs.declared.node.Node.{Node}
-use Rattle.sw_values.specs.declared.node.Node.TheVariants as N
-use Rattle.sw_values.specs.Weight.{weigh, most as most_weight}
-use Rattle.sw_values.specs.Css_text.{css_text}
-use Rattle.sw_css_tree.specs.Output.{is_open, most as most_bytes}
+use Rattle.sw_values.specs.declared.plain.Plain.{Plain}
+use Rattle.sw_values.specs.declared.plain.Plain.TheVariants as N
+use Rattle.sw_values.specs.Weight.{is_within, most as most_weight}
+use Rattle.sw_values.specs.Texts.{shown}
+use Rattle.sw_css_tree.specs.declared.block.Line.TheVariants.{Declaration}
+use Rattle.sw_css_tree.specs.Output.{is_open, rule_opened, lined, most as most_bytes}
 use Rattle.sw_world.specs.declared.op.Op.{Op}
 use Rattle.sw_world.specs.declared.answer.Answer.{Answer}
 use Rattle.sw_world.specs.declared.answer.Answer.TheVariants.{Loaded, Refused, Owner, Callable, BuiltIn, NoNamespace, NoMember, LeftOut, Conflict, Value, Done, Hosted}
@@ -97,13 +98,13 @@ outside_keeps : (unknown : FaultCode) (site : List ℕ) (space : Option (List �
 unfolding outside asking bind
 outside_keeps unknown site space name at space_at s = λ a. owner_keeps (Same s) unknown at space_at a s _ (λ o. λ b. got_keeps at b s)
 
-or_keeps : (site name : List ℕ) (at : Span) (own_value : Option Node) (s : State) → Leaves (Same s) (or_outside site name at own_value s)
+or_keeps : (site name : List ℕ) (at : Span) (own_value : Option Plain) (s : State) → Leaves (Same s) (or_outside site name at own_value s)
 or_keeps site name at (Some v) s = refl
 or_keeps site name at None s = outside_keeps C.UnknownVariable site None name at at s
 
-weighed_keeps : (node : Node) (at : Span) (s : State) → Leaves (Same s) (weighed node at s)
+weighed_keeps : (node : Plain) (at : Span) (s : State) → Leaves (Same s) (weighed node at s)
 unfolding weighed
-weighed_keeps node at s = if_leaves (Same s) (nat_le (weigh node) most_weight) _ _ refl tt
+weighed_keeps node at s = if_leaves (Same s) (is_within node) _ _ refl tt
 
 value_one_keeps : (site : List ℕ) (e : Expr) (s : State) → Leaves (Same s) (value_one site e s)
 unfolding variable qualified
@@ -116,24 +117,24 @@ unfolding value_to
 value_keeps zero site e s = tt
 value_keeps (suc depth) site e s = value_one_keeps site e s
 
-assigned_keeps : (site : List ℕ) (q : Qualified) (v : Node) (at : Span) (s : State) → Leaves (Same s) (assigned site q v at s)
+assigned_keeps : (site : List ℕ) (q : Qualified) (v : Plain) (at : Span) (s : State) → Leaves (Same s) (assigned site q v at s)
 unfolding assigned asking bind
 assigned_keeps site q v at s = if_leaves (Same s) (is_private q.name) _ _ tt (λ a. target_keeps (Same s) at q a s _ (λ o. λ b. refl))
 
 lining_keeps : (property text : List ℕ) (at : Span) (s : State) → Leaves (SameTop s) (lining property text at s)
-lining_keeps property text at s = if_leaves (SameTop s) (nat_le (s.css.bytes + (length property + length text)) most_bytes) _ _ refl tt
+lining_keeps property text at s = if_leaves (SameTop s) (nat_le (lined s.css (Declaration property text)).bytes most_bytes) _ _ refl tt
 
 opening_keeps : (selectors : List ℕ) (at : Span) (s : State) → Leaves (SameTop s) (opening selectors at s)
 unfolding opening
-opening_keeps selectors at s = if_leaves (SameTop s) (nat_le (s.css.bytes + length selectors) most_bytes) _ _ refl tt
+opening_keeps selectors at s = if_leaves (SameTop s) (nat_le (rule_opened s.css selectors).bytes most_bytes) _ _ refl tt
 
 declaring_keeps : (property text : List ℕ) (at : Span) (s : State) → Leaves (SameTop s) (declaring property text at s)
 unfolding declaring
 declaring_keeps property text at s = if_leaves (SameTop s) (is_open s.css) _ _ (lining_keeps property text at s) tt
 
-text_keeps : (v : Node) (at : Span) (s : State) → Leaves (Same s) (text_of v at s)
+text_keeps : (v : Plain) (at : Span) (s : State) → Leaves (Same s) (text_of v at s)
 unfolding text_of
-text_keeps v at s = if_leaves (Same s) (nat_lt (length (css_text v true)) most_weight) _ _ refl tt
+text_keeps v at s = if_leaves (Same s) (shown true v).css _ _ (if_leaves (Same s) (nat_lt (length (shown true v).text) most_weight) _ _ refl tt) tt
 
 top_of : (s u : State) → u ≡ s → u.top ≡ s.top
 top_of s u e = ap (λ (v : State). v.top) e
@@ -144,12 +145,12 @@ moved s u (Gives r) e l = l ∙ e
 moved s u (Fails fault) e l = tt
 moved s u (Asking op at k) e l = λ a. moved s u (k a) e (l a)
 
-written_keeps : (property : List ℕ) (v : Node) (value_at at : Span) (s : State) → Leaves (SameTop s) (written property v value_at at s)
+written_keeps : (property : List ℕ) (v : Plain) (value_at at : Span) (s : State) → Leaves (SameTop s) (written property v value_at at s)
 unfolding written
 written_keeps property v value_at at s =
     if_leaves (SameTop s) (is_blank v) _ _ refl (bind_leaves (Same s) (SameTop s) _ _ (text_keeps v value_at s) (λ t e. moved s t.1 _ (top_of s t.1 e) (declaring_keeps property t.0 at t.1)))
 
-module _ (value : List ℕ → Expr → Eval Node) (does : Level → List ℕ → Statement → Eval (Unit {0})) (site : List ℕ)
+module _ (value : List ℕ → Expr → Eval Plain) (does : Level → List ℕ → Statement → Eval (Unit {0})) (site : List ℕ)
     (value_same : (e : Expr) (s : State) → Leaves (Same s) (value site e s)) (does_same : (x : Statement) (s : State) → Leaves (SameTop s) (does Block site x s)) where
   block_keeps : (xs : List Statement) (s : State) → Leaves (SameTop s) (block value does site xs s)
   block_keeps [] s = refl

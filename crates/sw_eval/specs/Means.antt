@@ -5,7 +5,7 @@ use Rattle.sw_text.specs.declared.fault.FaultCode.{FaultCode}
 use Rattle.sw_text.specs.declared.fault.FaultCode.TheVariants as C
 use Rattle.sw_text.specs.declared.place.Span.{Span}
 use Rattle.sw_tree.specs.declared.expr.Parts.{Parts}
-use Rattle.sw_tree.specs.declared.expr.Parts.TheVariants.{Plain}
+use Rattle.sw_tree.specs.declared.expr.Parts.TheVariants as parts
 use Rattle.sw_tree.specs.declared.expr.Qualified.{Qualified}
 use Rattle.sw_tree.specs.declared.expr.Expr.{Expr}
 use Rattle.sw_tree.specs.declared.expr.Expr.TheVariants as E
@@ -14,12 +14,12 @@ use Rattle.sw_tree.specs.declared.statement.Namespace.TheVariants.{Default, Writ
 use Rattle.sw_tree.specs.declared.statement.Statement.{Statement, out-Statement}
 use Rattle.sw_tree.specs.declared.statement.Statement.TheOpen.{Statement-F}
 use Rattle.sw_tree.specs.declared.callable.Kind.TheVariants as K
-use Rattle.sw_values.specs.declared.node.Node.{Node}
-use Rattle.sw_values.specs.declared.node.Node.TheVariants as N
-use Rattle.sw_values.specs.Weight.{weigh, most as most_weight}
-use Rattle.sw_values.specs.Css_text.{css_text}
+use Rattle.sw_values.specs.declared.plain.Plain.{Plain}
+use Rattle.sw_values.specs.declared.plain.Plain.TheVariants as N
+use Rattle.sw_values.specs.Weight.{is_within, most as most_weight}
+use Rattle.sw_values.specs.Texts.{Shown, shown}
 use Rattle.sw_css_tree.specs.declared.block.Line.TheVariants.{Declaration}
-use Rattle.sw_css_tree.specs.Output.{Output, nothing, is_open, opened, declared, closed, most as most_bytes}
+use Rattle.sw_css_tree.specs.Output.{Output, nothing, is_open, rule_opened, lined, closed, most as most_bytes}
 use Rattle.sw_world.specs.declared.op.Op.{Op}
 use Rattle.sw_world.specs.declared.op.Op.TheVariants.{Load, Find, Get, Put}
 use Rattle.sw_world.specs.declared.op.How.TheVariants.{Use}
@@ -44,11 +44,11 @@ unfoldable pub asking : Op → Span → Eval Answer
 asking op at s = Asking op at (λ a. Gives (a, s))
 
 abbrev pub plain : Parts → List ℕ
-plain (Plain text) = text
+plain (parts.Plain text) = text
 
--- the value of a node, which stands here
-unfoldable pub weighed : Node → Span → Eval Node
-weighed node at s = if nat_le (weigh node) most_weight then Gives (node, s) else Fails (fault C.TooLarge at)
+-- a value, which stands here, unless it passes a limit
+unfoldable pub weighed : Plain → Span → Eval Plain
+weighed value at s = if is_within value then Gives (value, s) else Fails (fault C.TooLarge at)
 
 -- ---- variables of other modules
 
@@ -65,21 +65,21 @@ abbrev pub target : Span → Qualified → Answer → Eval (List ℕ × List ℕ
 target at q (BuiltIn home name) s = Fails (fault C.NotConfigurable at)
 target at q answer s = owner C.UnknownMember q.span q.space_span answer s
 
-abbrev pub got : Span → Answer → Eval Node
+abbrev pub got : Span → Answer → Eval Plain
 got at (Value v) s = Gives (v, s)
 got at _ s = Fails (fault C.UnknownVariable at)
 
 -- what another module's variable holds: its owner is found, and then its value got
-unfoldable pub outside : FaultCode → List ℕ → Option (List ℕ) → List ℕ → Span → Span → Eval Node
+unfoldable pub outside : FaultCode → List ℕ → Option (List ℕ) → List ℕ → Span → Span → Eval Plain
 outside unknown site space name at space_at s =
     bind (asking (Find site space K.Variable name) at s) (λ a. bind (owner unknown at space_at a.0 a.1) (λ o. bind (asking (Get o.0.0 o.0.1) at o.1) (λ b. got at b.0 b.1)))
 
-abbrev pub or_outside : List ℕ → List ℕ → Span → Option Node → Eval Node
+abbrev pub or_outside : List ℕ → List ℕ → Span → Option Plain → Eval Plain
 or_outside site name at (Some v) s = Gives (v, s)
 or_outside site name at None s = outside C.UnknownVariable site None name at at s
 
 -- a variable without a namespace
-unfoldable pub variable : List ℕ → List ℕ → Span → Eval Node
+unfoldable pub variable : List ℕ → List ℕ → Span → Eval Plain
 variable site name at s = or_outside site name at (own s name) s
 
 -- a member whose name begins with `-` or `_` is private
@@ -88,15 +88,19 @@ is_private [] = false
 is_private (c ∷ cs) = (c == 45) || (c == 95)
 
 -- a variable behind a namespace
-unfoldable pub qualified : List ℕ → Qualified → Eval Node
+unfoldable pub qualified : List ℕ → Qualified → Eval Plain
 qualified site q s =
     if is_private q.name then Fails (fault C.Private q.span) else outside C.UnknownMember site (Some q.space) q.name q.span q.space_span s
 
+-- the owner of a variable is given the value
+abbrev pub put : List ℕ × List ℕ → Plain → Span → Eval (Unit {0})
+put found v at s = bind (asking (Put found.0 found.1 v) at s) (λ b. Gives (tt, b.1))
+
 -- an assignment to a variable behind a namespace: its owner is found, and then given the value
-unfoldable pub assigned : List ℕ → Qualified → Node → Span → Eval (Unit {0})
+unfoldable pub assigned : List ℕ → Qualified → Plain → Span → Eval (Unit {0})
 assigned site q v at s =
     if is_private q.name then Fails (fault C.Private q.span)
-    else bind (asking (Find site (Some q.space) K.Variable q.name) at s) (λ a. bind (target at q a.0 a.1) (λ o. bind (asking (Put o.0.0 o.0.1 v) at o.1) (λ b. Gives (tt, b.1))))
+    else bind (asking (Find site (Some q.space) K.Variable q.name) at s) (λ a. bind (target at q a.0 a.1) (λ o. put o.0 v at o.1))
 
 -- ---- expressions
 
@@ -106,13 +110,13 @@ span_of (E.Variable name at) = at
 span_of (E.Qualified q) = q.span
 
 -- one level of an expression, in code of this module
-abbrev pub value_one : List ℕ → Expr → Eval Node
+abbrev pub value_one : List ℕ → Expr → Eval Plain
 value_one site (E.Word text) s = weighed (N.Text (plain text.parts) false) text.span s
 value_one site (E.Variable name at) s = variable site name at s
 value_one site (E.Qualified q) s = qualified site q s
 
 -- nested no deeper than the number
-unfoldable pub value_to : ℕ → List ℕ → Expr → Eval Node
+unfoldable pub value_to : ℕ → List ℕ → Expr → Eval Plain
 value_to zero site e s = Fails (fault C.Depth (span_of e))
 value_to (suc depth) site e s = value_one site e s
 
@@ -120,40 +124,43 @@ value_to (suc depth) site e s = value_one site e s
 
 -- what follows belongs to this statement; in an open rule it belongs to the rule's
 unfoldable pub numbered : ℕ → Output → Output
-numbered number out = if is_open out then out else record out { number = number }
+numbered number out = if is_open out then out else record out { statement = number }
+
+-- the output is this one now, where its bytes aren't too many
+abbrev pub output_is : Output → Span → Eval (Unit {0})
+output_is out at s = if nat_le out.bytes most_bytes then Gives (tt, record s { css = out }) else Fails (fault C.TooLarge at)
 
 unfoldable pub opening : List ℕ → Span → Eval (Unit {0})
-opening selectors at s =
-    if nat_le (s.css.bytes + length selectors) most_bytes then Gives (tt, record s { css = opened s.css selectors }) else Fails (fault C.TooLarge at)
+opening selectors at s = output_is (rule_opened s.css selectors) at s
 
--- the value's text, at most as heavy as a value
-unfoldable pub text_of : Node → Span → Eval (List ℕ)
-text_of v at s = if nat_lt (length (css_text v true)) most_weight then Gives (css_text v true, s) else Fails (fault C.TooLarge at)
+-- a text, at most as heavy as a value, of what can be written in CSS
+abbrev pub text_by : Shown → Span → Eval (List ℕ)
+text_by value at s =
+    if value.css then (if nat_lt (length value.text) most_weight then Gives (value.text, s) else Fails (fault C.TooLarge at))
+    else Fails (fault C.NotCss at)
 
--- an empty string without quotes isn't written
-abbrev pub is_blank_text : List ℕ → Bool → Bool
-is_blank_text [] false = true
-is_blank_text _ _ = false
+-- the value's text
+unfoldable pub text_of : Plain → Span → Eval (List ℕ)
+text_of v at s = text_by (shown true v) at s
 
-abbrev pub is_blank : Node → Bool
-is_blank (N.Text text quoted) = is_blank_text text quoted
+-- null and an empty string without quotes aren't written
+abbrev pub is_blank : Plain → Bool
+is_blank v = (shown true v).blank
 
 -- a line of the open rule
 abbrev pub lining : List ℕ → List ℕ → Span → Eval (Unit {0})
-lining property text at s =
-    if nat_le (s.css.bytes + (length property + length text)) most_bytes then Gives (tt, record s { css = declared s.css (Declaration property text) (length property + length text) })
-    else Fails (fault C.TooLarge at)
+lining property text at s = output_is (lined s.css (Declaration property text)) at s
 
 unfoldable pub declaring : List ℕ → List ℕ → Span → Eval (Unit {0})
 declaring property text at s = if is_open s.css then lining property text at s else Fails (fault C.BadPlace at)
 
 -- a declaration of this value, whose expression stands at the first place and whose statement at the second
-unfoldable pub written : List ℕ → Node → Span → Span → Eval (Unit {0})
+unfoldable pub written : List ℕ → Plain → Span → Span → Eval (Unit {0})
 written property v value_at at s = if is_blank v then Gives (tt, s) else bind (text_of v value_at s) (λ t. declaring property t.0 at t.1)
 
 -- ---- statements
 
-module _ (value : List ℕ → Expr → Eval Node) (does : Level → List ℕ → Statement → Eval (Unit {0})) where
+module _ (value : List ℕ → Expr → Eval Plain) (does : Level → List ℕ → Statement → Eval (Unit {0})) where
   abbrev pub block : List ℕ → List Statement → Eval (Unit {0})
   block site [] s = Gives (tt, s)
   block site (x ∷ xs) s = bind (does Block site x s) (λ r. block site xs r.1)

@@ -8,11 +8,12 @@ use Rattle.sw_tree.specs.declared.expr.Expr.{Expr}
 use Rattle.sw_tree.specs.declared.expr.Expr.TheVariants as E
 use Rattle.sw_tree.specs.declared.statement.Statement.{Statement, out-Statement}
 use Rattle.sw_tree.specs.declared.statement.Statement.TheOpen.{Statement-F}
-use Rattle.sw_values.specs.declared.node.Node.{Node}
-use Rattle.sw_values.specs.declared.node.Node.TheVariants as N
-use Rattle.sw_values.specs.Weight.{weigh, most as most_weight}
-use Rattle.sw_values.specs.Css_text.{css_text}
-use Rattle.sw_css_tree.specs.Output.{is_open, most as most_bytes}
+use Rattle.sw_values.specs.declared.plain.Plain.{Plain}
+use Rattle.sw_values.specs.declared.plain.Plain.TheVariants as N
+use Rattle.sw_values.specs.Weight.{is_within, most as most_weight}
+use Rattle.sw_values.specs.Texts.{shown}
+use Rattle.sw_css_tree.specs.declared.block.Line.TheVariants.{Declaration}
+use Rattle.sw_css_tree.specs.Output.{is_open, rule_opened, lined, most as most_bytes}
 use Rattle.sw_world.specs.declared.op.Op.{Op}
 use Rattle.sw_world.specs.declared.op.Op.TheVariants.{Load}
 use Rattle.sw_world.specs.declared.op.How.TheVariants.{Use}
@@ -75,7 +76,7 @@ unfolding outside asking bind
 outside_sourced path seen unknown space name at space_at s =
     (inl refl, λ a fits. owner_sourced path seen unknown at space_at _ a s _ (λ o known. (known, λ b fits_b. got_sourced path _ at b s)))
 
-or_sourced : (path : List ℕ) (seen : List Pair) (name : List ℕ) (at : Span) (own_value : Option Node) (s : State) → Sourced path seen (or_outside path name at own_value s)
+or_sourced : (path : List ℕ) (seen : List Pair) (name : List ℕ) (at : Span) (own_value : Option Plain) (s : State) → Sourced path seen (or_outside path name at own_value s)
 or_sourced path seen name at (Some v) s = tt
 or_sourced path seen name at None s = outside_sourced path seen C.UnknownVariable None name at at s
 
@@ -103,14 +104,14 @@ target_sourced path seen at q op (Value v) s f sf = tt
 target_sourced path seen at q op Done s f sf = tt
 target_sourced path seen at q op (Hosted v) s f sf = tt
 
-assigned_sourced : (path : List ℕ) (seen : List Pair) (q : Qualified) (v : Node) (at : Span) (s : State) → Sourced path seen (assigned path q v at s)
+assigned_sourced : (path : List ℕ) (seen : List Pair) (q : Qualified) (v : Plain) (at : Span) (s : State) → Sourced path seen (assigned path q v at s)
 unfolding assigned asking bind
 assigned_sourced path seen q v at s =
     if_sourced path seen (is_private q.name) _ _ tt (inl refl, λ a fits. target_sourced path seen at q _ a s _ (λ o known. (known, λ b fits_b. tt)))
 
-weighed_sourced : (path : List ℕ) (seen : List Pair) (node : Node) (at : Span) (s : State) → Sourced path seen (weighed node at s)
+weighed_sourced : (path : List ℕ) (seen : List Pair) (node : Plain) (at : Span) (s : State) → Sourced path seen (weighed node at s)
 unfolding weighed
-weighed_sourced path seen node at s = if_sourced path seen (nat_le (weigh node) most_weight) _ _ tt tt
+weighed_sourced path seen node at s = if_sourced path seen (is_within node) _ _ tt tt
 
 value_one_sourced : (path : List ℕ) (e : Expr) (seen : List Pair) (s : State) → Sourced path seen (value_one path e s)
 value_one_sourced path (E.Word text) seen s = weighed_sourced path seen (N.Text (plain text.parts) false) text.span s
@@ -123,26 +124,26 @@ value_sourced zero path e seen s = tt
 value_sourced (suc depth) path e seen s = value_one_sourced path e seen s
 
 lining_sourced : (path : List ℕ) (seen : List Pair) (property text : List ℕ) (at : Span) (s : State) → Sourced path seen (lining property text at s)
-lining_sourced path seen property text at s = if_sourced path seen (nat_le (s.css.bytes + (length property + length text)) most_bytes) _ _ tt tt
+lining_sourced path seen property text at s = if_sourced path seen (nat_le (lined s.css (Declaration property text)).bytes most_bytes) _ _ tt tt
 
 declaring_sourced : (path : List ℕ) (seen : List Pair) (property text : List ℕ) (at : Span) (s : State) → Sourced path seen (declaring property text at s)
 unfolding declaring
 declaring_sourced path seen property text at s = if_sourced path seen (is_open s.css) _ _ (lining_sourced path seen property text at s) tt
 
-text_sourced : (path : List ℕ) (seen : List Pair) (v : Node) (at : Span) (s : State) → Sourced path seen (text_of v at s)
+text_sourced : (path : List ℕ) (seen : List Pair) (v : Plain) (at : Span) (s : State) → Sourced path seen (text_of v at s)
 unfolding text_of
-text_sourced path seen v at s = if_sourced path seen (nat_lt (length (css_text v true)) most_weight) _ _ tt tt
+text_sourced path seen v at s = if_sourced path seen (shown true v).css _ _ (if_sourced path seen (nat_lt (length (shown true v).text) most_weight) _ _ tt tt) tt
 
 opening_sourced : (path : List ℕ) (seen : List Pair) (selectors : List ℕ) (at : Span) (s : State) → Sourced path seen (opening selectors at s)
 unfolding opening
-opening_sourced path seen selectors at s = if_sourced path seen (nat_le (s.css.bytes + length selectors) most_bytes) _ _ tt tt
+opening_sourced path seen selectors at s = if_sourced path seen (nat_le (rule_opened s.css selectors).bytes most_bytes) _ _ tt tt
 
-written_sourced : (path : List ℕ) (seen : List Pair) (property : List ℕ) (v : Node) (value_at at : Span) (s : State) → Sourced path seen (written property v value_at at s)
+written_sourced : (path : List ℕ) (seen : List Pair) (property : List ℕ) (v : Plain) (value_at at : Span) (s : State) → Sourced path seen (written property v value_at at s)
 unfolding written
 written_sourced path seen property v value_at at s =
     if_sourced path seen (is_blank v) _ _ tt (bind_sourced path seen _ _ (text_sourced path seen v value_at s) (λ later t. declaring_sourced path later property t.0 at t.1))
 
-module _ (value : List ℕ → Expr → Eval Node) (does : Level → List ℕ → Statement → Eval (Unit {0})) (path : List ℕ)
+module _ (value : List ℕ → Expr → Eval Plain) (does : Level → List ℕ → Statement → Eval (Unit {0})) (path : List ℕ)
     (sourced_value : (e : Expr) (seen : List Pair) (s : State) → Sourced path seen (value path e s))
     (sourced_does : (x : Statement) (seen : List Pair) (s : State) → Sourced path seen (does Block path x s)) where
   block_sourced : (xs : List Statement) (seen : List Pair) (s : State) → Sourced path seen (block value does path xs s)

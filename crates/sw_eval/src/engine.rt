@@ -6,6 +6,7 @@ ghost use Rattle.sw_eval.specs.Means.{body};
 ghost use Rattle.sw_eval.specs.Resume.{TurnDid, IsStep, status_of};
 ghost use Rattle.sw_eval.specs.declared.place.Place.TheVariants.{Running as At_Running};
 
+use crate::ask::push_pair;
 use crate::asked::Asked;
 use crate::place::Place;
 use crate::state::State;
@@ -35,10 +36,11 @@ impl Model for Evaluation {
     ghost use Rattle.std.specs.Coded.{codes};
     ghost use Rattle.sw_eval.specs.Resume.{Shown, Keeps};
     ghost use Rattle.sw_tree.specs.contracts.statement.Statement as s;
+    ghost use Rattle.sw_values.specs.contracts.plain.Plain as p;
 
     ghost Value = { Shown };
 
-    ghost coded = { Prim.hlevel (codes, s.the_row.coded) };
+    ghost coded = { Prim.hlevel (codes, s.the_row.coded, p.the_row.coded) };
 
     ghost view = { λ b. record { job = record { sheet = b.sheet; config = b.config; path = b.path }; pairs = b.asked.pairs.items; started = b.started; place = b.place } };
 
@@ -95,7 +97,7 @@ fn give_to(b: &mut Evaluation, answer: Answer)
 {
     b.started = true;
     if let Place::Waiting(op) = mem::replace(&mut b.place, Place::Running) {
-        let _ = b.asked.pairs.push((op, answer));
+        push_pair(&mut b.asked.pairs, op, answer);
     }
 }
 

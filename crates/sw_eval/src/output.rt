@@ -2,7 +2,7 @@
 ghost use Rattle.std.specs.Prelude.{◌≡◌, true};
 ghost use Rattle.sw_css_tree.specs.Output.{is_open, closed};
 ghost use Rattle.sw_eval.specs.Did.{IsReturn};
-ghost use Rattle.sw_eval.specs.Means.{numbered, opening, text_of, is_blank, lining, declaring, written};
+ghost use Rattle.sw_eval.specs.Means.{numbered, opening, text_of, lining, declaring, written};
 ghost use Rattle.sw_eval.specs.declared.state.State.{State};
 
 use crate::state::State;
@@ -10,7 +10,7 @@ use crate::stop::{Stop, fails};
 use std::alloc::Global;
 use sw_css_tree::{CssTree, TreeFault};
 use sw_text::{FaultCode, Name, Span};
-use sw_values::{Node, Value, ValueFault};
+use sw_values::{Value, ValueFault};
 
 // What follows belongs to this statement; in an open rule it belongs to the rule's.
 #[tactic(auto, unfolding(crate::specs::Means::numbered))]
@@ -43,23 +43,15 @@ pub(crate) fn opening(state: &mut State, selectors: Name, at: &Span) -> Result<(
 }
 
 // The value's text.
-#[tactic(auto, unfolding(crate::specs::Means::text_of))]
 fn text_of(alloc: Global, value: &Value, at: &Span) -> Result<Name, Stop>
     ensures { (s : State) → IsReturn result s (text_of value.now at.now s) }
 {
     match value.css_text(alloc, true) {
         Ok(text) => Ok(text),
+        Err(ValueFault::NotCss) => fails(FaultCode::NotCss, at),
         Err(ValueFault::TooLarge) => fails(FaultCode::TooLarge, at),
+        Err(ValueFault::DuplicateKey(_)) => unreachable!(),
         Err(ValueFault::Memory) => Err(Stop::Memory),
-    }
-}
-
-// An empty string without quotes isn't written.
-fn is_blank(value: &Value) -> bool
-    ensures { result ≡ is_blank value.now }
-{
-    match value.node() {
-        Node::Text { text, quoted } => text.as_str().is_empty() && !*quoted,
     }
 }
 
@@ -96,7 +88,7 @@ pub(crate) fn written(
 ) -> Result<(), Stop>
     ensures { IsReturn result state.new (written property.now value.now value_at.now at.now state.old) }
 {
-    if is_blank(value) {
+    if value.is_blank() {
         return Ok(());
     }
     let property = property.share()?;

@@ -1,8 +1,9 @@
 // Expressions.
 ghost use Rattle.std.specs.Prelude.{◌≡◌, IsTrue, None, option_copied};
 ghost use Rattle.sw_eval.specs.Did.{Did, IsReturn, stand};
-ghost use Rattle.sw_eval.specs.Means.{weighed, outside, variable, is_private, qualified, assigned, span_of, value_one, value_to, plain};
+ghost use Rattle.sw_eval.specs.Means.{weighed, outside, variable, is_private, qualified, put, assigned, span_of, value_one, value_to, plain};
 ghost use Rattle.sw_eval.specs.declared.state.State.{State};
+ghost use Rattle.sw_values.specs.Shape.{plain_of};
 
 use crate::ask::{ask, got, owner, target};
 use crate::asked::Asked;
@@ -24,11 +25,13 @@ pub(crate) fn plain(parts: &Parts) -> &Name
 
 // The value of a node that stands here.
 fn weighed(node: Node, at: &Span) -> Result<Value, Stop>
-    ensures { (s : State) → IsReturn result s (weighed node at.now s) }
+    ensures { (s : State) → IsReturn result s (weighed (plain_of node) at.now s) }
 {
     match Value::of(node) {
         Ok(value) => Ok(value),
         Err(ValueFault::TooLarge) => fails(FaultCode::TooLarge, at),
+        Err(ValueFault::NotCss) => unreachable!(),
+        Err(ValueFault::DuplicateKey(_)) => unreachable!(),
         Err(ValueFault::Memory) => Err(Stop::Memory),
     }
 }
@@ -129,17 +132,38 @@ fn qualified<W: World>(
     )
 }
 
+// The assignment of a value to the variable of its owner.
+fn put<W: World>(
+    alloc: Global,
+    found: (Name, Name),
+    value: &Value,
+    at: &Span,
+    asked: &mut Asked,
+    world: &mut W,
+) -> Result<(), Stop>
+    ensures { (s : State) → Did W.gives (put found value.now at.now s) (stand asked.old) world.old result s (stand asked.new) world.new }
+{
+    let value = value.share()?;
+    let op = Op::Put {
+        owner: found.0,
+        name: found.1,
+        value,
+    };
+    let _done = ask(alloc, asked, op, at, world)?;
+    Ok(())
+}
+
 // An assignment to a variable behind a namespace.
 pub(crate) fn assigned<W: World>(
     alloc: Global,
     site: &Name,
     q: &Qualified,
-    value: Value,
+    value: &Value,
     at: &Span,
     asked: &mut Asked,
     world: &mut W,
 ) -> Result<(), Stop>
-    ensures { (s : State) → Did W.gives (assigned site.now q.now value at.now s) (stand asked.old) world.old result s (stand asked.new) world.new }
+    ensures { (s : State) → Did W.gives (assigned site.now q.now value.now at.now s) (stand asked.old) world.old result s (stand asked.new) world.new }
 {
     if is_private(&q.name) {
         return fails(FaultCode::Private, &q.span);
@@ -155,13 +179,7 @@ pub(crate) fn assigned<W: World>(
     };
     let a = ask(alloc, asked, op, at, world)?;
     let found = target(at, q, a)?;
-    let op = Op::Put {
-        owner: found.0,
-        name: found.1,
-        value,
-    };
-    let _done = ask(alloc, asked, op, at, world)?;
-    Ok(())
+    put(alloc, found, value, at, asked, world)
 }
 
 // Where an expression stands.

@@ -83,7 +83,7 @@ fn does_one<W: World>(
             ..
         } => {
             let value = value(alloc, inner, site, e, state, asked, world)?;
-            assigned(alloc, site, target, value, span, asked, world)
+            assigned(alloc, site, target, &value, span, asked, world)
         }
         Statement::Declaration {
             property,

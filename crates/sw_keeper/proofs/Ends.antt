@@ -2,7 +2,7 @@
 use Rattle.std.proofs.Common.{◌≡◌, ℕ, suc, List, [], ◌∷◌, ◌++◌, length, take, drop, Option, Some, None, Ok, refl, sym, ◌∙◌, ap, subst, append_assoc, append-nil, inl}
 use Rattle.sw_text.specs.declared.place.Span.{Span}
 use Rattle.sw_tree.specs.declared.sheet.Sheet.{Sheet}
-use Rattle.sw_values.specs.declared.node.Node.{Node}
+use Rattle.sw_values.specs.declared.plain.Plain.{Plain}
 use Rattle.sw_world.specs.declared.op.Op.{Op}
 use Rattle.sw_world.specs.declared.op.Op.TheVariants as ops
 use Rattle.sw_world.specs.declared.op.SayKind.{SayKind}
@@ -29,7 +29,7 @@ use Rattle.sw_keeper.proofs.Parts.{grown_join}
 use Rattle.sw_keeper.proofs.Loads.{did_read}
 
 -- an assignment and a message can be answered in one way alone
-put_done : (owner name : List ℕ) (value : Node) (a : Answer) → Fits (ops.Put owner name value) a → a ≡ Done
+put_done : (owner name : List ℕ) (value : Plain) (a : Answer) → Fits (ops.Put owner name value) a → a ≡ Done
 put_done owner name value Done fits = refl
 put_done owner name value (Loaded path taken) fits = absurd fits
 put_done owner name value (Refused fault) fits = absurd fits
@@ -57,7 +57,7 @@ say_done kind span text Conflict fits = absurd fits
 say_done kind span text (Value v) fits = absurd fits
 say_done kind span text (Hosted given) fits = absurd fits
 
-pub put_once : (owner name : List ℕ) (value : Node) → HasTwoAnswers (ops.Put owner name value) → ⊥
+pub put_once : (owner name : List ℕ) (value : Plain) → HasTwoAnswers (ops.Put owner name value) → ⊥
 put_once owner name value two = two.differ (put_done owner name value two.one two.fits_one ∙ sym (put_done owner name value two.other two.fits_other))
 
 pub say_once : (kind : SayKind) (span : Span) (text : List ℕ) → HasTwoAnswers (ops.Say kind span text) → ⊥
@@ -76,7 +76,7 @@ cause_at : (table : Table) (path : List ℕ) (kept run : Run) (cause : Cause) �
 cause_at table path kept run cause at differs = subst (λ (o : Option Run). IsCause o run cause) (sym at) differs
 
 -- a body that starts with the pairs of a departure
-pub known_differs : (table : Table) (path text : List ℕ) (config : List (List ℕ × Node)) (k : Kept) (run : Run) (d : Departure)
+pub known_differs : (table : Table) (path text : List ℕ) (config : List (List ℕ × Plain)) (k : Kept) (run : Run) (d : Departure)
     → IsSame table path text config run → k.run ≡ run → IsDeparture k.run.seen d → DiffersBy table path text config d.known d.cause
 known_differs table path text config k run d same is departs more end =
     let new : Run = record { path = path; text = text; config = config; seen = d.known ++ more; end = end } in
@@ -94,17 +94,17 @@ known_differs table path text config k run d same is departs more end =
     cause_at table path run new d.cause same.at
     (differs_by here.pair.0 d.cause run new here.by (record { same_text = same.text_is; same_config = same.config_is; op = here.pair.0; first = first; by = here.by }))
 
-same_job : (table : Table) (path text : List ℕ) (config : List (List ℕ × Node)) (sheet : Sheet) (k : Kept) (run : Run) → IsSame table path text config run → k.run ≡ run → sheet ≡ k.sheet
+same_job : (table : Table) (path text : List ℕ) (config : List (List ℕ × Plain)) (sheet : Sheet) (k : Kept) (run : Run) → IsSame table path text config run → k.run ≡ run → sheet ≡ k.sheet
     → job_of k ≡ record { sheet = sheet; config = config; path = path }
 same_job table path text config sheet k run same is sheet_is =
     let config_is : k.run.config ≡ config = ap (λ (r : Run). r.config) is ∙ same.config_is in
     let path_is : k.run.path ≡ path = ap (λ (r : Run). r.path) is ∙ same.path_is in
     let A : Sheet → Job = λ s. record { sheet = s; config = k.run.config; path = k.run.path } in
-    let B : List (List ℕ × Node) → Job = λ c. record { sheet = sheet; config = c; path = k.run.path } in
+    let B : List (List ℕ × Plain) → Job = λ c. record { sheet = sheet; config = c; path = k.run.path } in
     let C : List ℕ → Job = λ p. record { sheet = sheet; config = config; path = p } in
     ap A (sym sheet_is) ∙ ap B config_is ∙ ap C path_is
 
-pub known_goes : (setting : Setting) (table : Table) (path text : List ℕ) (config : List (List ℕ × Node)) (sheet : Sheet) (k : Kept) (run : Run) (r : Option Departure) (d : Departure) (o m : Moment)
+pub known_goes : (setting : Setting) (table : Table) (path text : List ℕ) (config : List (List ℕ × Plain)) (sheet : Sheet) (k : Kept) (run : Run) (r : Option Departure) (d : Departure) (o m : Moment)
     → IsSame table path text config run → k.run ≡ run → sheet ≡ k.sheet → r ≡ Some d → DidReplay setting table k r o m
     → Goes (setting.body (record { sheet = sheet; config = config; path = path })) [] d.known
 known_goes setting table path text config sheet k run r d o m same is sheet_is r_is did =
@@ -113,17 +113,17 @@ known_goes setting table path text config sheet k run r d o m same is sheet_is r
     subst (λ (l : List Pair). Goes (setting.body (job_of k)) [] l) (sym here.known_is) (goes_departs (setting.body (job_of k)) k.run.seen here.at here.pair here.answer did.is_kept.goes here.here here.fits) in
     subst (λ (j : Job). Goes (setting.body j) [] d.known) (same_job table path text config sheet k run same is sheet_is) goes
 
-pub known_departs : (setting : Setting) (table : Table) (path text : List ℕ) (config : List (List ℕ × Node)) (k : Kept) (run : Run) (r : Option Departure) (d : Departure) (o m : Moment)
+pub known_departs : (setting : Setting) (table : Table) (path text : List ℕ) (config : List (List ℕ × Plain)) (k : Kept) (run : Run) (r : Option Departure) (d : Departure) (o m : Moment)
     → IsSame table path text config run → k.run ≡ run → r ≡ Some d → DidReplay setting table k r o m → DiffersBy table path text config d.known d.cause
 known_departs setting table path text config k run r d o m same is r_is did =
     known_differs table path text config k run d same is (subst (λ (x : Option Departure). IsBehind k.run.seen x) r_is did.place)
 
-pub kept_reads : (setting : Setting) (table : Table) (path text : List ℕ) (config : List (List ℕ × Node)) (sheet : Sheet) (k : Kept) (run : Run) → IsSame table path text config run → sheet ≡ k.sheet → setting.read run.path run.text ≡ Ok k.sheet → setting.read path text ≡ Ok sheet
+pub kept_reads : (setting : Setting) (table : Table) (path text : List ℕ) (config : List (List ℕ × Plain)) (sheet : Sheet) (k : Kept) (run : Run) → IsSame table path text config run → sheet ≡ k.sheet → setting.read run.path run.text ≡ Ok k.sheet → setting.read path text ≡ Ok sheet
 kept_reads setting table path text config sheet k run same sheet_is reads =
     ap (λ p. setting.read p text) (sym same.path_is) ∙ ap (setting.read run.path) (sym same.text_is) ∙ reads ∙ ap (λ (s : Sheet). Ok s) (sym sheet_is)
 
 -- a replay, and then a body
-pub did_known : (setting : Setting) (table : Table) (path text : List ℕ) (config : List (List ℕ × Node)) (sheet : Sheet) (k : Kept) (run : Run) (r : Option Departure) (d : Departure) (end : End) (o m t : Moment)
+pub did_known : (setting : Setting) (table : Table) (path text : List ℕ) (config : List (List ℕ × Plain)) (sheet : Sheet) (k : Kept) (run : Run) (r : Option Departure) (d : Departure) (end : End) (o m t : Moment)
     → IsSame table path text config run → k.run ≡ run → sheet ≡ k.sheet → setting.read run.path run.text ≡ Ok k.sheet → r ≡ Some d
     → DidReplay setting table k r o m → DidEnd setting table (record { sheet = sheet; config = config; path = path }) text d.known end m t
     → DidEvaluate setting table path text config end o t
@@ -142,7 +142,7 @@ did_known setting table path text config sheet k run r d end o m t same is sheet
     did_read setting table path text config sheet end o t (kept_reads setting table path text config sheet k run same sheet_is reads) whole
 
 -- a replay in which all was as before
-pub did_whole : (setting : Setting) (table : Table) (path text : List ℕ) (config : List (List ℕ × Node)) (k : Kept) (run : Run) (r : Option Departure) (end : End) (o m t : Moment)
+pub did_whole : (setting : Setting) (table : Table) (path text : List ℕ) (config : List (List ℕ × Plain)) (k : Kept) (run : Run) (r : Option Departure) (end : End) (o m t : Moment)
     → EndsInTime setting.body → IsSame table path text config run → k.run ≡ run → setting.read run.path run.text ≡ Ok k.sheet → r ≡ None
     → DidReplay setting table k r o m → end ≡ run.end → t.outside ≡ m.outside → t.told ≡ m.told → t.results ≡ record m.results { runs = m.results.runs ++ run ∷ [] }
     → DidEvaluate setting table path text config end o t
@@ -173,14 +173,14 @@ did_whole setting table path text config k run r end o m t in_time same is reads
     did_read setting table path text config k.sheet end o t (kept_reads setting table path text config k.sheet k run same refl reads) ended_here
 
 -- why a body runs of which no such run is kept
-pub first_cause : (table : Table) (path text : List ℕ) (config : List (List ℕ × Node)) → kept_at table path ≡ None → DiffersBy table path text config [] First
+pub first_cause : (table : Table) (path text : List ℕ) (config : List (List ℕ × Plain)) → kept_at table path ≡ None → DiffersBy table path text config [] First
 first_cause table path text config none more end =
     subst (λ (o : Option Run). IsCause o (record { path = path; text = text; config = config; seen = more; end = end }) First) (sym none) refl
 
-pub text_cause : (table : Table) (path text : List ℕ) (config : List (List ℕ × Node)) (run : Run) → kept_at table path ≡ Some run → (run.text ≡ text → ⊥) → DiffersBy table path text config [] Text
+pub text_cause : (table : Table) (path text : List ℕ) (config : List (List ℕ × Plain)) (run : Run) → kept_at table path ≡ Some run → (run.text ≡ text → ⊥) → DiffersBy table path text config [] Text
 text_cause table path text config run at differ more end =
     cause_at table path run (record { path = path; text = text; config = config; seen = more; end = end }) Text at differ
 
-pub config_cause : (table : Table) (path text : List ℕ) (config : List (List ℕ × Node)) (run : Run) → kept_at table path ≡ Some run → NoneSame table path text config → run.text ≡ text → DiffersBy table path text config [] Config
+pub config_cause : (table : Table) (path text : List ℕ) (config : List (List ℕ × Plain)) (run : Run) → kept_at table path ≡ Some run → NoneSame table path text config → run.text ≡ text → DiffersBy table path text config [] Config
 config_cause table path text config run at none same more end =
     cause_at table path run (record { path = path; text = text; config = config; seen = more; end = end }) Config at (same, none run at same)

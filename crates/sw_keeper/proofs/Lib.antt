@@ -8,4 +8,5 @@ pub mod Again
 pub mod Replays
 pub mod Ends
 pub mod Tables
+pub mod Outputs
 pub mod Whole

@@ -2,7 +2,7 @@
 use Rattle.std.proofs.Common.{◌≡◌, ℕ, suc, ◌+◌, ◌<◌, List, [], ◌∷◌, ◌++◌, length, Ok, Err, refl, sym, ◌∙◌, ap, subst, length-append, arith}
 use Rattle.sw_text.specs.declared.fault.Fault.{Fault}
 use Rattle.sw_tree.specs.declared.sheet.Sheet.{Sheet}
-use Rattle.sw_values.specs.declared.node.Node.{Node}
+use Rattle.sw_values.specs.declared.plain.Plain.{Plain}
 use Rattle.sw_world.specs.declared.op.Op.{Op}
 use Rattle.sw_world.specs.declared.op.Op.TheVariants.{Load, Find, Get, Put, Say, Call}
 use Rattle.sw_world.specs.declared.answer.Answer.{Answer}
@@ -46,7 +46,7 @@ did_answered table functions inner op a s o is begins depth =
     (record { answered = refl; outside = refl; same_depth = depth; grown = grown_none table o t refl refl })
 
 -- a load whose module was evaluated
-pub did_opened : (setting : Setting) (table : Table) (op : Op) (path text : List ℕ) (config : List (List ℕ × Node)) (end : End) (a : Answer) (m u : State) (o t : Moment)
+pub did_opened : (setting : Setting) (table : Table) (op : Op) (path text : List ℕ) (config : List (List ℕ × Plain)) (end : End) (a : Answer) (m u : State) (o t : Moment)
     → IsLoad op → begun op o.outside.live ≡ (Open path text config, m) → length o.outside.live.opened < 64 → m ≡ open_at path o.outside.live
     → DidEvaluate setting table path text config end (moment m o.outside.hosts o.results o.told) t
     → ended_by op (path_in t.outside.live.opened) end t.outside.live ≡ (a, u) → length u.opened + 1 ≡ length t.outside.live.opened
@@ -67,7 +67,7 @@ did_opened setting table op path text config end a m u o t is begins few opens d
     (record { answered = refl; outside = refl; same_depth = depth; grown = grown })
 
 -- a text that reads is evaluated by its body
-pub did_read : (setting : Setting) (table : Table) (path text : List ℕ) (config : List (List ℕ × Node)) (sheet : Sheet) (end : End) (o t : Moment)
+pub did_read : (setting : Setting) (table : Table) (path text : List ℕ) (config : List (List ℕ × Plain)) (sheet : Sheet) (end : End) (o t : Moment)
     → setting.read path text ≡ Ok sheet → DidEnd setting table (record { sheet = sheet; config = config; path = path }) text [] end o t → DidEvaluate setting table path text config end o t
 did_read setting table path text config sheet end o t reads did =
     let job : Job = record { sheet = sheet; config = config; path = path } in
@@ -79,7 +79,7 @@ did_read setting table path text config sheet end o t reads did =
     }
 
 -- one that doesn't read ends with its fault
-pub did_not_read : (setting : Setting) (table : Table) (path text : List ℕ) (config : List (List ℕ × Node)) (fault : Fault) (o : Moment)
+pub did_not_read : (setting : Setting) (table : Table) (path text : List ℕ) (config : List (List ℕ × Plain)) (fault : Fault) (o : Moment)
     → setting.read path text ≡ Err fault → DidEvaluate setting table path text config (Fault_end fault) o o
 did_not_read setting table path text config fault o reads =
     record {

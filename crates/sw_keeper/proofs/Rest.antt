@@ -1,6 +1,6 @@
 -- The rest of an evaluation.
 use Rattle.std.proofs.Common.{◌≡◌, ℕ, suc, ◌+◌, ◌-◌, ◌<◌, ◌≤◌, List, [], ◌∷◌, ◌++◌, length, refl, sym, ◌∙◌, ap, subst, length-append, arith}
-use Rattle.sw_values.specs.declared.node.Node.{Node}
+use Rattle.sw_values.specs.declared.plain.Plain.{Plain}
 use Rattle.sw_world.specs.declared.op.Op.{Op}
 use Rattle.sw_world.specs.declared.op.Op.TheVariants.{Load, Find, Get, Put, Say, Call}
 use Rattle.sw_world.specs.declared.answer.Answer.{Answer}
@@ -74,7 +74,7 @@ rest_more setting job text pairs asked runs o t new in_time goes are left ran op
     ∙ ap (λ (n : ℕ). goes_on setting (fresh setting (64 - n)) job text more (pairs ++ asked) (runs ++ new) t) (sym opened)
 
 -- a module that is evaluated where one more load is open
-pub fresh_opens : (setting : Setting) (s : State) (o : Outside) (path text : List ℕ) (config : List (List ℕ × Node)) → length s.opened < 64 → length o.live.opened ≡ suc (length s.opened)
+pub fresh_opens : (setting : Setting) (s : State) (o : Outside) (path text : List ℕ) (config : List (List ℕ × Plain)) → length s.opened < 64 → length o.live.opened ≡ suc (length s.opened)
     → fresh setting (room s) o path text config ≡ from_open setting o path text config
 unfolding fresh
 fresh_opens setting s o path text config few one_more =

@@ -1,9 +1,8 @@
 -- A whole compile.
-use Rattle.std.proofs.Common.{◌≡◌, ℕ, List, [], ◌++◌, append-nil, refl, sym, ◌∙◌, ap, subst}
+use Rattle.std.proofs.Common.{◌≡◌, ℕ, List, [], ◌++◌, append-nil, refl, sym, ◌∙◌, ap, subst, Option, None, Some}
 use Rattle.sw_text.specs.declared.fault.Fault.{Fault}
-use Rattle.sw_css_tree.specs.Output.{Output}
 use Rattle.sw_folder.specs.Files.{Files}
-use Rattle.sw_values.specs.declared.node.Node.{Node}
+use Rattle.sw_values.specs.declared.plain.Plain.{Plain}
 use Rattle.sw_world.specs.Hosts.{HostState}
 use Rattle.sw_world.specs.declared.end.End.{End}
 use Rattle.sw_world.specs.declared.op.Saying.{Saying}
@@ -17,6 +16,8 @@ use Rattle.sw_record.specs.declared.reply.Outcome.{Outcome}
 use Rattle.sw_record.specs.declared.reply.Outcome.TheVariants.{Error}
 use Rattle.sw_record.specs.Ran.{Table, Ran}
 use Rattle.sw_keeper.specs.Compile.{Compile, compiled, compile_by, from_entry, after_entry, outcome_of, paths_of}
+use Rattle.sw_keeper.specs.Outputs.{outputs_of}
+use Rattle.sw_keeper.proofs.Outputs.{open_adds}
 use Rattle.sw_keeper.specs.Results.{Results}
 use Rattle.sw_keeper.specs.Steps.{Moment, DidEvaluate, moment}
 use Rattle.sw_keeper.specs.Whole.{IsCompiled}
@@ -37,23 +38,31 @@ is_refused setting folder paths entry hosts table enter fault s t told starts en
     subst (λ (c : Compile). IsCompiled c table (record { says = []; ran = []; outcome = Error fault }) [] hosts told told) (sym all)
     (record { says = refl; outcome = refl; same_runs = refl; same_hosts = refl; ran = refl; told = sym (append-nil told) })
 
+entered_outputs : (entry : List ℕ) (text : Option (List ℕ)) (s : State) → (entered entry text s).1.outputs ≡ s.outputs
+entered_outputs entry None s = refl
+entered_outputs entry (Some text) s = refl
+
 -- an entry that was evaluated
-pub is_opened : (setting : Setting) (folder : Files) (paths : List (List ℕ)) (entry : List ℕ) (hosts : HostState) (table : Table) (enter : Enter) (path text : List ℕ) (config : List (List ℕ × Node)) (end : End) (s m u : State) (r0 : Results) (told : List (List ℕ)) (t : Moment)
-    (says : List Saying) (outputs : List Output) (outcome : Outcome)
+pub is_opened : (setting : Setting) (folder : Files) (paths : List (List ℕ)) (entry : List ℕ) (hosts : HostState) (table : Table) (enter : Enter) (path text : List ℕ) (config : List (List ℕ × Plain)) (end : End) (s m u : State) (r0 : Results) (told : List (List ℕ)) (t : Moment)
+    (says : List Saying) (outcome : Outcome)
     → s ≡ nothing_loaded folder paths → entered entry (entry_text s.folder entry) s ≡ (enter, m) → enter ≡ Open path text → config ≡ [] → r0 ≡ record { runs = []; ran = [] }
-    → DidEvaluate setting table path text config end (moment m hosts r0 told) t → u ≡ left_by end t.outside.live → says ≡ u.says → outputs ≡ u.outputs → outcome ≡ outcome_of end outputs
+    → DidEvaluate setting table path text config end (moment m hosts r0 told) t → u ≡ left_by end t.outside.live → says ≡ u.says → outcome ≡ outcome_of end (outputs_of t.results.runs)
     → IsCompiled (compiled setting folder paths entry hosts) table (record { says = says; ran = t.results.ran; outcome = outcome }) t.results.runs t.outside.hosts told t.told
-is_opened setting folder paths entry hosts table enter path text config end s m u r0 told t says outputs outcome starts enters is none_given none did leaves says_is outputs_is outcome_is =
+is_opened setting folder paths entry hosts table enter path text config end s m u r0 told t says outcome starts enters is none_given none did leaves says_is outcome_is =
     let o : Evaluated = record { outside = t.outside; runs = did.runs; end = end } in
     let gives : from_open setting (record { live = m; hosts = hosts }) path text [] ≡ o = ap (λ c. from_open setting (record { live = m; hosts = hosts }) path text c) (sym none_given) ∙ did.gives in
     let all : compiled setting folder paths entry hosts ≡ after_entry o =
     compiled_by setting folder paths entry hosts enter s m starts enters ∙ ap (λ (e : Enter). from_entry setting hosts e m) is ∙ ap after_entry gives in
     let ran_is : t.results.ran ≡ did.grown.grown = did.grown.ran ∙ ap (λ (r : Results). r.ran ++ did.grown.grown) none in
+    let runs_are : t.results.runs ≡ did.runs = did.grown.runs ∙ ap (λ (r : Results). r.runs ++ did.runs) none in
+    let no_output : m.outputs ≡ [] = sym (ap (λ (p : Enter × State). p.1.outputs) enters) ∙ entered_outputs entry (entry_text s.folder entry) s ∙ ap (λ (x : State). x.outputs) starts in
+    let Adds_all : Evaluated → Type 0 = λ c. (left_by c.end c.outside.live).outputs ≡ m.outputs ++ outputs_of c.runs in
+    let outputs : (left_by end t.outside.live).outputs ≡ outputs_of did.runs = subst Adds_all gives (open_adds setting (record { live = m; hosts = hosts }) path text []) ∙ ap (λ l. l ++ outputs_of did.runs) no_output in
     subst (λ (c : Compile). IsCompiled c table (record { says = says; ran = t.results.ran; outcome = outcome }) t.results.runs t.outside.hosts told t.told) (sym all)
     (record {
       says = says_is ∙ ap (λ (x : State). x.says) leaves;
-      outcome = outcome_is ∙ ap (outcome_of end) (outputs_is ∙ ap (λ (x : State). x.outputs) leaves);
-      same_runs = did.grown.runs ∙ ap (λ (r : Results). r.runs ++ did.runs) none;
+      outcome = outcome_is ∙ ap (λ runs. outcome_of end (outputs_of runs)) runs_are ∙ ap (outcome_of end) (sym outputs);
+      same_runs = runs_are;
       same_hosts = refl;
       ran = subst (λ (l : List (List ℕ × Cause)). Ran table did.runs l) (sym ran_is) did.grown.is;
       told = did.grown.told ∙ ap (λ l. told ++ paths_of l) (sym ran_is);

@@ -1,4 +1,5 @@
 pub mod Compile
+pub mod Outputs
 pub mod Departures
 pub mod Keeping
 pub mod Results

@@ -2,7 +2,7 @@
 use Rattle.std.specs.Prelude.{◌≡◌, ℕ, ◌<◌, List, [], ◌∷◌, ◌++◌, length, Option, None, Some, Result}
 use Rattle.sw_text.specs.declared.fault.Fault.{Fault}
 use Rattle.sw_tree.specs.declared.sheet.Sheet.{Sheet}
-use Rattle.sw_values.specs.declared.node.Node.{Node}
+use Rattle.sw_values.specs.declared.plain.Plain.{Plain}
 use Rattle.sw_world.specs.Hosts.{HostState}
 use Rattle.sw_world.specs.declared.answer.Answer.{Answer}
 use Rattle.sw_world.specs.declared.end.End.{End}
@@ -23,7 +23,7 @@ pub record Moment : Type 0 where
   pub told : List (List ℕ)
 
 -- what an evaluation rests on, by its parts
-abbrev pub setting_of : (HostState → List ℕ → List Node → Option Node) → (HostState → List ℕ → List Node → HostState) → (List ℕ → List ℕ → Result Sheet Fault) → BodyOf → Setting
+abbrev pub setting_of : (HostState → List ℕ → List Plain → Option Plain) → (HostState → List ℕ → List Plain → HostState) → (List ℕ → List ℕ → Result Sheet Fault) → BodyOf → Setting
 setting_of answer after read body = record { functions = record { answer = answer; after = after }; read = read; body = body }
 
 abbrev pub moment : State → HostState → Results → List (List ℕ) → Moment
@@ -62,7 +62,7 @@ pub record DidEnd (setting : Setting) (table : Table) (job : Job) (text : List �
   pub grown : Grown table (new ++ run_of job text seen end ∷ []) old now
 
 -- a text that was evaluated at an open path
-pub record DidEvaluate (setting : Setting) (table : Table) (path text : List ℕ) (config : List (List ℕ × Node)) (end : End) (old now : Moment) : Type 0 where
+pub record DidEvaluate (setting : Setting) (table : Table) (path text : List ℕ) (config : List (List ℕ × Plain)) (end : End) (old now : Moment) : Type 0 where
   pub runs : List Run
   pub gives : from_open setting old.outside path text config ≡ record { outside = now.outside; runs = runs; end = end }
   pub same_depth : length now.outside.live.opened ≡ length old.outside.live.opened
@@ -110,17 +110,17 @@ pub record RunsOn (setting : Setting) (table : Table) (job : Job) (known : List 
   pub grown : Grown table new old now
 
 -- the kept run of the path, with this text and this configuration
-pub record IsSame (table : Table) (path text : List ℕ) (config : List (List ℕ × Node)) (run : Run) : Type 0 where
+pub record IsSame (table : Table) (path text : List ℕ) (config : List (List ℕ × Plain)) (run : Run) : Type 0 where
   pub at : kept_at table path ≡ Some run
   pub path_is : run.path ≡ path
   pub text_is : run.text ≡ text
   pub config_is : run.config ≡ config
 
-abbrev pub NoneSame : Table → List ℕ → List ℕ → List (List ℕ × Node) → Type 0
+abbrev pub NoneSame : Table → List ℕ → List ℕ → List (List ℕ × Plain) → Type 0
 NoneSame table path text config = (run : Run) → kept_at table path ≡ Some run → run.text ≡ text → run.config ≡ config → ⊥
 
 -- however the body ends that has these pairs behind it, this is why it ran
-abbrev pub DiffersBy : Table → List ℕ → List ℕ → List (List ℕ × Node) → List Pair → Cause → Type 0
+abbrev pub DiffersBy : Table → List ℕ → List ℕ → List (List ℕ × Plain) → List Pair → Cause → Type 0
 DiffersBy table path text config known cause =
     (more : List Pair) (end : End) → IsCause (kept_at table path) (record { path = path; text = text; config = config; seen = known ++ more; end = end }) cause
 

@@ -3,7 +3,7 @@ ghost use Rattle.std.specs.Prelude.{◌≡◌, ◌++◌, ◌≤◌, [], Ok, Err,
 ghost use Rattle.std.specs.FinMap as files;
 ghost use Rattle.sw_folder.specs.Edits.{after_put, after_removal, IsFaultOf};
 ghost use Rattle.sw_record.specs.Ran.{Ran};
-ghost use Rattle.sw_keeper.specs.Compile.{compiled, outcome_of, paths_of};
+ghost use Rattle.sw_keeper.specs.Compile.{compiled, paths_of};
 ghost use Rattle.sw_keeper.specs.Keeping.{table_of, with_runs, kept_after};
 ghost use Rattle.sw_keeper.specs.Steps.{RanMore, setting_of};
 ghost use Rattle.sw_keeper.specs.Whole.{IsCompiled};
@@ -11,16 +11,15 @@ ghost use Rattle.sw_keeper.specs.Whole.{IsCompiled};
 use crate::Reader;
 use crate::evaluate::evaluate;
 use crate::kept::{KeptRun, KeptRuns};
+use crate::outcome::outcome_of;
 use crate::results::Results;
 use std::alloc::Global;
 use std::marker::Model;
-use sw_css_print::print;
-use sw_css_tree::CssTree;
 use sw_folder::{EditFault, Folder};
 use sw_modules::{Enter, Finished, Live};
 use sw_record::{Cause, Outcome, Reply};
 use sw_text::{List, Memory, Name, Shared};
-use sw_world::{End, Engine, Hosts, Table};
+use sw_world::{Engine, Hosts, Table};
 
 /// A folder that is compiled again and again, and the runs that are kept of its compiles. Contracts see both.
 #[derive(Drop)]
@@ -34,11 +33,12 @@ impl<R: Reader, E: Engine> Model for Keeper<R, E> {
     ghost use Rattle.std.specs.Coded.{codes};
     ghost use Rattle.sw_folder.specs.Files.{files_code};
     ghost use Rattle.sw_tree.specs.contracts.statement.Statement as statement;
+    ghost use Rattle.sw_values.specs.contracts.plain.Plain as plain;
     ghost use Rattle.sw_keeper.specs.Keeping.{Keeping};
 
     ghost Value = { Keeping };
 
-    ghost coded = { Prim.hlevel (codes, files_code, statement.the_row.coded) };
+    ghost coded = { Prim.hlevel (codes, files_code, statement.the_row.coded, plain.the_row.coded) };
 
     ghost view = { λ keeper. record { folder = keeper.folder; kept = keeper.kept } };
 }
@@ -216,22 +216,13 @@ fn compile_folder<R: Reader, E: Engine, H: Hosts>(
                 &config,
             )?;
             live.leave(&end)?;
-            let Finished { says, outputs } = live.finish();
-            let outcome = outcome_of(alloc, end, &outputs)?;
+            let Finished { says, outputs: _ } = live.finish();
             let (runs, ran) = results.into_parts();
+            let outcome = outcome_of(alloc, end, runs.as_slice())?;
             Ok(Compiled {
                 reply: Reply { says, ran, outcome },
                 runs,
             })
         }
-    }
-}
-
-fn outcome_of(alloc: Global, end: End, outputs: &List<Shared<CssTree>>) -> Result<Outcome, Memory>
-    ensures { IfOk result (λ outcome. outcome ≡ outcome_of end outputs.now) }
-{
-    match end {
-        End::Done(_) => Ok(Outcome::Css(List::from_vec(print(alloc, outputs.as_slice())?))),
-        End::Fault(fault) => Ok(Outcome::Error(fault)),
     }
 }

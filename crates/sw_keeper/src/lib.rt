@@ -6,11 +6,12 @@ mod evaluate;
 mod keeper;
 mod kept;
 mod laws;
+mod outcome;
 mod outside;
 mod reader;
 mod reading;
 mod results;
 
 pub use keeper::Keeper;
-pub use laws::keeps_the_latest;
+pub use laws::{css_is_of_runs, keeps_the_latest};
 pub use reader::Reader;

@@ -30,7 +30,7 @@ pub(crate) fn run_ended<E: Engine>(
     let sheet = sheet.share()?;
     let config = config.share()?;
     let seen = Shared::new(alloc, seen)?;
-    Ok(Run::new(path, text, sheet, config, seen, end))
+    Run::new(alloc, path, text, sheet, config, seen, end)
 }
 
 /// The runs that ended in a compile, kept ones and new ones, and the modules whose bodies ran, each with its cause; both in the order in which the bodies ended.
@@ -43,11 +43,12 @@ pub(crate) struct Results<R: Reader, E: Engine> {
 impl<R: Reader, E: Engine> Model for Results<R, E> {
     ghost use Rattle.std.specs.Coded.{codes};
     ghost use Rattle.sw_tree.specs.contracts.statement.Statement as statement;
+    ghost use Rattle.sw_values.specs.contracts.plain.Plain as plain;
     ghost use Rattle.sw_keeper.specs.Results as specs;
 
     ghost Value = { specs.Results };
 
-    ghost coded = { Prim.hlevel (codes, statement.the_row.coded) };
+    ghost coded = { Prim.hlevel (codes, statement.the_row.coded, plain.the_row.coded) };
 
     ghost view = { λ results. record { runs = results.runs; ran = results.ran } };
 }

@@ -3,7 +3,7 @@ use Rattle.std.specs.Prelude.{ℕ, zero, suc, ◌-◌, List, [], ◌∷◌, ◌+
 use Rattle.sw_text.specs.declared.fault.Fault.{Fault}
 use Rattle.sw_text.specs.declared.fault.FaultCode.TheVariants.{Turns}
 use Rattle.sw_tree.specs.declared.sheet.Sheet.{Sheet}
-use Rattle.sw_values.specs.declared.node.Node.{Node}
+use Rattle.sw_values.specs.declared.plain.Plain.{Plain}
 use Rattle.sw_world.specs.declared.op.Op.{Op}
 use Rattle.sw_world.specs.declared.op.Op.TheVariants.{Load, Find, Get, Put, Say, Call}
 use Rattle.sw_world.specs.declared.answer.Answer.{Answer}
@@ -31,7 +31,7 @@ pub record Outcome : Type 0 where
 
 -- an evaluation of a text at a path, which is open, with a configuration
 abbrev pub Evaluation : Type 0
-Evaluation = Outside → List ℕ → List ℕ → List (List ℕ × Node) → Outcome
+Evaluation = Outside → List ℕ → List ℕ → List (List ℕ × Plain) → Outcome
 
 -- an answer, what is outside then, and the runs that ended for it
 pub record Response : Type 0 where
@@ -106,6 +106,6 @@ abbrev pub rest_of : Setting → Job → List ℕ → List Pair → List Run →
 rest_of setting job text pairs runs o = goes_on setting (fresh setting (room o.live)) job text (suc most_asked - length pairs) pairs runs o
 
 -- the evaluation of a module whose path is open
-abbrev pub from_open : Setting → Outside → List ℕ → List ℕ → List (List ℕ × Node) → Outcome
+abbrev pub from_open : Setting → Outside → List ℕ → List ℕ → List (List ℕ × Plain) → Outcome
 from_open setting o path text config =
     evaluated_by (λ sheet. rest_of setting (record { sheet = sheet; config = config; path = path }) text [] [] o) o (setting.read path text)

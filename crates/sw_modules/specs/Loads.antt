@@ -12,7 +12,7 @@ use Rattle.sw_folder.specs.Paths.{is_path}
 use Rattle.sw_folder.specs.Resolution.{resolved, has_extension}
 use Rattle.sw_folder.specs.declared.resolve.ResolveFault.{ResolveFault}
 use Rattle.sw_folder.specs.declared.resolve.ResolveFault.TheVariants as R
-use Rattle.sw_values.specs.declared.node.Node.{Node}
+use Rattle.sw_values.specs.declared.plain.Plain.{Plain}
 use Rattle.sw_world.specs.declared.op.Op.{Op}
 use Rattle.sw_world.specs.declared.op.Op.TheVariants.{Load}
 use Rattle.sw_world.specs.declared.op.How.{How}
@@ -37,7 +37,7 @@ abbrev pub is_open : List Opened → List ℕ → Bool
 is_open opened path = list_any (λ load. bytes_eq load.path path) opened
 
 -- the names and values of a configuration: a repeated name keeps its first place and its last value
-abbrev pub config_of : List Given → List (List ℕ × Node)
+abbrev pub config_of : List Given → List (List ℕ × Plain)
 config_of given = insert_all bytes_eq [] (map (λ one. (one.name, one.value)) given)
 
 abbrev pub is_explicit : List Given → Bool

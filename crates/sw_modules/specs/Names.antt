@@ -4,8 +4,8 @@ use Rattle.std.specs.Option.{option_map_or}
 use Rattle.std.specs.Map.{lookup}
 use Rattle.sw_tree.specs.declared.callable.Kind.{Kind}
 use Rattle.sw_tree.specs.declared.callable.Kind.TheVariants.{Variable, Function, Mixin}
-use Rattle.sw_values.specs.declared.node.Node.{Node}
-use Rattle.sw_values.specs.declared.node.Node.TheVariants.{Text}
+use Rattle.sw_values.specs.declared.plain.Plain.{Plain}
+use Rattle.sw_values.specs.declared.plain.Plain.TheVariants.{Text}
 use Rattle.sw_world.specs.declared.answer.Answer.{Answer}
 use Rattle.sw_world.specs.declared.answer.Answer.TheVariants.{Owner, NoNamespace, NoMember}
 use Rattle.sw_modules.specs.declared.module.Module.{Module}
@@ -49,10 +49,10 @@ found s site space kind name =
     else loaded_member s site (lookup (bytes_eq site) s.loaded) space kind name
 
 -- the empty text stands for a variable that isn't there; no body asks for one
-abbrev pub no_value : Node
+abbrev pub no_value : Plain
 no_value = Text [] false
 
 -- the value of a module's variable
-abbrev pub value_of : State → List ℕ → List ℕ → Node
+abbrev pub value_of : State → List ℕ → List ℕ → Plain
 value_of s owner name =
     option_map_or (λ held. option_map_or (λ value. value) (lookup (bytes_eq name) held.variables) no_value) (lookup (bytes_eq owner) s.loaded) no_value

@@ -1,6 +1,6 @@
 -- What answers the questions of bodies: the live state and the host's functions (this project's own rule).
 use Rattle.std.specs.Prelude.{ℕ, List, [], ◌∷◌, ◌++◌, Option}
-use Rattle.sw_values.specs.declared.node.Node.{Node}
+use Rattle.sw_values.specs.declared.plain.Plain.{Plain}
 use Rattle.sw_world.specs.Hosts.{HostState}
 use Rattle.sw_world.specs.declared.op.Op.{Op}
 use Rattle.sw_world.specs.declared.op.Op.TheVariants.{Load, Find, Get, Put, Say, Call}
@@ -11,8 +11,8 @@ use Rattle.sw_modules.specs.Names.{found, value_of}
 
 -- what the host's functions answer, and what they are afterwards
 pub record Functions : Type 0 where
-  pub answer : HostState → List ℕ → List Node → Option Node
-  pub after : HostState → List ℕ → List Node → HostState
+  pub answer : HostState → List ℕ → List Plain → Option Plain
+  pub after : HostState → List ℕ → List Plain → HostState
 
 -- all that is outside the bodies
 pub record Outside : Type 0 where

@@ -5,7 +5,7 @@ use Rattle.std.specs.Map.{lookup, set_value}
 use Rattle.indexmap.specs.IndexMap.{insert_entry}
 use Rattle.sw_css_tree.specs.Output.{Output}
 use Rattle.sw_folder.specs.Files.{Files}
-use Rattle.sw_values.specs.declared.node.Node.{Node}
+use Rattle.sw_values.specs.declared.plain.Plain.{Plain}
 use Rattle.sw_world.specs.declared.op.Saying.{Saying}
 use Rattle.sw_world.specs.declared.end.Finish.{Finish}
 use Rattle.sw_modules.specs.declared.module.Module.{Module}
@@ -61,6 +61,6 @@ loaded_now finish s = record s {
 }
 
 -- the variable of a module has a value
-abbrev pub with_variable : List (List ℕ × Module) → List ℕ → List ℕ → Node → List (List ℕ × Module)
+abbrev pub with_variable : List (List ℕ × Module) → List ℕ → List ℕ → Plain → List (List ℕ × Module)
 with_variable loaded owner name value =
     option_map_or (λ held. set_value (bytes_eq owner) loaded (record held { variables = set_value (bytes_eq name) held.variables value })) (lookup (bytes_eq owner) loaded) loaded

@@ -65,11 +65,12 @@ impl<'a> Model for Live<'a> {
     ghost use Rattle.std.specs.Coded.{codes};
     ghost use Rattle.sw_folder.specs.Files.{files_code};
     ghost use Rattle.sw_tree.specs.contracts.statement.Statement as statement;
+    ghost use Rattle.sw_values.specs.contracts.plain.Plain as plain;
     ghost use Rattle.sw_modules.specs.State.{State};
 
     ghost Value = { State };
 
-    ghost coded = { Prim.hlevel (codes, files_code, statement.the_row.coded) };
+    ghost coded = { Prim.hlevel (codes, files_code, statement.the_row.coded, plain.the_row.coded) };
 
     ghost view = { λ live. record { folder = live.folder.now; paths = live.paths.now; loaded = live.loaded; opened = live.opened.items; says = live.says; outputs = live.outputs } };
 }

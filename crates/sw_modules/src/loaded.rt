@@ -22,11 +22,12 @@ impl Model for Loaded {
     ghost use Rattle.std.specs.Prelude.{List, ℕ};
     ghost use Rattle.std.specs.Coded.{codes};
     ghost use Rattle.sw_tree.specs.contracts.statement.Statement as statement;
+    ghost use Rattle.sw_values.specs.contracts.plain.Plain as plain;
     ghost use Rattle.sw_modules.specs.declared.module.Module.{Module};
 
     ghost Value = { List (List ℕ × Module) };
 
-    ghost coded = { Prim.hlevel (codes, statement.the_row.coded) };
+    ghost coded = { Prim.hlevel (codes, statement.the_row.coded, plain.the_row.coded) };
 
     ghost view = { λ loaded. loaded.entries.entries };
 }

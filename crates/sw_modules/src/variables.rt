@@ -19,9 +19,13 @@ pub struct Variables {
 impl Model for Variables {
     ghost use Rattle.std.specs.Prelude.{List, ℕ};
     ghost use Rattle.std.specs.Option.{option_map_or};
-    ghost use Rattle.sw_values.specs.declared.node.Node.{Node};
+    ghost use Rattle.std.specs.Coded.{codes};
+    ghost use Rattle.sw_values.specs.declared.plain.Plain.{Plain};
+    ghost use Rattle.sw_values.specs.contracts.plain.Plain as plain;
 
-    ghost Value = { List (List ℕ × Node) };
+    ghost Value = { List (List ℕ × Plain) };
+
+    ghost coded = { Prim.hlevel (codes, plain.the_row.coded) };
 
     ghost view = { λ variables. option_map_or (λ own. own) variables.own variables.finish.variables };
 }

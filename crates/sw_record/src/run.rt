@@ -1,14 +1,17 @@
 // Runs that are kept.
 ghost use Rattle.std.specs.Prelude.{◌≡◌, [], IfOk};
+ghost use Rattle.std.specs.Option.{option_copied};
 ghost use Rattle.sw_world.specs.Body.{Goes, Ends, answers};
-ghost use Rattle.sw_record.specs.Kept.{IsKept};
+ghost use Rattle.sw_record.specs.Kept.{IsKept, printed_of};
 
+use std::alloc::Global;
 use std::marker::{Model, PhantomData};
+use sw_css_print::{Printed, print_one};
 use sw_text::{List, Memory, Name, Shared};
 use sw_tree::Sheet;
 use sw_world::{Answer, Config, End, Engine, Op};
 
-/// A body that ran from its start to its end, with the sheet that it ran. Its questions and its end are those of the engine's body.
+/// A body that ran from its start to its end, with the sheet that it ran. Its questions and its end are those of the engine's body; where it ended well, its output is kept as it is printed.
 #[derive(Drop)]
 pub struct Run<E: Engine> {
     path: Name,
@@ -17,46 +20,52 @@ pub struct Run<E: Engine> {
     config: Config,
     seen: Shared<List<(Op, Answer)>>,
     end: End,
+    printed: Option<Shared<Printed>>,
     of: PhantomData<E>,
 }
 
 impl<E: Engine> Model for Run<E> {
     ghost use Rattle.std.specs.Coded.{codes};
     ghost use Rattle.sw_tree.specs.contracts.statement.Statement as statement;
-    ghost use Rattle.sw_record.specs.Kept.{Kept, IsKept};
+    ghost use Rattle.sw_values.specs.contracts.plain.Plain as plain;
+    ghost use Rattle.std.specs.Prelude.{◌≡◌};
+    ghost use Rattle.sw_record.specs.Kept.{Kept, IsKept, printed_of};
 
     ghost Value = { Kept };
 
-    ghost coded = { Prim.hlevel (codes, statement.the_row.coded) };
+    ghost coded = { Prim.hlevel (codes, statement.the_row.coded, plain.the_row.coded) };
 
     ghost view = { λ run. record { sheet = run.sheet; run = record { path = run.path; text = run.text; config = run.config; seen = run.seen; end = run.end } } };
 
-    ghost invariant = { λ run. IsKept E.body (record { sheet = run.sheet; run = record { path = run.path; text = run.text; config = run.config; seen = run.seen; end = run.end } }) };
+    ghost invariant = { λ run. IsKept E.body (record { sheet = run.sheet; run = record { path = run.path; text = run.text; config = run.config; seen = run.seen; end = run.end } }) × (run.printed ≡ printed_of run.end) };
 }
 
 impl<E: Engine> Run<E> {
-    /// The run of a body that went through these questions and ended so. Takes no memory.
+    /// The run of a body that went through these questions and ended so. Prints its output.
     pub fn new(
+        alloc: Global,
         path: Name,
         text: Name,
         sheet: Shared<Sheet>,
         config: Config,
         seen: Shared<List<(Op, Answer)>>,
         end: End,
-    ) -> Run<E>
+    ) -> Result<Run<E>, Memory>
         requires goes { Goes (E.body (record { sheet = sheet; config = config; path = path })) [] seen }
         requires ends { E.body (record { sheet = sheet; config = config; path = path }) (answers seen) ≡ Ends end }
-        ensures { result ≡ record { sheet = sheet; run = record { path = path; text = text; config = config; seen = seen; end = end } } }
+        ensures { IfOk result (λ run. run ≡ record { sheet = sheet; run = record { path = path; text = text; config = config; seen = seen; end = end } }) }
     {
-        Run {
+        let printed = printed_of(alloc, &end)?;
+        Ok(Run {
             path,
             text,
             sheet,
             config,
             seen,
             end,
+            printed,
             of: PhantomData,
-        }
+        })
     }
 
     pub fn path(&self) -> &Name
@@ -99,6 +108,13 @@ impl<E: Engine> Run<E> {
         &self.end
     }
 
+    /// Its output as it is printed: none exactly where it ended with a fault.
+    pub fn printed(&self) -> Option<&Shared<Printed>>
+        ensures { option_copied result ≡ printed_of self.now.run.end }
+    {
+        self.printed.as_ref()
+    }
+
     /// One more owner of its parts, in constant time.
     pub fn share(&self) -> Result<Run<E>, Memory>
         ensures { IfOk result (λ run. run ≡ self.now) }
@@ -110,7 +126,30 @@ impl<E: Engine> Run<E> {
             config: self.config.share()?,
             seen: self.seen.share()?,
             end: self.end.share()?,
+            printed: share_printed(&self.printed)?,
             of: PhantomData,
         })
+    }
+}
+
+// The printed output of a body that ended so.
+fn printed_of(alloc: Global, end: &End) -> Result<Option<Shared<Printed>>, Memory>
+    ensures { IfOk result (λ printed. printed ≡ printed_of end.now) }
+{
+    match end {
+        End::Done(finish) => {
+            let printed = print_one(alloc, finish.get().css.get())?;
+            Ok(Some(Shared::new(alloc, printed)?))
+        }
+        End::Fault(_) => Ok(None),
+    }
+}
+
+fn share_printed(printed: &Option<Shared<Printed>>) -> Result<Option<Shared<Printed>>, Memory>
+    ensures { IfOk result (λ other. other ≡ printed.now) }
+{
+    match printed {
+        Some(printed) => Ok(Some(printed.share()?)),
+        None => Ok(None),
     }
 }

@@ -3,6 +3,7 @@ use Rattle.std.proofs.Common.{◌≡◌, ℕ, suc, ◌+◌, ◌*◌, Bool, List,
 use Rattle.std.specs.List.{flat_map}
 use Rattle.std.proofs.lemmas.List.{append-nil, length-map}
 use Rattle.std.proofs.lemmas.List.Concat.{flat_map-cons}
+use Rattle.sw_selector.specs.declared.reader.TheConstants.{LEVELS}
 use Rattle.sw_selector.specs.declared.selector.Part.{Part}
 use Rattle.sw_selector.specs.declared.prepare.Prepared.{Prepared}
 use Rattle.sw_selector.specs.Nesting.{prepared, prepared_from, nested, children_nested, parents_nested, all_nested}
@@ -50,11 +51,11 @@ count f m h (parent ∷ parents) =
 pub in_order : (at_root : Bool) (parents child : List (List Part)) → NestsInOrder at_root parents child
 unfolding all_nested
 in_order at_root parents child =
-    parents_all at_root (prepared_from parents 128 [] child) [] parents
-    ∙ ap (λ (children : List Prepared). flat_map (λ (parent : List Part). map (nested at_root parent) children) parents) (prepared_all parents 128 [] child)
+    parents_all at_root (prepared_from parents LEVELS [] child) [] parents
+    ∙ ap (λ (children : List Prepared). flat_map (λ (parent : List Part). map (nested at_root parent) children) parents) (prepared_all parents LEVELS [] child)
 
 pub each_pair : (at_root : Bool) (parents child : List (List Part)) → NestsEachPair at_root parents child
 each_pair at_root parents child =
     ap length (in_order at_root parents child)
-    ∙ count (λ (parent : List Part). map (nested at_root parent) (map (prepared parents 128) child)) (length child)
-    (λ parent. length-map (map (prepared parents 128) child) (nested at_root parent) ∙ length-map child (prepared parents 128)) parents
+    ∙ count (λ (parent : List Part). map (nested at_root parent) (map (prepared parents LEVELS) child)) (length child)
+    (λ parent. length-map (map (prepared parents LEVELS) child) (nested at_root parent) ∙ length-map child (prepared parents LEVELS)) parents

@@ -2,6 +2,7 @@
 -- at the root; in any other each `&` is the parent, and in a pseudo's argument a selector with `&` stands once for each parent.
 use Rattle.std.specs.Prelude.{ℕ, zero, suc, ◌-◌, ◌*◌, List, [], ◌∷◌, ◌++◌, length, take, slice_get, Option, Some, None, Result, Ok, Err, Bool, true, false, not, ◌&&◌, ◌||◌, ◌==◌, nat_lt, if◌then◌else◌}
 use denote.Bor.{Bor}
+use Rattle.sw_selector.specs.declared.reader.TheConstants.{LEVELS, MOST_SELECTORS}
 use Rattle.sw_selector.specs.declared.fault.SelectorFault.{SelectorFault}
 use Rattle.sw_selector.specs.declared.fault.SelectorFault.TheVariants.{BadSelector, NoParent, TooLarge}
 use Rattle.sw_selector.specs.declared.holds.Sought.TheVariants as soughts
@@ -196,20 +197,20 @@ parents_nested at_root children list [] = list
 parents_nested at_root children list (parent ∷ parents) = parents_nested at_root children (children_nested at_root parent list children) parents
 
 unfoldable pub all_nested : Bool → List (List Part) → List (List Part) → List (List Part)
-all_nested at_root parents child = parents_nested at_root (prepared_from parents 128 [] child) [] parents
+all_nested at_root parents child = parents_nested at_root (prepared_from parents LEVELS [] child) [] parents
 
 -- more than 10,000 complex selectors would come
 abbrev pub too_many : List (List Part) → List (List Part) → Bool
-too_many parents child = nat_lt 10000 (length parents * length child)
+too_many parents child = nat_lt MOST_SELECTORS (length parents * length child)
 
 abbrev pub under_by : Bool → List (List Part) → List (List Part) → Result (List (List Part)) SelectorFault
 under_by at_root parents child =
-    if some_misfits parents 128 child then Err BadSelector
+    if some_misfits parents LEVELS child then Err BadSelector
     else (if too_many parents child then Err TooLarge
     else Ok (all_nested at_root parents child))
 
 abbrev pub alone_by : List (List Part) → Result (List (List Part)) SelectorFault
-alone_by child = if some_holds soughts.Parent 128 child then Err NoParent else within_limit child
+alone_by child = if some_holds soughts.Parent LEVELS child then Err NoParent else within_limit child
 
 abbrev pub nest_by : Bool → Option (Bor Selectors) → List (List Part) → Result (List (List Part)) SelectorFault
 nest_by at_root None child = alone_by child

@@ -18,7 +18,7 @@ mod units;
 mod write;
 
 pub use fault::SelectorFault;
-pub use laws::nests_in_order;
+pub use laws::{nests_in_order, reads_the_grammar};
 pub use nesting::nest;
-pub use reader::read;
+pub use reader::{LEVELS, MOST_SELECTORS, read};
 pub use selector::{Combinator, Complex, Part, Selectors};

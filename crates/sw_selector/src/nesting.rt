@@ -7,7 +7,7 @@ use crate::holds::{Sought, some_holds};
 use crate::misfits::some_misfits;
 use crate::parents::is_led;
 use crate::prepare::{Prepared, all_prepared};
-use crate::reader::LEVELS;
+use crate::reader::{LEVELS, MOST_SELECTORS};
 use crate::splice::{push_parts, spliced};
 use crate::{Combinator, Complex, Part, SelectorFault, Selectors};
 use std::alloc::Global;
@@ -42,7 +42,7 @@ fn nested_alone(alloc: Global, child: &[Complex]) -> Result<Selectors, SelectorF
     if some_holds(Sought::Parent, LEVELS, child) {
         return Err(SelectorFault::NoParent);
     }
-    if child.len() > 10_000 {
+    if child.len() > MOST_SELECTORS {
         return Err(SelectorFault::TooLarge);
     }
     Ok(Selectors {
@@ -92,7 +92,7 @@ fn too_many(parents: &[Complex], child: &[Complex]) -> bool
 {
     match parents.len().checked_mul(child.len()) {
         None => true,
-        Some(count) => count > 10_000,
+        Some(count) => count > MOST_SELECTORS,
     }
 }
 

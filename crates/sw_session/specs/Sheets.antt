@@ -4,7 +4,7 @@ use Rattle.std.specs.List.{ends_with}
 use Rattle.sw_text.specs.declared.fault.FaultCode.TheVariants.{Syntax}
 use Rattle.sw_text.specs.declared.fault.Fault.{Fault}
 use Rattle.sw_tree.specs.declared.sheet.Sheet.{Sheet}
-use Rattle.sw_values.specs.declared.node.Node.{Node}
+use Rattle.sw_values.specs.declared.plain.Plain.{Plain}
 use Rattle.sw_scss_parse.specs.SheetReading.{sheet_of}
 use Rattle.sw_world.specs.Hosts.{HostState}
 use Rattle.sw_world.specs.Body.{BodyOf}
@@ -22,7 +22,7 @@ unfoldable pub sheet_at : List ℕ → List ℕ → Result Sheet Fault
 sheet_at path text = if is_scss path then sheet_of (record { path = path; bytes = text }) else Err (unread path)
 
 -- what compiles rest on: how files are read, what the bodies of modules do, and what the host's functions answer and are afterwards
-abbrev pub setting_of : BodyOf → (HostState → List ℕ → List Node → Option Node) → (HostState → List ℕ → List Node → HostState) → Setting
+abbrev pub setting_of : BodyOf → (HostState → List ℕ → List Plain → Option Plain) → (HostState → List ℕ → List Plain → HostState) → Setting
 setting_of body answer after = record { functions = record { answer = answer; after = after }; read = sheet_at; body = body }
 
 -- without functions of a host

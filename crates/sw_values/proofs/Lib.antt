@@ -1,0 +1,14 @@
+pub mod Absent
+pub mod Alike
+pub mod Canons
+pub mod Capped
+pub mod Maps
+pub mod Parts
+pub mod Places
+pub mod Products
+pub mod Saying
+pub mod Shows
+pub mod Sides
+pub mod Simple
+pub mod Told
+pub mod Within

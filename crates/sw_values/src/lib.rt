@@ -1,12 +1,17 @@
 //! The values of the language: what they are, when two are the same, and how they are written in CSS. Expressions make values; declarations and messages write them.
 #![tactic(auto)]
 
-mod css_text;
+mod amounts;
+mod canon;
 mod fault;
-mod node;
+mod laws;
+mod numbers;
+mod plain;
 mod strings;
 mod value;
 
+pub use canon::Canon;
 pub use fault::ValueFault;
-pub use node::Node;
-pub use value::Value;
+pub use laws::parts_are_told_apart;
+pub use plain::{Plain, Separator};
+pub use value::{Node, Pairs, Value, list_of, map_of};

@@ -1,5 +1,5 @@
 use Rattle.sw_eval.specs.Means.{assigned}
-use Rattle.sw_eval.proofs.Goes_on.{no_memory, did_err, did_then, did_plain, did_value}
+use Rattle.sw_eval.proofs.Goes_on.{no_memory, did_err, did_then, did_plain}
 use Rattle.sw_eval.proofs.value.assigned.Goals as goal
 
 pub returns-then-is_private : goal.returns-then-is_private
@@ -23,10 +23,6 @@ pub returns-in_err-found : goal.returns-in_err-found
 unfolding assigned
 returns-in_err-found g c = λ s. rw (← c.is_private.ensures, c.if-is_private.false, ← c.in_ok-site.ensures, ← c.in_ok-space.ensures, ← c.in_ok-name.ensures) (did_then _ (c.in_ok-a.ensures s) (did_err _ (did_plain _ s _ _ _ (c.in_err-found.ensures s)) c.from_residual-in_err-found.ensures))
 
-pub returns-in_err-_done : goal.returns-in_err-_done
-unfolding assigned
-returns-in_err-_done g c = λ s. rw (← c.is_private.ensures, c.if-is_private.false, ← c.in_ok-site.ensures, ← c.in_ok-space.ensures, ← c.in_ok-name.ensures) (did_then _ (c.in_ok-a.ensures s) (did_then _ (did_plain _ s _ _ _ (c.in_ok-found.ensures s)) (did_err _ (c.in_err-_done.ensures s) c.from_residual-in_err-_done.ensures)))
-
 pub returns : goal.returns
 unfolding assigned
-returns g c = λ s. rw (← c.is_private.ensures, c.if-is_private.false, ← c.in_ok-site.ensures, ← c.in_ok-space.ensures, ← c.in_ok-name.ensures) (did_then _ (c.in_ok-a.ensures s) (did_then _ (did_plain _ s _ _ _ (c.in_ok-found.ensures s)) (did_then _ (c.in_ok-_done.ensures s) (did_value _ _ _ _))))
+returns g c = λ s. rw (← c.is_private.ensures, c.if-is_private.false, ← c.in_ok-site.ensures, ← c.in_ok-space.ensures, ← c.in_ok-name.ensures) (did_then _ (c.in_ok-a.ensures s) (did_then _ (did_plain _ s _ _ _ (c.in_ok-found.ensures s)) (c.put.ensures s)))

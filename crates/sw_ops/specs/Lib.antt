@@ -1,0 +1,4 @@
+pub mod Answers
+pub mod Sides
+pub mod Joined
+pub mod Operators
