@@ -18,7 +18,7 @@ impl From<ValueFault> for Refusal {
 /// How many brackets of a row stand in one another at most.
 pub const DEPTH: u32 = 100;
 
-pub fn value_call(alloc: Global, name: &str, text: &str) -> Result<String, Refusal> {
+pub fn answer(alloc: Global, name: &str, text: &str) -> Result<String, Refusal> {
     let mut reader = Reader::new(text);
     let value = reader.value(alloc, DEPTH)?;
     if reader.is_done() {
