@@ -1,5 +1,5 @@
 pub mod Loops
-pub mod Nests
+pub mod Turns
 pub mod Pairs
 pub mod Lexical
 pub mod Derives

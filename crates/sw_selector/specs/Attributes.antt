@@ -19,7 +19,9 @@ word_end bs i = if byte bs i == sign "*" then i + 1 else (if begins_name bs i th
 
 -- behind a namespace prefix, if one stands there: `name|`, `*|` or `|`, but not the operator `|=`
 unfoldable pub prefix_end : List ℕ → ℕ → ℕ
-prefix_end bs i = if (byte bs (word_end bs i) == sign "|") && not (byte bs (word_end bs i + 1) == sign "=") then word_end bs i + 1 else i
+prefix_end bs i =
+    if (byte bs (word_end bs i) == sign "|") && not (byte bs (word_end bs i + 1) == sign "=")
+    then word_end bs i + 1 else i
 
 -- ~ | ^ $ *
 abbrev pub is_operator_sign : ℕ → Bool

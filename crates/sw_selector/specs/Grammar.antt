@@ -1,5 +1,5 @@
--- What a list of selectors is (Selectors Level 4, and Sass for `&`, `%name` and combinators in front), row by row. A row says
--- that what stands from one place of a text to another is such a thing, and what it reads as.
+-- What a list of selectors is (Selectors Level 4, and Sass for `&`, `%name` and combinators in front), row by row. A
+-- row says that what stands from one place of a text to another is such a thing, and what it reads as.
 use Rattle.std.specs.Prelude.{◌≡◌, ℕ, zero, suc, ◌+◌, ◌<◌, List, [], ◌∷◌, ◌++◌, Some, true, false, ◌==◌}
 use Rattle.sw_scan.specs.declared.brackets.Stops.TheVariants as stops
 use Rattle.sw_scan.specs.declared.signs.TheConstants.{END}
@@ -27,19 +27,23 @@ Name bs i j = (begins_name bs i ≡ true) × (j ≡ name_end bs i)
 pub data Simple (inner : Inner) (bs : List ℕ) : ℕ → ℕ → Part → Type 0 where
   class : {i j : ℕ} → byte bs i ≡ sign "." → Name bs (i + 1) j → Simple inner bs i j (parts.Named (piece bs i j))
   id : {i j : ℕ} → byte bs i ≡ sign "#" → Name bs (i + 1) j → Simple inner bs i j (parts.Named (piece bs i j))
-  placeholder : {i j : ℕ} → byte bs i ≡ sign "%" → Name bs (i + 1) j → Simple inner bs i j (parts.Placeholder (piece bs i j))
-  attribute : {i j : ℕ} → byte bs i ≡ sign "[" → attribute_end bs i ≡ Some j → Simple inner bs i j (parts.Closed (piece bs i j))
+  placeholder : {i j : ℕ} → byte bs i ≡ sign "%" → Name bs (i + 1) j
+      → Simple inner bs i j (parts.Placeholder (piece bs i j))
+  attribute : {i j : ℕ} → byte bs i ≡ sign "[" → attribute_end bs i ≡ Some j
+      → Simple inner bs i j (parts.Closed (piece bs i j))
   -- one or two colons and a name
   pseudo : {i j : ℕ} → byte bs i ≡ sign ":" → Name bs (colons_end bs i) j → (byte bs j == sign "(") ≡ false
       → Simple inner bs i j (parts.Named (piece bs i j))
   -- with selectors in parentheses
-  pseudo_of : {i j k : ℕ} {list : List (List Part)} → byte bs i ≡ sign ":" → Name bs (colons_end bs i) j → byte bs j ≡ sign "("
+  pseudo_of : {i j k : ℕ} {list : List (List Part)} → byte bs i ≡ sign ":" → Name bs (colons_end bs i) j
+      → byte bs j ≡ sign "("
       → takes_selectors (piece bs i j) ≡ true → inner (j + 1) k list → byte bs k ≡ sign ")"
       → Simple inner bs i (k + 1) (parts.Pseudo (piece bs i j) list)
   -- with another text in parentheses, which isn't blank and whose strings and brackets are closed
   pseudo_with : {i j k : ℕ} → byte bs i ≡ sign ":" → Name bs (colons_end bs i) j → byte bs j ≡ sign "("
       → takes_selectors (piece bs i j) ≡ false → stop_at stops.Argument bs (j + 1) ≡ Some k → byte bs k ≡ sign ")"
-      → white bs (j + 1) < k → Simple inner bs i (k + 1) (parts.Closed (with_argument (piece bs i j) (argument_text bs (j + 1) k)))
+      → white bs (j + 1) < k
+      → Simple inner bs i (k + 1) (parts.Closed (with_argument (piece bs i j) (argument_text bs (j + 1) k)))
 
 -- what only begins a compound
 pub data Head (bs : List ℕ) : ℕ → ℕ → Part → Type 0 where
@@ -82,7 +86,8 @@ Ends bs i j = (j ≡ white bs i) × (ends_complex (byte bs j) ≡ true)
 pub data IsComplex (inner : Inner) (bs : List ℕ) : ℕ → ℕ → List Part → Type 0 where
   plain : {i k j : ℕ} {list : List Part} → Compounds inner bs (white bs i) k list → Ends bs k j
       → IsComplex inner bs i j list
-  led : {i k j : ℕ} {list : List Part} {combinator : Combinator} → combinator_of (byte bs (white bs i)) ≡ Some combinator
+  led : {i k j : ℕ} {list : List Part} {combinator : Combinator}
+      → combinator_of (byte bs (white bs i)) ≡ Some combinator
       → Compounds inner bs (white bs (white bs i + 1)) k list → Ends bs k j
       → IsComplex inner bs i j (parts.Combinator combinator ∷ list)
 
@@ -90,14 +95,16 @@ pub data IsComplex (inner : Inner) (bs : List ℕ) : ℕ → ℕ → List Part �
 pub data Argument (inner : Inner) (bs : List ℕ) : ℕ → ℕ → List (List Part) → Type 0 where
   last : {i j : ℕ} {complex : List Part} → IsComplex inner bs i j complex → (byte bs j == sign ",") ≡ false
       → Argument inner bs i j (complex ∷ [])
-  more : {i k j : ℕ} {complex : List Part} {list : List (List Part)} → IsComplex inner bs i k complex → byte bs k ≡ sign ","
+  more : {i k j : ℕ} {complex : List Part} {list : List (List Part)} → IsComplex inner bs i k complex
+      → byte bs k ≡ sign ","
       → Argument inner bs (k + 1) j list → Argument inner bs i j (complex ∷ list)
 
 -- complex selectors up to the end of the text, with one comma or more between, and any number behind the last
 pub data Listed (inner : Inner) (bs : List ℕ) : ℕ → List (List Part) → Type 0 where
   last : {i j : ℕ} {complex : List Part} → IsComplex inner bs i j complex → byte bs (commas_end bs j) ≡ END
       → Listed inner bs i (complex ∷ [])
-  more : {i j : ℕ} {complex : List Part} {list : List (List Part)} → IsComplex inner bs i j complex → byte bs j ≡ sign ","
+  more : {i j : ℕ} {complex : List Part} {list : List (List Part)} → IsComplex inner bs i j complex
+      → byte bs j ≡ sign ","
       → Listed inner bs (commas_end bs j) list → Listed inner bs i (complex ∷ list)
 
 -- in an argument, in which at most so many pseudos with selectors stand in each other, the one around it counted

@@ -1,5 +1,6 @@
--- What selectors a text is (Selectors Level 4 and Sass): complex selectors joined by commas. Neighbouring commas count as one and one at the end
--- as none; in a pseudo's argument each comma counts. A combinator may stand in front of a complex selector, and none at its end.
+-- What selectors a text is (Selectors Level 4 and Sass): complex selectors joined by commas. Neighbouring commas count
+-- as one and one at the end as none; in a pseudo's argument each comma counts. A combinator may stand in front of a
+-- complex selector, and none at its end.
 use Rattle.std.specs.Prelude.{◌≡◌, ℕ, zero, suc, ◌+◌, List, [], ◌∷◌, ◌++◌, length, Option, Some, None, Result, Ok, Err, Bool, true, false, ◌&&◌, ◌||◌, ◌==◌, nat_lt, if◌then◌else◌}
 use Rattle.sw_scan.specs.declared.signs.TheConstants.{END}
 use Rattle.sw_scan.specs.declared.runs.Class.TheVariants as classes
@@ -36,10 +37,13 @@ argument_at deeper bs name i = if takes_selectors name then closed_by bs name (d
 
 -- a pseudo with this name, which ends at i
 unfoldable pub pseudo_behind : Lists → List ℕ → List ℕ → ℕ → Option (Part × ℕ)
-pseudo_behind deeper bs name i = if byte bs i == sign "(" then argument_at deeper bs name (i + 1) else Some (parts.Named name, i)
+pseudo_behind deeper bs name i =
+    if byte bs i == sign "(" then argument_at deeper bs name (i + 1) else Some (parts.Named name, i)
 
 unfoldable pub pseudo_at : Lists → List ℕ → ℕ → Option (Part × ℕ)
-pseudo_at deeper bs i = if begins_name bs (colons_end bs i) then pseudo_behind deeper bs (piece bs i (name_end bs (colons_end bs i))) (name_end bs (colons_end bs i)) else None
+pseudo_at deeper bs i =
+    if begins_name bs (colons_end bs i)
+    then pseudo_behind deeper bs (piece bs i (name_end bs (colons_end bs i))) (name_end bs (colons_end bs i)) else None
 
 abbrev pub is_simple : Before → Bool
 is_simple befores.Simple = true
@@ -51,7 +55,8 @@ is_joined _ = false
 
 -- what only begins a compound: `&`, or a type
 unfoldable pub head_at : List ℕ → Before → ℕ → Option (Part × ℕ)
-head_at bs before i = if is_simple before then None else (if byte bs i == sign "&" then parent_at bs i else type_at bs i)
+head_at bs before i =
+    if is_simple before then None else (if byte bs i == sign "&" then parent_at bs i else type_at bs i)
 
 -- a simple selector
 unfoldable pub simple_at : Lists → List ℕ → Before → ℕ → Option (Part × ℕ)
@@ -96,13 +101,15 @@ last_turn before i = if is_simple before then Some (turns.Stops i) else None
 
 unfoldable pub spaced_turn : Lists → List ℕ → Before → Bool → ℕ → Option Turn
 spaced_turn deeper bs before spaced i =
-    if ends_complex (byte bs i) then last_turn before i else joined_turn deeper bs before spaced i (combinator_of (byte bs i))
+    if ends_complex (byte bs i)
+    then last_turn before i else joined_turn deeper bs before spaced i (combinator_of (byte bs i))
 
 -- one more part of a complex selector from i on, or its end
 abbrev pub turn_at : Lists → List ℕ → Before → ℕ → Option Turn
 turn_at deeper bs before i = spaced_turn deeper bs before (nat_lt i (white bs i)) (white bs i)
 
-abbrev pub complex_by : (Before → List Part → ℕ → Option (List Part × ℕ)) → List Part → Option Turn → Option (List Part × ℕ)
+abbrev pub complex_by : (Before → List Part → ℕ → Option (List Part × ℕ)) → List Part → Option Turn
+    → Option (List Part × ℕ)
 complex_by on parts None = None
 complex_by on parts (Some (turns.Stops j)) = Some (parts, j)
 complex_by on parts (Some (turns.Takes part before j)) = on before (parts ++ part ∷ []) j
@@ -116,9 +123,11 @@ complex_from deeper bs (suc n) before parts i = complex_by (complex_from deeper 
 unfoldable pub complex_at : Lists → List ℕ → ℕ → Option (List Part × ℕ)
 complex_at deeper bs i = complex_from deeper bs (length bs + 1) befores.Nothing [] i
 
-abbrev pub list_by : (List (List Part) → Lists) → List ℕ → List (List Part) → Option (List Part × ℕ) → Option (List (List Part) × ℕ)
+abbrev pub list_by : (List (List Part) → Lists) → List ℕ → List (List Part) → Option (List Part × ℕ)
+    → Option (List (List Part) × ℕ)
 list_by on bs list None = None
-list_by on bs list (Some x) = if byte bs x.1 == sign "," then on (list ++ x.0 ∷ []) (x.1 + 1) else Some (list ++ x.0 ∷ [], x.1)
+list_by on bs list (Some x) =
+    if byte bs x.1 == sign "," then on (list ++ x.0 ∷ []) (x.1 + 1) else Some (list ++ x.0 ∷ [], x.1)
 
 -- at most n complex selectors, with these before
 abbrev pub list_from : Lists → List ℕ → ℕ → List (List Part) → Lists
@@ -128,7 +137,8 @@ list_from deeper bs (suc n) list i = list_by (list_from deeper bs n) bs list (co
 unfoldable pub list_at : Lists → List ℕ → Lists
 list_at deeper bs i = list_from deeper bs (length bs + 1) [] i
 
--- the selectors of an argument from i on, in which at most so many pseudos with selectors stand in each other, this one counted
+-- the selectors of an argument from i on, in which at most so many pseudos with selectors stand in each other, this one
+-- counted
 abbrev pub selectors_in : List ℕ → ℕ → Lists
 selectors_in bs zero i = None
 selectors_in bs (suc levels) i = list_at (selectors_in bs levels) bs i
@@ -136,7 +146,8 @@ selectors_in bs (suc levels) i = list_at (selectors_in bs levels) bs i
 abbrev pub commas_end : List ℕ → ℕ → ℕ
 commas_end bs i = run_end classes.Commas bs i
 
-abbrev pub whole_by : (List (List Part) → ℕ → Option (List (List Part))) → List ℕ → List (List Part) → Option (List Part × ℕ) → Option (List (List Part))
+abbrev pub whole_by : (List (List Part) → ℕ → Option (List (List Part))) → List ℕ → List (List Part)
+    → Option (List Part × ℕ) → Option (List (List Part))
 whole_by on bs list None = None
 whole_by on bs list (Some x) =
     if byte bs (commas_end bs x.1) == END then Some (list ++ x.0 ∷ [])

@@ -1,4 +1,5 @@
-//! Selectors: read from a text, nested in each other, written out, and taken apart. Texts flow in from the evaluator; texts flow back.
+//! Selectors: read from a text, nested in each other, written out, and taken apart. Texts flow in from the evaluator;
+//! texts flow back.
 #![tactic(auto)]
 
 mod attribute;

@@ -20,8 +20,9 @@ pub const LEVELS: u8 = 128;
 /// A list has at most so many complex selectors.
 pub const MOST_SELECTORS: usize = 10_000;
 
-/// The selectors of a text without comments. `BadSelector` comes exactly where the text is none, also where more than 128
-/// pseudos with selectors stand in each other; else `TooLarge` exactly where there are more than 10,000 complex selectors.
+/// The selectors of a text without comments. `BadSelector` comes exactly where the text is none, also where more than
+/// 128 pseudos with selectors stand in each other; else `TooLarge` exactly where there are more than 10,000 complex
+/// selectors.
 #[tactic(auto, unfolding(crate::specs::Reading::selectors_of))]
 pub fn read(alloc: Global, text: &str) -> Result<Selectors, SelectorFault>
     ensures { IsAnswer result (selectors_of text.now) }
