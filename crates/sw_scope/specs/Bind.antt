@@ -34,7 +34,8 @@ slot_of at None = Default at
 -- each parameter in order with what fills it, or with the place of the default that counts
 abbrev pub slots_from : ℕ → List Param → List Plain → List Variable → List (Name × Slot)
 slots_from at [] items named = []
-slots_from at (p ∷ ps) items named = (p.name, slot_of at (argument at p.name items named)) ∷ slots_from (at + 1) ps items named
+slots_from at (p ∷ ps) items named =
+    (p.name, slot_of at (argument at p.name items named)) ∷ slots_from (at + 1) ps items named
 
 -- one argument fills a parameter, by place or by name, or it has a default
 abbrev pub is_filled : Bool → Bool → Bool → Bool
@@ -43,7 +44,9 @@ is_filled false by_name default = by_name || default
 
 abbrev pub are_filled : ℕ → List Param → ℕ → List Variable → Bool
 are_filled at [] count named = true
-are_filled at (p ∷ ps) count named = is_filled (nat_lt at count) (is_some (named_value named p.name)) (is_some p.default) && are_filled (at + 1) ps count named
+are_filled at (p ∷ ps) count named =
+    is_filled (nat_lt at count) (is_some (named_value named p.name)) (is_some p.default)
+    && are_filled (at + 1) ps count named
 
 -- no name is one of those before it
 abbrev pub are_apart : List Variable → List Variable → Bool
@@ -77,14 +80,16 @@ left_items params passed = drop (length params.items) passed.items
 
 -- the parameter of the rest takes what is left, or nothing is
 abbrev pub takes_left : Params → Passed → Bool
-takes_left params passed = is_some params.rest || (nat_le (length passed.items) (length params.items) && is_empty (left_named params passed))
+takes_left params passed =
+    is_some params.rest || (nat_le (length passed.items) (length params.items) && is_empty (left_named params passed))
 
 -- ---- the whole
 
 -- the parameters take the arguments
 unfoldable pub accepts : Params → Passed → Bool
 accepts params passed =
-    not passed.faulty && are_apart [] passed.named && are_filled 0 params.items (length passed.items) passed.named && takes_left params passed
+    not passed.faulty && are_apart [] passed.named
+    && are_filled 0 params.items (length passed.items) passed.named && takes_left params passed
 
 -- the argument list of the rest
 abbrev pub rest_value : Params → Passed → Plain
@@ -95,7 +100,8 @@ rest_slot None v = []
 rest_slot (Some name) v = (name, Filled v) ∷ []
 
 unfoldable pub slots : Params → Passed → List (Name × Slot)
-slots params passed = slots_from 0 params.items passed.items passed.named ++ rest_slot params.rest (rest_value params passed)
+slots params passed =
+    slots_from 0 params.items passed.items passed.named ++ rest_slot params.rest (rest_value params passed)
 
 -- the value of the rest, where there is a parameter for it, passes no limit of a value
 abbrev pub IsRestWithin : Option Name → Plain → Type 0
@@ -123,5 +129,6 @@ IsSlotFault params passed Memory = Unit {0}
 -- why nothing is bound
 abbrev pub IsBindFault : Params → Passed → BindFault → Type 0
 IsBindFault params passed ArgumentFault = accepts params passed ≡ false
-IsBindFault params passed TooLarge = (accepts params passed ≡ true) × IsSome params.rest × IsTooLarge (rest_value params passed)
+IsBindFault params passed TooLarge =
+    (accepts params passed ≡ true) × IsSome params.rest × IsTooLarge (rest_value params passed)
 IsBindFault params passed Memory = Unit {0}

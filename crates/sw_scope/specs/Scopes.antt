@@ -8,7 +8,7 @@ use Rattle.sw_scope.specs.declared.mark.FrameKind.{FrameKind}
 use Rattle.sw_scope.specs.declared.mark.Origin.{Origin}
 use Rattle.sw_scope.specs.declared.mark.Origin.TheVariants.{Own, Other}
 use Rattle.sw_scope.specs.declared.scopes.Scopes.{Scopes}
-use Rattle.sw_scope.specs.Frames.{Name, Variable, or_else, look_in, all_flow}
+use Rattle.sw_scope.specs.Frames.{Name, Variable, or_else, look_in, all_flow as are_flow}
 use Rattle.sw_scope.specs.Stack.{Standing, seen, set_on, declare_on, put_on, popped}
 
 -- no variables and no frame
@@ -74,9 +74,13 @@ is_at_top s = is_none (mark s)
 abbrev pub top_alone : Origin → Scopes → Bool → Bool
 top_alone origin s global = is_own origin && (global || is_at_top s)
 
+-- all frames that are seen are of flow
+abbrev pub all_flow : Scopes → Bool
+all_flow s = are_flow (seen s.frames)
+
 -- a name that no frame has is set at the top
 abbrev pub sets_top : Origin → Scopes → Name → Bool
-sets_top origin s name = is_own origin && all_flow (seen s.frames) && is_some (look_top s name)
+sets_top origin s name = is_own origin && all_flow s && is_some (look_top s name)
 
 abbrev pub declare_by : List Standing → Scopes → Variable → Scopes
 declare_by [] s v = set_top s v

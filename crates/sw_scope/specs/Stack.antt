@@ -34,7 +34,8 @@ set_here None s ss lower v = s ∷ lower s.below
 abbrev pub set_from : ℕ → List Standing → Variable → List Standing
 set_from n [] v = []
 set_from n (s ∷ ss) v =
-    if n == suc (length ss) then set_here (place s.frame.vars v.0) s ss (λ m. set_from m ss v) v else s ∷ set_from n ss v
+    if n == suc (length ss) then set_here (place s.frame.vars v.0) s ss (λ m. set_from m ss v) v
+    else s ∷ set_from n ss v
 
 -- a new value of a name, in the first of the frames that are seen which has it
 unfoldable pub set_on : List Standing → Variable → List Standing

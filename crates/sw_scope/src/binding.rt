@@ -38,7 +38,8 @@ pub fn bind(alloc: Global, params: &Params, passed: &Passed) -> Result<Slots, Bi
 
 // The named arguments by their names; none where a name is there twice.
 fn named_table(alloc: Global, named: &[(Name, Value)]) -> Result<Option<Table>, Memory>
-    ensures { IfOk result (λ known. MatchOption known (are_apart [] named.now ≡ false) (λ table. (are_apart [] named.now ≡ true) × (table ≡ named.now))) }
+    ensures { IfOk result (λ known. MatchOption known (are_apart [] named.now ≡ false)
+        (λ table. (are_apart [] named.now ≡ true) × (table ≡ named.now))) }
 {
     let mut table = Table::new(alloc);
     'named: for at in 0..named.len() {
@@ -124,7 +125,9 @@ fn with_rest(
     mut slots: Slots,
 ) -> Result<Slots, BindFault>
     requires { left ≡ left_named params.now passed.now }
-    ensures { MatchResult result (λ all. (all ≡ slots ++ rest_slot params.now.rest (rest_value params.now passed.now)) × IsRestWithin params.now.rest (rest_value params.now passed.now)) (IsSlotFault params.now passed.now) }
+    ensures { let rest = rest_value params.now passed.now in
+        MatchResult result (λ all. (all ≡ slots ++ rest_slot params.now.rest rest) × IsRestWithin params.now.rest rest)
+        (IsSlotFault params.now passed.now) }
 {
     let Some(name) = &params.rest else {
         return Ok(slots);
@@ -141,7 +144,8 @@ fn rest_value(
     items: &[Value],
     left: List<(Name, Value)>,
 ) -> Result<Value, BindFault>
-    ensures { MatchResult result (λ value. (value ≡ P.Args (drop count items.now) left) × (is_within (P.Args (drop count items.now) left) ≡ true)) (IsRestFault (P.Args (drop count items.now) left)) }
+    ensures { let rest = P.Args (drop count items.now) left in
+        MatchResult result (λ value. (value ≡ rest) × (is_within rest ≡ true)) (IsRestFault rest) }
 {
     match rest_node(alloc, count, items, left) {
         Ok(node) => kept(node),
@@ -174,7 +178,8 @@ fn items_behind(alloc: Global, count: usize, items: &[Value]) -> Result<List<Val
 
 // The value of a node, which may be too large.
 fn kept(node: Node) -> Result<Value, BindFault>
-    ensures { MatchResult result (λ value. (value ≡ plain_of node) × (is_within (plain_of node) ≡ true)) (IsRestFault (plain_of node)) }
+    ensures { let rest = plain_of node in
+        MatchResult result (λ value. (value ≡ rest) × (is_within rest ≡ true)) (IsRestFault rest) }
 {
     match Value::of(node) {
         Ok(value) => Ok(value),

@@ -73,7 +73,8 @@ impl Frames {
     // Gives the variable that is seen a value. Where none is seen the value comes back. Takes no memory.
     pub fn set(&mut self, name: Name, value: Value) -> Option<(Name, Value)>
         ensures set { self.new ≡ set_on self.old (name, value) }
-        ensures seen { MatchOption result ((v : Plain) × (look_in (seen self.old) name ≡ Some v)) (λ back. (look_in (seen self.old) name ≡ None) × (back ≡ (name, value)) × (self.new ≡ self.old)) }
+        ensures seen { MatchOption result ((v : Plain) × (look_in (seen self.old) name ≡ Some v))
+            (λ back. (look_in (seen self.old) name ≡ None) × (back ≡ (name, value)) × (self.new ≡ self.old)) }
     {
         match seen(self.marks.as_slice(), self.vars.as_slice(), &name) {
             Some(at) => {

@@ -9,7 +9,9 @@ pub fn frames_seen_are_scopes()
     ensures set { (frames : List Standing) (v : Variable) → seen (set_on frames v) ≡ set_in (seen frames) v }
     ensures others { (frames : List Standing) (v : Variable) → unseen (set_on frames v) ≡ unseen frames }
     ensures declare { (frames : List Standing) (v : Variable) → seen (declare_on frames v) ≡ declare_in (seen frames) v }
-    ensures on { (frames : List Standing) (n : ℕ) (kind : FrameKind) → seen (put_on frames n kind) ≡ record { kind = kind; vars = [] } ∷ seen_from (number_in frames n) frames }
-    ensures push { (frames : List Standing) (kind : FrameKind) → seen (put_on frames (length frames) kind) ≡ record { kind = kind; vars = [] } ∷ seen frames }
+    ensures on { (frames : List Standing) (n : ℕ) (kind : FrameKind)
+        → seen (put_on frames n kind) ≡ record { kind = kind; vars = [] } ∷ seen_from (number_in frames n) frames }
+    ensures push { (frames : List Standing) (kind : FrameKind)
+        → seen (put_on frames (length frames) kind) ≡ record { kind = kind; vars = [] } ∷ seen frames }
     ensures pop { (frames : List Standing) (n : ℕ) (kind : FrameKind) → popped (put_on frames n kind) ≡ frames }
 {}

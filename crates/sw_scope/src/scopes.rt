@@ -150,12 +150,19 @@ impl Scopes {
         }
     }
 
+    /// Whether all frames that are seen are of flow. Takes no memory.
+    pub fn all_flow(&self) -> bool
+        ensures { result ≡ s.all_flow self.now }
+    {
+        self.frames.all_flow()
+    }
+
     /// Whether an assignment in code of this origin to a name that no frame has sets a variable of the top. Takes no memory.
     #[tactic(auto, unfolding(crate::specs::Scopes::look_top))]
     pub fn sets_top(&self, origin: Origin, name: &Name) -> bool
         ensures { result ≡ s.sets_top origin self.now name.now }
     {
-        is_own(origin) && self.frames.all_flow() && self.top.has(name)
+        is_own(origin) && self.all_flow() && self.top.has(name)
     }
 }
 
