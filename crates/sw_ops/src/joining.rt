@@ -146,12 +146,7 @@ pub(crate) fn bare_joined(
 }
 
 /// Both texts in CSS with a sign between them, as a string without quotes.
-pub(crate) fn css_joined(
-    alloc: Global,
-    a: &Value,
-    sign: &str,
-    b: &Value,
-) -> Result<Value, OpFault>
+pub(crate) fn css_joined(alloc: Global, a: &Value, sign: &str, b: &Value) -> Result<Value, OpFault>
     ensures { IsAnswer result (joined false sign.now (shown true a.now) (shown true b.now)) }
 {
     if !both(a.is_css(true), b.is_css(true)) {

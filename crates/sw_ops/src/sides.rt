@@ -122,12 +122,7 @@ fn within(number: Number) -> Result<Value, OpFault>
 }
 
 // A number with these sides.
-fn sides_of(
-    alloc: Global,
-    left: &Number,
-    right: &Number,
-    number: Number,
-) -> Result<Value, OpFault>
+fn sides_of(alloc: Global, left: &Number, right: &Number, number: Number) -> Result<Value, OpFault>
     ensures { IsAnswer result (sides_of left.now right.now number) }
 {
     let Number { value, units, .. } = number;
