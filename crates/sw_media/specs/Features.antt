@@ -1,5 +1,6 @@
--- The features of media queries that hold no conditions: `(a)`, `(a: b)`, `(a < b)` and `(a < b < c)`. Each side is any text that isn't blank, whose
--- strings and brackets are closed, and in which no `:`, `<`, `>` or `=` stands outside them.
+-- The features of media queries that hold no conditions: `(a)`, `(a: b)`, `(a < b)` and `(a < b < c)`. Each side is any
+-- text that isn't blank, whose strings and brackets are closed, and in which no `:`, `<`, `>` or `=` stands outside
+-- them.
 use Rattle.std.specs.Prelude.{ℕ, ◌+◌, List, ◌++◌, Option, Some, None, Bool, ◌&&◌, ◌||◌, ◌==◌, nat_lt, codes, if◌then◌else◌}
 use Rattle.sw_scan.specs.declared.brackets.Stops.TheVariants as stops
 use Rattle.sw_scan.specs.Bytes.{sign, byte}
@@ -38,7 +39,8 @@ is_comparison b = (b == sign "<") || ((b == sign "=") || (b == sign ">"))
 
 -- behind < <= > >= or =
 unfoldable pub comparison_end : List ℕ → ℕ → ℕ
-comparison_end bs i = if ((byte bs i == sign "<") || (byte bs i == sign ">")) && (byte bs (i + 1) == sign "=") then i + 2 else i + 1
+comparison_end bs i =
+    if ((byte bs i == sign "<") || (byte bs i == sign ">")) && (byte bs (i + 1) == sign "=") then i + 2 else i + 1
 
 abbrev pub compared_text : List ℕ → List ℕ → List ℕ → List ℕ
 compared_text left sign right = left ++ codes " " ++ sign ++ codes " " ++ right
@@ -49,7 +51,8 @@ compared_by bs left i None = None
 compared_by bs left i (Some x) = Some (compared_text left (piece bs i (comparison_end bs i)) x.0, x.1)
 
 unfoldable pub compared_at : List ℕ → List ℕ → ℕ → Option (List ℕ × ℕ)
-compared_at bs left i = if is_comparison (byte bs i) then compared_by bs left i (sum_at bs (comparison_end bs i)) else None
+compared_at bs left i =
+    if is_comparison (byte bs i) then compared_by bs left i (sum_at bs (comparison_end bs i)) else None
 
 abbrev pub last_by : List ℕ → Option (List ℕ × ℕ) → Option (List ℕ × ℕ)
 last_by bs None = None
@@ -58,7 +61,8 @@ last_by bs (Some x) = closed_by bs x.0 x.1
 -- behind one comparison: the end, or a second comparison
 unfoldable pub range_by : List ℕ → Option (List ℕ × ℕ) → Option (List ℕ × ℕ)
 range_by bs None = None
-range_by bs (Some x) = if byte bs x.1 == sign ")" then Some (in_parens x.0, x.1 + 1) else last_by bs (compared_at bs x.0 x.1)
+range_by bs (Some x) =
+    if byte bs x.1 == sign ")" then Some (in_parens x.0, x.1 + 1) else last_by bs (compared_at bs x.0 x.1)
 
 -- behind the first side
 unfoldable pub sides_by : List ℕ → Option (List ℕ × ℕ) → Option (List ℕ × ℕ)

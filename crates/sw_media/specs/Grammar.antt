@@ -1,5 +1,5 @@
--- What a list of media queries is (Media Queries Level 4), row by row. A row says that what stands from one place of a text to
--- another is such a thing, and what it reads as.
+-- What a list of media queries is (Media Queries Level 4), row by row. A row says that what stands from one place of a
+-- text to another is such a thing, and what it reads as.
 use Rattle.std.specs.Prelude.{◌≡◌, ℕ, zero, suc, ◌+◌, ◌<◌, Bool, true, false, ◌||◌, List, [], ◌∷◌, Some, None, ◌==◌, codes}
 use Rattle.sw_scan.specs.declared.brackets.Stops.TheVariants as stops
 use Rattle.sw_scan.specs.declared.signs.TheConstants.{END}
@@ -24,7 +24,8 @@ Inner = ℕ → ℕ → Condition → Type 0
 abbrev pub behind : List ℕ → ℕ → ℕ
 behind bs i = white bs (name_end bs i)
 
--- a text that isn't blank, whose strings and brackets are closed, up to the first `)`, `:`, `<`, `>` or `=` outside them
+-- a text that isn't blank, whose strings and brackets are closed, up to the first `)`, `:`, `<`, `>` or `=` outside
+-- them
 abbrev pub Side : List ℕ → ℕ → ℕ → Type 0
 Side bs i j = (stop_at stops.Sum bs i ≡ Some j) × (white bs i < j)
 
@@ -37,8 +38,10 @@ pub data Plain (bs : List ℕ) : ℕ → ℕ → List ℕ → Type 0 where
   alone : {i j : ℕ} → Side bs i j → byte bs j ≡ sign ")" → Plain bs i j (trimmed bs i j)
   valued : {i k j : ℕ} → Side bs i k → byte bs k ≡ sign ":" → Side bs (k + 1) j → byte bs j ≡ sign ")"
       → Plain bs i j (declared_text (trimmed bs i k) (trimmed bs (k + 1) j))
-  compared : {i k j : ℕ} → Side bs i k → is_comparison (byte bs k) ≡ true → Side bs (comparison_end bs k) j → byte bs j ≡ sign ")"
-      → Plain bs i j (compared_text (trimmed bs i k) (piece bs k (comparison_end bs k)) (trimmed bs (comparison_end bs k) j))
+  compared : {i k j : ℕ} → Side bs i k → is_comparison (byte bs k) ≡ true → Side bs (comparison_end bs k) j
+      → byte bs j ≡ sign ")"
+      → Plain bs i j
+      (compared_text (trimmed bs i k) (piece bs k (comparison_end bs k)) (trimmed bs (comparison_end bs k) j))
   between : {i k l j : ℕ} → Side bs i k → is_comparison (byte bs k) ≡ true → Side bs (comparison_end bs k) l
       → is_comparison (byte bs l) ≡ true → Side bs (comparison_end bs l) j → byte bs j ≡ sign ")"
       → Plain bs i j (compared_text
@@ -62,10 +65,12 @@ pub data More (inner : Inner) (bs keyword : List ℕ) : ℕ → ℕ → List (Li
 
 -- features with `and` between, or with `or`, or `not` and one feature
 pub data Conditions (inner : Inner) (bs : List ℕ) : ℕ → ℕ → Condition → Type 0 where
-  all : {i k j : ℕ} {feature : List ℕ} {list : List (List ℕ)} → is_at (codes "not") bs i ≡ false → Feature inner bs i k feature
+  all : {i k j : ℕ} {feature : List ℕ} {list : List (List ℕ)} → is_at (codes "not") bs i ≡ false
+      → Feature inner bs i k feature
       → is_at (codes "or") bs (white bs k) ≡ false → More inner bs (codes "and") k j list
       → Conditions inner bs i j (conditions.And (feature ∷ list))
-  some : {i k j : ℕ} {feature : List ℕ} {list : List (List ℕ)} → is_at (codes "not") bs i ≡ false → Feature inner bs i k feature
+  some : {i k j : ℕ} {feature : List ℕ} {list : List (List ℕ)} → is_at (codes "not") bs i ≡ false
+      → Feature inner bs i k feature
       → is_at (codes "or") bs (white bs k) ≡ true → More inner bs (codes "or") k j list
       → Conditions inner bs i j (conditions.Or (feature ∷ list))
   denied : {i j : ℕ} {feature : List ℕ} → is_at (codes "not") bs i ≡ true → Feature inner bs (behind bs i) j feature
@@ -78,7 +83,8 @@ pub data Behind (inner : Inner) (bs : List ℕ) : ℕ → ℕ → Condition → 
       → is_at (codes "not") bs (behind bs (white bs i)) ≡ false → Feature inner bs (behind bs (white bs i)) k feature
       → More inner bs (codes "and") k j list → Behind inner bs i j (conditions.And (feature ∷ list))
   denied : {i j : ℕ} {feature : List ℕ} → is_at (codes "and") bs (white bs i) ≡ true
-      → is_at (codes "not") bs (behind bs (white bs i)) ≡ true → Feature inner bs (behind bs (behind bs (white bs i))) j feature
+      → is_at (codes "not") bs (behind bs (white bs i)) ≡ true
+      → Feature inner bs (behind bs (behind bs (white bs i))) j feature
       → Behind inner bs i j (conditions.Not feature)
 
 -- a type with `not`, `only` or neither before it, and where none of these can stand a condition
@@ -92,14 +98,17 @@ pub data IsQuery (inner : Inner) (bs : List ℕ) : ℕ → ℕ → Query → Typ
   typed : {i j : ℕ} {condition : Condition} → modifies (codes "not") bs i ≡ false → modifies (codes "only") bs i ≡ false
       → is_type_at bs i ≡ true → Behind inner bs (name_end bs i) j condition
       → IsQuery inner bs i j (query_of modifiers.Unmodified (Some (word bs i)) condition)
-  untyped : {i j : ℕ} {condition : Condition} → modifies (codes "not") bs i ≡ false → modifies (codes "only") bs i ≡ false
+  untyped : {i j : ℕ} {condition : Condition} → modifies (codes "not") bs i ≡ false
+      → modifies (codes "only") bs i ≡ false
       → is_type_at bs i ≡ false → Conditions inner bs i j condition
       → IsQuery inner bs i j (query_of modifiers.Unmodified None condition)
 
 -- queries up to the end of the text, with commas between
 pub data Listed (inner : Inner) (bs : List ℕ) : ℕ → List Query → Type 0 where
-  last : {i j : ℕ} {query : Query} → IsQuery inner bs (white bs i) j query → byte bs (white bs j) ≡ END → Listed inner bs i (query ∷ [])
-  more : {i j : ℕ} {query : Query} {list : List Query} → IsQuery inner bs (white bs i) j query → byte bs (white bs j) ≡ sign ","
+  last : {i j : ℕ} {query : Query} → IsQuery inner bs (white bs i) j query → byte bs (white bs j) ≡ END
+      → Listed inner bs i (query ∷ [])
+  more : {i j : ℕ} {query : Query} {list : List Query} → IsQuery inner bs (white bs i) j query
+      → byte bs (white bs j) ≡ sign ","
       → Listed inner bs (white bs j + 1) list → Listed inner bs i (query ∷ list)
 
 -- a condition in parentheses, in which at most so many of them stand in each other, this one counted

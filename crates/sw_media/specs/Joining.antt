@@ -1,5 +1,6 @@
--- Media queries joined with those around them (Sass, and this project's own choices): each outer query with each inner one, the outer ones as outer
--- loop. The type comes first, then the outer features, then the inner ones. A pair of two types that differ is dropped, but `all` gives way.
+-- Media queries joined with those around them (Sass, and this project's own choices): each outer query with each inner
+-- one, the outer ones as outer loop. The type comes first, then the outer features, then the inner ones. A pair of two
+-- types that differ is dropped, but `all` gives way.
 use Rattle.std.specs.Prelude.{ℕ, ◌+◌, List, [], ◌∷◌, ◌++◌, map, Option, Some, None, is_some, not, Result, Ok, Err, Bool, true, false, ◌&&◌, ◌||◌, nat_lt, codes, bytes_eq, if◌then◌else◌}
 use Rattle.std.specs.Char.{to_ascii_lowercase}
 use Rattle.sw_media.specs.declared.reader.TheConstants.{MOST_QUERIES}

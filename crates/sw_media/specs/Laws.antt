@@ -10,13 +10,16 @@ use Rattle.sw_media.specs.Joining.{query_by, joined_kind, joined_features, outer
 
 -- a text is one list of queries at most
 abbrev pub IsOneList : List ℕ → Type 0
-IsOneList text = (first second : List Query) → IsQueryList LEVELS text first → IsQueryList LEVELS text second → first ≡ second
+IsOneList text =
+    (first second : List Query) → IsQueryList LEVELS text first → IsQueryList LEVELS text second → first ≡ second
 
 -- what is read is the list that the text is; there is none, or it is too long, exactly where this is answered
 pub record ReadsLists (text : List ℕ) : Type 0 where
-  pub list : (list : List Query) → (queries_of text ≡ Ok list) ↔ (IsQueryList LEVELS text list × (length list ≤ MOST_QUERIES))
+  pub list : (list : List Query)
+      → (queries_of text ≡ Ok list) ↔ (IsQueryList LEVELS text list × (length list ≤ MOST_QUERIES))
   pub bad : (queries_of text ≡ Err BadQuery) ↔ ((list : List Query) → ¬ IsQueryList LEVELS text list)
-  pub large : (queries_of text ≡ Err TooLarge) ↔ ((list : List Query) × IsQueryList LEVELS text list × (MOST_QUERIES < length list))
+  pub large : (queries_of text ≡ Err TooLarge)
+      ↔ ((list : List Query) × IsQueryList LEVELS text list × (MOST_QUERIES < length list))
 
 -- two queries joined; none where the pair is dropped
 abbrev pub joined_pair : Query → Query → Option Query
@@ -25,7 +28,8 @@ joined_pair outer inner = option_map (query_by (joined_features outer inner)) (j
 -- for each outer query, each inner one
 abbrev pub JoinsInOrder : List Query → List Query → Type 0
 JoinsInOrder outers inners =
-    outer_joined inners [] outers ≡ flat_map (λ (outer : Query). flat_map (λ (inner : Query). option_to_list (joined_pair outer inner)) inners) outers
+    outer_joined inners [] outers
+    ≡ flat_map (λ (outer : Query). flat_map (λ (inner : Query). option_to_list (joined_pair outer inner)) inners) outers
 
 -- there are too many pairs exactly where more than 10,000 queries come
 abbrev pub CountsQueries : List Query → List Query → Type 0

@@ -1,5 +1,5 @@
--- What media queries a text is (Media Queries Level 4): queries joined by commas. A query is a type with conditions, where the text can be read so,
--- else a condition.
+-- What media queries a text is (Media Queries Level 4): queries joined by commas. A query is a type with conditions,
+-- where the text can be read so, else a condition.
 use Rattle.std.specs.Prelude.{◌≡◌, ℕ, zero, suc, ◌+◌, List, [], ◌∷◌, ◌++◌, length, Option, Some, None, Result, Ok, Err, Bool, ◌&&◌, ◌||◌, ◌==◌, nat_lt, codes, if◌then◌else◌}
 use Rattle.sw_scan.specs.declared.signs.TheConstants.{END}
 use Rattle.sw_scan.specs.Bytes.{sign, byte}
@@ -27,13 +27,15 @@ nested_by bs (Some x) = closed_by bs (condition_text x.0) (white bs x.1)
 
 -- the inside of parentheses
 unfoldable pub inside_at : Conditions → List ℕ → ℕ → Option (List ℕ × ℕ)
-inside_at deeper bs i = if (byte bs i == sign "(") || is_at (codes "not") bs i then nested_by bs (deeper i) else plain_at bs i
+inside_at deeper bs i =
+    if (byte bs i == sign "(") || is_at (codes "not") bs i then nested_by bs (deeper i) else plain_at bs i
 
 -- the text of a feature, and the place behind it
 unfoldable pub feature_at : Conditions → List ℕ → ℕ → Option (List ℕ × ℕ)
 feature_at deeper bs i = if byte bs i == sign "(" then inside_at deeper bs (white bs (i + 1)) else None
 
-abbrev pub more_by : (List (List ℕ) → ℕ → Option (List (List ℕ) × ℕ)) → List (List ℕ) → Option (List ℕ × ℕ) → Option (List (List ℕ) × ℕ)
+abbrev pub more_by : (List (List ℕ) → ℕ → Option (List (List ℕ) × ℕ)) → List (List ℕ) → Option (List ℕ × ℕ)
+    → Option (List (List ℕ) × ℕ)
 more_by on list None = None
 more_by on list (Some x) = on (list ++ x.0 ∷ []) x.1
 
@@ -41,7 +43,8 @@ more_by on list (Some x) = on (list ++ x.0 ∷ []) x.1
 abbrev pub more_from : Conditions → List ℕ → List ℕ → ℕ → List (List ℕ) → ℕ → Option (List (List ℕ) × ℕ)
 more_from deeper bs keyword zero list i = None
 more_from deeper bs keyword (suc n) list i =
-    if is_at keyword bs (white bs i) then more_by (more_from deeper bs keyword n) list (feature_at deeper bs (white bs (name_end bs (white bs i))))
+    if is_at keyword bs (white bs i)
+    then more_by (more_from deeper bs keyword n) list (feature_at deeper bs (white bs (name_end bs (white bs i))))
     else Some (list, i)
 
 unfoldable pub features_at : Conditions → List ℕ → List ℕ → List (List ℕ) → ℕ → Option (List (List ℕ) × ℕ)
@@ -59,7 +62,8 @@ denied (Some x) = Some (conditions.Not x.0, x.1)
 unfoldable pub joined_by : Conditions → List ℕ → Option (List ℕ × ℕ) → Option (Condition × ℕ)
 joined_by deeper bs None = None
 joined_by deeper bs (Some x) =
-    if is_at (codes "or") bs (white bs x.1) then as_condition conditions.Or (features_at deeper bs (codes "or") (x.0 ∷ []) x.1)
+    if is_at (codes "or") bs (white bs x.1)
+    then as_condition conditions.Or (features_at deeper bs (codes "or") (x.0 ∷ []) x.1)
     else as_condition conditions.And (features_at deeper bs (codes "and") (x.0 ∷ []) x.1)
 
 -- features with `and` between, or with `or`, or `not` and one feature
@@ -94,7 +98,8 @@ typed_condition deeper bs i =
 -- behind a type
 unfoldable pub conditioned : Conditions → List ℕ → ℕ → Option (Condition × ℕ)
 conditioned deeper bs i =
-    if is_at (codes "and") bs (white bs i) then typed_condition deeper bs (white bs (name_end bs (white bs i))) else Some (conditions.And [], i)
+    if is_at (codes "and") bs (white bs i)
+    then typed_condition deeper bs (white bs (name_end bs (white bs i))) else Some (conditions.And [], i)
 
 -- a type, with what stands before it
 unfoldable pub typed_at : Conditions → List ℕ → Modifier → ℕ → Option (Query × ℕ)
@@ -114,7 +119,8 @@ query_at deeper bs i =
     else (if is_type_at bs i then typed_at deeper bs modifiers.Unmodified i
     else untyped_at deeper bs i))
 
-abbrev pub list_by : (List Query → ℕ → Option (List Query)) → List ℕ → List Query → Option (Query × ℕ) → Option (List Query)
+abbrev pub list_by : (List Query → ℕ → Option (List Query)) → List ℕ → List Query → Option (Query × ℕ)
+    → Option (List Query)
 list_by on bs list None = None
 list_by on bs list (Some x) =
     if byte bs (white bs x.1) == sign "," then on (list ++ x.0 ∷ []) (white bs x.1 + 1)

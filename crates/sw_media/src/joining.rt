@@ -19,10 +19,11 @@ pub struct Kind {
     pub medium: Option<Name>,
 }
 
-/// Each outer query joined with each inner one, with the outer ones as outer loop. The type comes first, then the outer features,
-/// then the inner ones; a condition with `or` or `not` stands in parentheses. Two types equal without regard to case are one, written
-/// as the outer one is, with `only` if either has it; `all` gives way to another type; a pair of any other two types is dropped.
-/// `MediaJoin` comes exactly where a query has `not` before its type; else `TooLarge` exactly where more than 10,000 queries would come.
+/// Each outer query joined with each inner one, with the outer ones as outer loop. The type comes first, then the outer
+/// features, then the inner ones; a condition with `or` or `not` stands in parentheses. Two types equal without regard
+/// to case are one, written as the outer one is, with `only` if either has it; `all` gives way to another type; a pair
+/// of any other two types is dropped. `MediaJoin` comes exactly where a query has `not` before its type; else
+/// `TooLarge` exactly where more than 10,000 queries would come.
 pub fn join(alloc: Global, outer: &Queries, inner: &Queries) -> Result<Queries, MediaFault>
     ensures { IsAnswer result (join_by outer.now.list inner.now.list) }
 {

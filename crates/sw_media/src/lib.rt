@@ -1,4 +1,5 @@
-//! Media queries: read from a text, joined with those around them, and written out. Texts flow in from the evaluator; texts flow back.
+//! Media queries: read from a text, joined with those around them, and written out. Texts flow in from the evaluator;
+//! texts flow back.
 #![tactic(auto)]
 
 mod fault;

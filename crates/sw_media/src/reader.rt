@@ -17,8 +17,9 @@ pub const LEVELS: u8 = 128;
 /// A list has at most so many queries.
 pub const MOST_QUERIES: usize = 10_000;
 
-/// The media queries of a text without comments and `#{}`. `BadQuery` comes exactly where the text is none, also where more than
-/// 128 conditions stand in each other in parentheses; else `TooLarge` exactly where there are more than 10,000 queries.
+/// The media queries of a text without comments and `#{}`. `BadQuery` comes exactly where the text is none, also where
+/// more than 128 conditions stand in each other in parentheses; else `TooLarge` exactly where there are more than
+/// 10,000 queries.
 #[tactic(auto, unfolding(crate::specs::Reading::queries_of))]
 pub fn read(alloc: Global, text: &str) -> Result<Queries, MediaFault>
     ensures { IsAnswer result (queries_of text.now) }
@@ -211,7 +212,8 @@ fn denied_at(
     levels: u8,
     at: usize,
 ) -> Result<(Condition, usize), MediaFault>
-    ensures { IsRead result (denied (feature_at (conditions_in text.now levels) text.now (white text.now (name_end text.now at)))) }
+    ensures { IsRead result (denied (feature_at (conditions_in text.now levels) text.now
+        (white text.now (name_end text.now at)))) }
 {
     let behind = white(text.as_bytes(), name_end(text.as_bytes(), at));
     let (feature, to) = feature_at(alloc, text, levels, behind)?;
