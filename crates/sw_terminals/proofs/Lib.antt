@@ -1,0 +1,2 @@
+pub mod Terminals
+mod Texts
