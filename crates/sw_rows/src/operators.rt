@@ -34,7 +34,8 @@ pub fn answer(alloc: Global, name: &str, text: &str) -> Result<String, Refusal> 
             reader.took(" ");
             unary(alloc, op, &reader.value(alloc, DEPTH)?)?
         }
-        _ => plain(&reader.value(alloc, DEPTH)?)?,
+        "plain" => plain(&reader.value(alloc, DEPTH)?)?,
+        _ => return Err(Refusal::NoCall),
     };
     if !reader.is_done() {
         return Err(Refusal::NoCall);
