@@ -6,6 +6,7 @@ ghost use Rattle.sw_eval.specs.Means.{body};
 ghost use Rattle.sw_eval.specs.Resume.{TurnDid, IsStep, status_of};
 ghost use Rattle.sw_eval.specs.declared.place.Place.TheVariants.{Running as At_Running};
 
+use crate::ask::push_pair;
 use crate::asked::Asked;
 use crate::place::Place;
 use crate::state::State;
@@ -96,7 +97,7 @@ fn give_to(b: &mut Evaluation, answer: Answer)
 {
     b.started = true;
     if let Place::Waiting(op) = mem::replace(&mut b.place, Place::Running) {
-        let _ = b.asked.pairs.push((op, answer));
+        push_pair(&mut b.asked.pairs, op, answer);
     }
 }
 

@@ -6,6 +6,7 @@ use Rattle.std.specs.declared.option.Option.{Option}
 use Rattle.std.proofs.lemmas.Bool.Decides.{nat_tests}
 use Rattle.std.proofs.lemmas.List.{append-nil}
 use Rattle.std.proofs.lemmas.List.Concat.{flat_map-cons}
+use Rattle.sw_media.specs.declared.reader.TheConstants.{MOST_QUERIES}
 use Rattle.sw_media.specs.declared.query.Query.{Query}
 use Rattle.sw_media.specs.declared.joining.Kind.{Kind}
 use Rattle.sw_media.specs.Joining.{query_by, joined_kind, joined_features, added, pair_added, inner_joined, outer_joined, is_kept, counted, inner_counted, outer_counted, too_many}
@@ -46,9 +47,9 @@ in_order outers inners = outer_all inners [] outers
 
 -- counted up to 10,001
 abbrev cap : ℕ → ℕ
-cap n = if nat_lt 10000 n then 10001 else n
+cap n = if nat_lt MOST_QUERIES n then (MOST_QUERIES + 1) else n
 
-one_more : (c n m : ℕ) → c ≡ cap n → m ≡ n + 1 → (if not (nat_lt 10000 c) then c + 1 else c) ≡ cap m
+one_more : (c n m : ℕ) → c ≡ cap n → m ≡ n + 1 → (if not (nat_lt MOST_QUERIES c) then c + 1 else c) ≡ cap m
 one_more c n m e f = grind (arith, nat_tests)
 
 kind_counts : (list : List Query) (features : List (List ℕ)) (count : ℕ) (kind : Option Kind) → count ≡ cap (length list)
@@ -71,13 +72,13 @@ outer_counts inners list [] count e = e
 outer_counts inners list (outer ∷ outers) count e =
     outer_counts inners (inner_joined outer list inners) outers (inner_counted outer count inners) (inner_counts outer list inners count e)
 
-cap_passes : (n : ℕ) → nat_lt 10000 (cap n) ≡ nat_lt 10000 n
-cap_passes n = by_test (nat_lt 10000 n) refl
+cap_passes : (n : ℕ) → nat_lt MOST_QUERIES (cap n) ≡ nat_lt MOST_QUERIES n
+cap_passes n = by_test (nat_lt MOST_QUERIES n) refl
   where
-    by_test : (b : Bool) → nat_lt 10000 n ≡ b → nat_lt 10000 (if b then 10001 else n) ≡ b
+    by_test : (b : Bool) → nat_lt MOST_QUERIES n ≡ b → nat_lt MOST_QUERIES (if b then (MOST_QUERIES + 1) else n) ≡ b
     by_test true e = refl
     by_test false e = e
 
 pub counts : (outers inners : List Query) → CountsQueries outers inners
 unfolding too_many
-counts outers inners = ap (λ (n : ℕ). nat_lt 10000 n) (outer_counts inners [] outers 0 refl) ∙ cap_passes (length (outer_joined inners [] outers))
+counts outers inners = ap (λ (n : ℕ). nat_lt MOST_QUERIES n) (outer_counts inners [] outers 0 refl) ∙ cap_passes (length (outer_joined inners [] outers))

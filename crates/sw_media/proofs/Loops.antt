@@ -4,7 +4,8 @@ use Rattle.std.specs.Prelude.{◌==◌, codes, if◌then◌else◌}
 use Rattle.std.specs.Result.{IsErrAnd}
 use Rattle.std.proofs.lemmas.Result.{err_from_is_err_and}
 use Rattle.std.proofs.lemmas.Bool.Decides.{nat_tests}
-use Rattle.sw_scan.specs.Bytes.{byte}
+use Rattle.sw_scan.specs.declared.signs.TheConstants.{END}
+use Rattle.sw_scan.specs.Bytes.{sign, byte}
 use Rattle.sw_media.specs.declared.fault.MediaFault.{MediaFault}
 use Rattle.sw_media.specs.declared.fault.MediaFault.TheVariants.{BadQuery, MediaJoin, TooLarge, Memory}
 use Rattle.sw_media.specs.declared.query.Query.{Query}
@@ -41,7 +42,7 @@ is_other r b n e f = grind (arith, nat_tests)
 less : (n : ℕ) → n ≡ suc n - 1
 less n = omega arith
 
-no_comma : (b : ℕ) → (b == 256) ≡ true → (b == 44) ≡ false
+no_comma : (b : ℕ) → (b == END) ≡ true → (b == sign ",") ≡ false
 no_comma b e = grind (arith, nat_tests)
 
 module _ (deeper : Conditions) (bs : List ℕ) where
@@ -78,28 +79,28 @@ module _ (deeper : Conditions) (bs : List ℕ) where
 
   -- behind a query, and behind one that isn't followed by a comma
   abbrev ended : ℕ → List Query → Query → Option (List Query)
-  ended j list query = if byte bs (white bs j) == 256 then Some (list ++ query ∷ []) else None
+  ended j list query = if byte bs (white bs j) == END then Some (list ++ query ∷ []) else None
 
   pub list_ends : (n : ℕ) (list : List Query) (i : ℕ) (query : Query) (j : ℕ) → 0 < n → query_at deeper bs (white bs i) ≡ Some (query, j)
-      → (byte bs (white bs j) == 256) ≡ true → list_from deeper bs n list i ≡ Some (list ++ query ∷ [])
+      → (byte bs (white bs j) == END) ≡ true → list_from deeper bs n list i ≡ Some (list ++ query ∷ [])
   list_ends zero list i query j z e f = absurd (omega arith)
   list_ends (suc n) list i query j z e f =
       ap (list_by (list_from deeper bs n) bs list) e
-      ∙ if_false (byte bs (white bs j) == 44) (list_from deeper bs n (list ++ query ∷ []) (white bs j + 1)) (ended j list query) (no_comma (byte bs (white bs j)) f)
-      ∙ if_true (byte bs (white bs j) == 256) (Some (list ++ query ∷ [])) None f
+      ∙ if_false (byte bs (white bs j) == sign ",") (list_from deeper bs n (list ++ query ∷ []) (white bs j + 1)) (ended j list query) (no_comma (byte bs (white bs j)) f)
+      ∙ if_true (byte bs (white bs j) == END) (Some (list ++ query ∷ [])) None f
 
   pub list_wrong : (n : ℕ) (list : List Query) (i : ℕ) (query : Query) (j : ℕ) → 0 < n → query_at deeper bs (white bs i) ≡ Some (query, j)
-      → (byte bs (white bs j) == 256) ≡ false → (byte bs (white bs j) == 44) ≡ false → list_from deeper bs n list i ≡ None
+      → (byte bs (white bs j) == END) ≡ false → (byte bs (white bs j) == sign ",") ≡ false → list_from deeper bs n list i ≡ None
   list_wrong zero list i query j z e f g = absurd (omega arith)
   list_wrong (suc n) list i query j z e f g =
       ap (list_by (list_from deeper bs n) bs list) e
-      ∙ if_false (byte bs (white bs j) == 44) (list_from deeper bs n (list ++ query ∷ []) (white bs j + 1)) (ended j list query) g
-      ∙ if_false (byte bs (white bs j) == 256) (Some (list ++ query ∷ [])) None f
+      ∙ if_false (byte bs (white bs j) == sign ",") (list_from deeper bs n (list ++ query ∷ []) (white bs j + 1)) (ended j list query) g
+      ∙ if_false (byte bs (white bs j) == END) (Some (list ++ query ∷ [])) None f
 
   pub list_goes : (n : ℕ) (list : List Query) (i : ℕ) (query : Query) (j : ℕ) → 0 < n → query_at deeper bs (white bs i) ≡ Some (query, j)
-      → (byte bs (white bs j) == 44) ≡ true → list_from deeper bs n list i ≡ list_from deeper bs (n - 1) (list ++ query ∷ []) (white bs j + 1)
+      → (byte bs (white bs j) == sign ",") ≡ true → list_from deeper bs n list i ≡ list_from deeper bs (n - 1) (list ++ query ∷ []) (white bs j + 1)
   list_goes zero list i query j z e f = absurd (omega arith)
   list_goes (suc n) list i query j z e f =
       ap (list_by (list_from deeper bs n) bs list) e
-      ∙ if_true (byte bs (white bs j) == 44) (list_from deeper bs n (list ++ query ∷ []) (white bs j + 1)) (ended j list query) f
+      ∙ if_true (byte bs (white bs j) == sign ",") (list_from deeper bs n (list ++ query ∷ []) (white bs j + 1)) (ended j list query) f
       ∙ ap (λ (k : ℕ). list_from deeper bs k (list ++ query ∷ []) (white bs j + 1)) (less n)

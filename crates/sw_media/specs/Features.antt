@@ -2,7 +2,7 @@
 -- strings and brackets are closed, and in which no `:`, `<`, `>` or `=` stands outside them.
 use Rattle.std.specs.Prelude.{ℕ, ◌+◌, List, ◌++◌, Option, Some, None, Bool, ◌&&◌, ◌||◌, ◌==◌, nat_lt, codes, if◌then◌else◌}
 use Rattle.sw_scan.specs.declared.brackets.Stops.TheVariants as stops
-use Rattle.sw_scan.specs.Bytes.{byte}
+use Rattle.sw_scan.specs.Bytes.{sign, byte}
 use Rattle.sw_scan.specs.Pieces.{piece, trimmed_end}
 use Rattle.sw_scan.specs.Brackets.{stop_at}
 use Rattle.sw_media.specs.Words.{white}
@@ -23,7 +23,7 @@ abbrev pub in_parens : List ℕ → List ℕ
 in_parens text = codes "(" ++ text ++ codes ")"
 
 abbrev pub closed_by : List ℕ → List ℕ → ℕ → Option (List ℕ × ℕ)
-closed_by bs text i = if byte bs i == 41 then Some (in_parens text, i + 1) else None
+closed_by bs text i = if byte bs i == sign ")" then Some (in_parens text, i + 1) else None
 
 abbrev pub declared_text : List ℕ → List ℕ → List ℕ
 declared_text name value = name ++ codes ": " ++ value
@@ -34,11 +34,11 @@ value_by bs name None = None
 value_by bs name (Some x) = closed_by bs (declared_text name x.0) x.1
 
 abbrev pub is_comparison : ℕ → Bool
-is_comparison b = (b == 60) || ((b == 61) || (b == 62))
+is_comparison b = (b == sign "<") || ((b == sign "=") || (b == sign ">"))
 
 -- behind < <= > >= or =
 unfoldable pub comparison_end : List ℕ → ℕ → ℕ
-comparison_end bs i = if ((byte bs i == 60) || (byte bs i == 62)) && (byte bs (i + 1) == 61) then i + 2 else i + 1
+comparison_end bs i = if ((byte bs i == sign "<") || (byte bs i == sign ">")) && (byte bs (i + 1) == sign "=") then i + 2 else i + 1
 
 abbrev pub compared_text : List ℕ → List ℕ → List ℕ → List ℕ
 compared_text left sign right = left ++ codes " " ++ sign ++ codes " " ++ right
@@ -58,14 +58,14 @@ last_by bs (Some x) = closed_by bs x.0 x.1
 -- behind one comparison: the end, or a second comparison
 unfoldable pub range_by : List ℕ → Option (List ℕ × ℕ) → Option (List ℕ × ℕ)
 range_by bs None = None
-range_by bs (Some x) = if byte bs x.1 == 41 then Some (in_parens x.0, x.1 + 1) else last_by bs (compared_at bs x.0 x.1)
+range_by bs (Some x) = if byte bs x.1 == sign ")" then Some (in_parens x.0, x.1 + 1) else last_by bs (compared_at bs x.0 x.1)
 
 -- behind the first side
 unfoldable pub sides_by : List ℕ → Option (List ℕ × ℕ) → Option (List ℕ × ℕ)
 sides_by bs None = None
 sides_by bs (Some x) =
-    if byte bs x.1 == 41 then Some (in_parens x.0, x.1 + 1)
-    else (if byte bs x.1 == 58 then value_by bs x.0 (sum_at bs (x.1 + 1))
+    if byte bs x.1 == sign ")" then Some (in_parens x.0, x.1 + 1)
+    else (if byte bs x.1 == sign ":" then value_by bs x.0 (sum_at bs (x.1 + 1))
     else range_by bs (compared_at bs x.0 x.1))
 
 -- the text of the feature whose inside begins at i, and the place behind it

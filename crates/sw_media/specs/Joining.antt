@@ -2,6 +2,7 @@
 -- loop. The type comes first, then the outer features, then the inner ones. A pair of two types that differ is dropped, but `all` gives way.
 use Rattle.std.specs.Prelude.{ℕ, ◌+◌, List, [], ◌∷◌, ◌++◌, map, Option, Some, None, is_some, not, Result, Ok, Err, Bool, true, false, ◌&&◌, ◌||◌, nat_lt, codes, bytes_eq, if◌then◌else◌}
 use Rattle.std.specs.Char.{to_ascii_lowercase}
+use Rattle.sw_media.specs.declared.reader.TheConstants.{MOST_QUERIES}
 use Rattle.sw_media.specs.declared.fault.MediaFault.{MediaFault}
 use Rattle.sw_media.specs.declared.fault.MediaFault.TheVariants.{MediaJoin, TooLarge}
 use Rattle.sw_media.specs.declared.query.Modifier.{Modifier}
@@ -100,7 +101,7 @@ media_meet a b = same_medium a b || (is_all a || is_all b)
 
 -- the pairs that aren't dropped, counted up to 10,001
 abbrev pub counted : ℕ → Bool → ℕ
-counted count kept = if kept && not (nat_lt 10000 count) then count + 1 else count
+counted count kept = if kept && not (nat_lt MOST_QUERIES count) then count + 1 else count
 
 abbrev pub inner_counted : Query → ℕ → List Query → ℕ
 inner_counted outer count [] = count
@@ -111,7 +112,7 @@ outer_counted inners count [] = count
 outer_counted inners count (outer ∷ more) = outer_counted inners (inner_counted outer count inners) more
 
 unfoldable pub too_many : List Query → List Query → Bool
-too_many outers inners = nat_lt 10000 (outer_counted inners 0 outers)
+too_many outers inners = nat_lt MOST_QUERIES (outer_counted inners 0 outers)
 
 -- a query with `not` before its type joins with none
 abbrev pub joins_none : List Query → List Query → Bool

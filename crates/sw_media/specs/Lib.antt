@@ -4,3 +4,4 @@ pub mod Laws
 pub mod Reading
 pub mod Words
 pub mod Writing
+pub mod Grammar

@@ -1,7 +1,9 @@
 -- What media queries a text is (Media Queries Level 4): queries joined by commas. A query is a type with conditions, where the text can be read so,
 -- else a condition.
 use Rattle.std.specs.Prelude.{◌≡◌, ℕ, zero, suc, ◌+◌, List, [], ◌∷◌, ◌++◌, length, Option, Some, None, Result, Ok, Err, Bool, ◌&&◌, ◌||◌, ◌==◌, nat_lt, codes, if◌then◌else◌}
-use Rattle.sw_scan.specs.Bytes.{byte}
+use Rattle.sw_scan.specs.declared.signs.TheConstants.{END}
+use Rattle.sw_scan.specs.Bytes.{sign, byte}
+use Rattle.sw_media.specs.declared.reader.TheConstants.{LEVELS, MOST_QUERIES}
 use Rattle.sw_media.specs.declared.fault.MediaFault.{MediaFault}
 use Rattle.sw_media.specs.declared.fault.MediaFault.TheVariants.{BadQuery, MediaJoin, TooLarge, Memory}
 use Rattle.sw_media.specs.declared.query.Modifier.{Modifier}
@@ -25,11 +27,11 @@ nested_by bs (Some x) = closed_by bs (condition_text x.0) (white bs x.1)
 
 -- the inside of parentheses
 unfoldable pub inside_at : Conditions → List ℕ → ℕ → Option (List ℕ × ℕ)
-inside_at deeper bs i = if (byte bs i == 40) || is_at (codes "not") bs i then nested_by bs (deeper i) else plain_at bs i
+inside_at deeper bs i = if (byte bs i == sign "(") || is_at (codes "not") bs i then nested_by bs (deeper i) else plain_at bs i
 
 -- the text of a feature, and the place behind it
 unfoldable pub feature_at : Conditions → List ℕ → ℕ → Option (List ℕ × ℕ)
-feature_at deeper bs i = if byte bs i == 40 then inside_at deeper bs (white bs (i + 1)) else None
+feature_at deeper bs i = if byte bs i == sign "(" then inside_at deeper bs (white bs (i + 1)) else None
 
 abbrev pub more_by : (List (List ℕ) → ℕ → Option (List (List ℕ) × ℕ)) → List (List ℕ) → Option (List ℕ × ℕ) → Option (List (List ℕ) × ℕ)
 more_by on list None = None
@@ -115,8 +117,8 @@ query_at deeper bs i =
 abbrev pub list_by : (List Query → ℕ → Option (List Query)) → List ℕ → List Query → Option (Query × ℕ) → Option (List Query)
 list_by on bs list None = None
 list_by on bs list (Some x) =
-    if byte bs (white bs x.1) == 44 then on (list ++ x.0 ∷ []) (white bs x.1 + 1)
-    else (if byte bs (white bs x.1) == 256 then Some (list ++ x.0 ∷ []) else None)
+    if byte bs (white bs x.1) == sign "," then on (list ++ x.0 ∷ []) (white bs x.1 + 1)
+    else (if byte bs (white bs x.1) == END then Some (list ++ x.0 ∷ []) else None)
 
 abbrev pub list_from : Conditions → List ℕ → ℕ → List Query → ℕ → Option (List Query)
 list_from deeper bs zero list i = None
@@ -127,7 +129,7 @@ unfoldable pub queries_in : List ℕ → ℕ → Option (List Query)
 queries_in bs levels = list_from (conditions_in bs levels) bs (length bs + 1) [] 0
 
 abbrev pub within_limit : List Query → Result (List Query) MediaFault
-within_limit list = if nat_lt 10000 (length list) then Err TooLarge else Ok list
+within_limit list = if nat_lt MOST_QUERIES (length list) then Err TooLarge else Ok list
 
 abbrev pub limited : Option (List Query) → Result (List Query) MediaFault
 limited None = Err BadQuery
@@ -135,7 +137,7 @@ limited (Some list) = within_limit list
 
 -- the queries of a text, or why it has none
 unfoldable pub queries_of : List ℕ → Result (List Query) MediaFault
-queries_of bs = limited (queries_in bs 128)
+queries_of bs = limited (queries_in bs LEVELS)
 
 -- these are the queries, or this is why there are none; or no memory was found
 abbrev pub IsAnswer : Result Queries MediaFault → Result (List Query) MediaFault → Type 0

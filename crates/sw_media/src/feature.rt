@@ -6,7 +6,7 @@ ghost use Rattle.sw_media.specs.Features.{trimmed, sum_by, sum_at, in_parens, cl
 use crate::MediaFault;
 use crate::words::white;
 use std::alloc::Global;
-use sw_scan::{Stops, byte_at, piece, stop_at, trimmed_end};
+use sw_scan::{Stops, byte_at, piece, signs, stop_at, trimmed_end};
 use sw_text::{Memory, Name};
 
 fn trimmed(text: &str, from: usize, to: usize) -> &str
@@ -65,7 +65,7 @@ pub fn closed_by(
 ) -> Result<(Name, usize), MediaFault>
     ensures { IsRead result (closed_by text.now inside.now at) }
 {
-    if byte_at(text.as_bytes(), at) != 41 {
+    if byte_at(text.as_bytes(), at) != signs::CLOSE_PAREN {
         return Err(MediaFault::BadQuery);
     }
     let whole = in_parens(alloc, inside)?;
@@ -99,7 +99,7 @@ fn value_behind(
 fn is_comparison(byte: u16) -> bool
     ensures { result ≡ is_comparison byte }
 {
-    byte == 60 || byte == 61 || byte == 62
+    byte == signs::LESS || byte == signs::EQUALS || byte == signs::GREATER
 }
 
 #[tactic(auto, unfolding(crate::specs::Features::comparison_end))]
@@ -108,7 +108,7 @@ fn comparison_end(bytes: &[u8], at: usize) -> usize
     ensures { result ≡ comparison_end bytes.now at }
 {
     let byte = byte_at(bytes, at);
-    if (byte == 60 || byte == 62) && byte_at(bytes, at + 1) == 61 {
+    if (byte == signs::LESS || byte == signs::GREATER) && byte_at(bytes, at + 1) == signs::EQUALS {
         at + 2
     } else {
         at + 1
@@ -155,7 +155,7 @@ fn range_behind(
     ensures { IsRead result (range_by text.now (compared_at text.now left.now at)) }
 {
     let (inside, to) = compared_at(alloc, text, left, at)?;
-    if byte_at(text.as_bytes(), to) == 41 {
+    if byte_at(text.as_bytes(), to) == signs::CLOSE_PAREN {
         let whole = in_parens(alloc, inside.as_str())?;
         return Ok((whole, to + 1));
     }
@@ -173,11 +173,11 @@ fn sides_behind(
     ensures { IsRead result (sides_by text.now (Some (left.now, at))) }
 {
     let byte = byte_at(text.as_bytes(), at);
-    if byte == 41 {
+    if byte == signs::CLOSE_PAREN {
         let whole = in_parens(alloc, left)?;
         return Ok((whole, at + 1));
     }
-    if byte == 58 {
+    if byte == signs::COLON {
         return value_behind(alloc, text, left, at + 1);
     }
     range_behind(alloc, text, left, at)

@@ -6,6 +6,7 @@ ghost use Rattle.sw_media.specs.Writing.{condition_text};
 ghost use Rattle.sw_media.specs.Joining.{is_not, is_only, is_denied, denied_from, same_medium, is_all, either_only, joined_kind, two_media, kind_by, features_of, joined_features, pair_added, inner_joined, outer_joined, media_meet, is_kept, counted, inner_counted, outer_counted, too_many, joins_none, join_by};
 
 use crate::feature::in_parens;
+use crate::reader::MOST_QUERIES;
 use crate::write::condition_text;
 use crate::{Condition, MediaFault, Modifier, Queries, Query};
 use std::alloc::Global;
@@ -273,7 +274,7 @@ fn is_kept(outer: &Query, inner: &Query) -> bool
 fn counted(count: usize, kept: bool) -> usize
     ensures { result ≡ counted count kept }
 {
-    if kept && count <= 10_000 {
+    if kept && count <= MOST_QUERIES {
         count + 1
     } else {
         count
@@ -305,5 +306,5 @@ fn outer_counted(inners: &[Query], outers: &[Query]) -> usize
 fn too_many(outers: &[Query], inners: &[Query]) -> bool
     ensures { result ≡ too_many outers.now inners.now }
 {
-    outer_counted(inners, outers) > 10_000
+    outer_counted(inners, outers) > MOST_QUERIES
 }

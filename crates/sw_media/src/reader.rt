@@ -8,11 +8,14 @@ use crate::words::{is_at, is_type_at, name_end, text_of, white};
 use crate::write::condition_text;
 use crate::{Condition, MediaFault, Modifier, Queries, Query};
 use std::alloc::Global;
-use sw_scan::byte_at;
+use sw_scan::{byte_at, signs};
 use sw_text::{List, Name};
 
-// At most so many conditions stand in each other in parentheses.
-const LEVELS: u8 = 128;
+/// At most so many conditions stand in each other in parentheses.
+pub const LEVELS: u8 = 128;
+
+/// A list has at most so many queries.
+pub const MOST_QUERIES: usize = 10_000;
 
 /// The media queries of a text without comments and `#{}`. `BadQuery` comes exactly where the text is none, also where more than
 /// 128 conditions stand in each other in parentheses; else `TooLarge` exactly where there are more than 10,000 queries.
@@ -27,7 +30,7 @@ pub fn read(alloc: Global, text: &str) -> Result<Queries, MediaFault>
 fn within_limit(list: List<Query>) -> Result<Queries, MediaFault>
     ensures { IsAnswer result (within_limit list) }
 {
-    if list.len() > 10_000 {
+    if list.len() > MOST_QUERIES {
         return Err(MediaFault::TooLarge);
     }
     Ok(Queries { list })
@@ -44,10 +47,10 @@ fn queries_in(alloc: Global, text: &str, levels: u8) -> Result<List<Query>, Medi
         list.push(query)?;
         let behind = white(text.as_bytes(), to);
         let byte = byte_at(text.as_bytes(), behind);
-        if byte == 256 {
+        if byte == signs::END {
             return Ok(list);
         }
-        if byte != 44 {
+        if byte != signs::COMMA {
             return Err(MediaFault::BadQuery);
         }
         place = behind + 1;
@@ -269,7 +272,7 @@ fn features_at(
 fn feature_at(alloc: Global, text: &str, levels: u8, at: usize) -> Result<(Name, usize), MediaFault>
     ensures { IsRead result (feature_at (conditions_in text.now levels) text.now at) }
 {
-    if byte_at(text.as_bytes(), at) != 40 {
+    if byte_at(text.as_bytes(), at) != signs::OPEN_PAREN {
         return Err(MediaFault::BadQuery);
     }
     inside_at(alloc, text, levels, white(text.as_bytes(), at + 1))
@@ -281,7 +284,7 @@ fn feature_at(alloc: Global, text: &str, levels: u8, at: usize) -> Result<(Name,
 fn inside_at(alloc: Global, text: &str, levels: u8, at: usize) -> Result<(Name, usize), MediaFault>
     ensures { IsRead result (inside_at (conditions_in text.now levels) text.now at) }
 {
-    if byte_at(text.as_bytes(), at) == 40 || is_at("not", text, at) {
+    if byte_at(text.as_bytes(), at) == signs::OPEN_PAREN || is_at("not", text, at) {
         return nested_at(alloc, text, levels, at);
     }
     plain_at(alloc, text, at)

@@ -19,7 +19,7 @@ impl From<OpFault> for Refusal {
     }
 }
 
-pub fn operator_call(alloc: Global, name: &str, text: &str) -> Result<String, Refusal> {
+pub fn answer(alloc: Global, name: &str, text: &str) -> Result<String, Refusal> {
     let mut reader = Reader::new(text);
     let value = match name {
         "operate" => {

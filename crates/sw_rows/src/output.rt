@@ -16,7 +16,7 @@ impl From<TreeFault> for Refusal {
 }
 
 /// Modules are parted by ` ; `, and the calls that one makes by ` | `.
-pub fn output_call(alloc: Global, name: &str, text: &str) -> Result<String, Refusal> {
+pub fn answer(alloc: Global, name: &str, text: &str) -> Result<String, Refusal> {
     let bytes = if name == "parts" {
         joined(alloc, text)?
     } else {

@@ -18,7 +18,7 @@ impl From<ValueFault> for Refusal {
 /// How many brackets of a row stand in one another at most.
 pub const DEPTH: u32 = 100;
 
-pub fn value_call(alloc: Global, name: &str, text: &str) -> Result<String, Refusal> {
+pub fn answer(alloc: Global, name: &str, text: &str) -> Result<String, Refusal> {
     let mut reader = Reader::new(text);
     let value = reader.value(alloc, DEPTH)?;
     if reader.is_done() {
@@ -71,10 +71,7 @@ fn pairs_of(value: &Value) -> Result<&Pairs, Refusal> {
 }
 
 fn css(alloc: Global, value: &Value, quotes: bool) -> Result<String, Refusal> {
-    Ok(String::from_str(
-        alloc,
-        value.css_text(alloc, quotes)?.as_str(),
-    )?)
+    Ok(String::from_str(alloc, value.css_text(alloc, quotes)?.as_str())?)
 }
 
 /// A value's text for a reader.

@@ -1,3 +1,4 @@
-pub mod RunLemmas
+pub mod Bounds
+pub mod Progress
 pub mod PieceLemmas
 pub mod ScanLemmas

@@ -2,7 +2,7 @@
 use Rattle.std.proofs.Common.{◌≡◌, ℕ, suc, ◌+◌, ◌-◌, ◌≤◌, ◌<◌, true, false, List, refl, sym, ◌∙◌, ap, arith}
 use Rattle.sw_scan.specs.Bytes.{byte, is_white}
 use Rattle.sw_scan.specs.Pieces.{trimmed_from}
-use Rattle.sw_scan.proofs.RunLemmas.{if_true, if_false}
+use Rattle.sw_scan.proofs.Bounds.{if_true, if_false}
 
 module _ (bs : List ℕ) where
   count_more : (i n k : ℕ) → k ≡ n → is_white (byte bs (i + n)) ≡ true → trimmed_from bs i (suc n) ≡ trimmed_from bs i k

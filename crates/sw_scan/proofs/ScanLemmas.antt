@@ -2,7 +2,7 @@
 use Rattle.std.proofs.Common.{◌≡◌, ℕ, zero, suc, ◌-◌, ◌<◌, true, false, List, ◌∙◌, ap, arith, Some, None}
 use Rattle.sw_scan.specs.declared.brackets.Stops.{Stops}
 use Rattle.sw_scan.specs.Brackets.{at_place, scan_step, stopped, scan_by, scan_from}
-use Rattle.sw_scan.proofs.RunLemmas.{if_true, if_false}
+use Rattle.sw_scan.proofs.Bounds.{if_true, if_false}
 
 module _ (to : Stops) (bs : List ℕ) where
   pub scan_found : (n : ℕ) (closers : List ℕ) (i : ℕ) → 0 < n → stopped to bs closers i ≡ true → scan_from to bs n closers i ≡ Some i

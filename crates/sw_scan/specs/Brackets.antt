@@ -3,24 +3,30 @@ use Rattle.std.specs.Prelude.{ℕ, zero, suc, ◌+◌, ◌-◌, List, [], ◌∷
 use Rattle.sw_scan.specs.declared.brackets.Stops.{Stops}
 use Rattle.sw_scan.specs.declared.brackets.Stops.TheVariants as stops
 use Rattle.sw_scan.specs.declared.runs.Class.TheVariants as classes
-use Rattle.sw_scan.specs.Bytes.{byte}
+use Rattle.sw_scan.specs.declared.brackets.TheConstants.{NO_BRACKET}
+use Rattle.sw_scan.specs.declared.signs.TheConstants.{END}
+use Rattle.sw_scan.specs.Bytes.{sign, byte, is_quote}
 use Rattle.sw_scan.specs.Runs.{escape_end, run_end}
 
 -- what ends such a text where it stands outside strings and brackets
 abbrev pub stops_by : Stops → ℕ → Bool
-stops_by stops.Argument b = (b == 41) || ((b == 59) || ((b == 123) || (b == 125)))
-stops_by stops.Sum b = (b == 41) || ((b == 58) || ((b == 60) || ((b == 61) || (b == 62))))
+stops_by stops.Argument b = (b == sign ")") || ((b == sign ";") || ((b == sign "{") || (b == sign "}")))
+stops_by stops.Sum b = (b == sign ")") || ((b == sign ":") || ((b == sign "<") || ((b == sign "=") || (b == sign ">"))))
 
--- the bracket that closes this one, and 0 for what is no opening bracket
+-- the bracket that closes this one, and none for what is no opening bracket
 abbrev pub closing : ℕ → ℕ
-closing b = if b == 40 then 41 else (if b == 91 then 93 else (if b == 123 then 125 else 0))
+closing b =
+    if b == sign "(" then sign ")"
+    else (if b == sign "[" then sign "]"
+    else (if b == sign "{" then sign "}"
+    else NO_BRACKET))
 
 abbrev pub is_closing : ℕ → Bool
-is_closing b = (b == 41) || ((b == 93) || (b == 125))
+is_closing b = (b == sign ")") || ((b == sign "]") || (b == sign "}"))
 
 -- the bracket that has to come next
 abbrev pub innermost : List ℕ → ℕ
-innermost closers = unwrap_or (slice_get closers (length closers - 1)) 0
+innermost closers = unwrap_or (slice_get closers (length closers - 1)) NO_BRACKET
 
 -- behind one escape, or one byte
 unfoldable pub over : List ℕ → ℕ → ℕ
@@ -28,7 +34,8 @@ over bs i = if nat_lt i (escape_end bs i) then escape_end bs i else i + 1
 
 -- behind the string that begins with the quote q at i, where it is closed
 unfoldable pub string_end : List ℕ → ℕ → ℕ → Option ℕ
-string_end bs q i = if byte bs (run_end (classes.Text q) bs (i + 1)) == q then Some (run_end (classes.Text q) bs (i + 1) + 1) else None
+string_end bs q i =
+    if byte bs (run_end (classes.Text q) bs (i + 1)) == q then Some (run_end (classes.Text q) bs (i + 1) + 1) else None
 
 -- what is open at a place: the brackets that close it, the innermost last
 pub record Scan : Type 0 where
@@ -45,10 +52,11 @@ past_string closers (Some j) = Some (at_place closers j)
 -- one step on
 unfoldable pub scan_step : List ℕ → List ℕ → ℕ → Option Scan
 scan_step bs closers i =
-    if byte bs i == 256 then None
-    else (if (byte bs i == 34) || (byte bs i == 39) then past_string closers (string_end bs (byte bs i) i)
-    else (if nat_lt 0 (closing (byte bs i)) then Some (at_place (closers ++ closing (byte bs i) ∷ []) (i + 1))
-    else (if is_closing (byte bs i) then (if innermost closers == byte bs i then Some (at_place (take (length closers - 1) closers) (i + 1)) else None)
+    if byte bs i == END then None
+    else (if is_quote (byte bs i) then past_string closers (string_end bs (byte bs i) i)
+    else (if nat_lt NO_BRACKET (closing (byte bs i)) then Some (at_place (closers ++ closing (byte bs i) ∷ []) (i + 1))
+    else (if is_closing (byte bs i) then
+    (if innermost closers == byte bs i then Some (at_place (take (length closers - 1) closers) (i + 1)) else None)
     else Some (at_place closers (over bs i)))))
 
 abbrev pub stopped : Stops → List ℕ → List ℕ → ℕ → Bool
@@ -61,8 +69,10 @@ scan_by on (Some scan) = on scan.closers scan.place
 -- with n steps left
 abbrev pub scan_from : Stops → List ℕ → ℕ → List ℕ → ℕ → Option ℕ
 scan_from to bs zero closers i = None
-scan_from to bs (suc n) closers i = if stopped to bs closers i then Some i else scan_by (scan_from to bs n) (scan_step bs closers i)
+scan_from to bs (suc n) closers i =
+    if stopped to bs closers i then Some i else scan_by (scan_from to bs n) (scan_step bs closers i)
 
--- the first place from i on, outside strings and brackets, that ends the text; none where a string or a bracket isn't closed before, or nothing ends it
+-- the first place from i on, outside strings and brackets, that ends the text; none where a string or a bracket isn't
+-- closed before, or nothing ends it
 unfoldable pub stop_at : Stops → List ℕ → ℕ → Option ℕ
 stop_at to bs i = scan_from to bs (length bs + 1) [] i

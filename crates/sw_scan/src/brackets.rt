@@ -2,9 +2,13 @@
 ghost use Rattle.std.specs.Prelude.{◌≡◌, ◌<◌, ◌^◌, IfOk, length, None, Some, option_map};
 ghost use Rattle.sw_scan.specs.Brackets.{stops_by, closing, is_closing, innermost, over, string_end, stopped, scan_step, stop_at, at_place};
 
-use crate::bytes::byte_at;
+use crate::bytes::{byte_at, is_quote};
 use crate::runs::{Class, escape_end, run_end};
+use crate::signs;
 use std::alloc::{AllocError, Global};
+
+// In place of a bracket, where there is none.
+const NO_BRACKET: u16 = 0;
 
 /// What ends a text where it stands outside its strings and brackets.
 #[derive(Clone, Copy, Debug, PartialEq, Eq)]
@@ -19,8 +23,19 @@ fn stops_by(stops: Stops, byte: u16) -> bool
     ensures { result ≡ stops_by stops byte }
 {
     match stops {
-        Stops::Argument => byte == 41 || byte == 59 || byte == 123 || byte == 125,
-        Stops::Sum => byte == 41 || byte == 58 || byte == 60 || byte == 61 || byte == 62,
+        Stops::Argument => {
+            byte == signs::CLOSE_PAREN
+                || byte == signs::SEMICOLON
+                || byte == signs::OPEN_BRACE
+                || byte == signs::CLOSE_BRACE
+        },
+        Stops::Sum => {
+            byte == signs::CLOSE_PAREN
+                || byte == signs::COLON
+                || byte == signs::LESS
+                || byte == signs::EQUALS
+                || byte == signs::GREATER
+        },
     }
 }
 
@@ -28,24 +43,24 @@ fn closing(byte: u16) -> u16
     ensures { result ≡ closing byte }
 {
     match byte {
-        40 => 41,
-        91 => 93,
-        123 => 125,
-        _ => 0,
+        signs::OPEN_PAREN => signs::CLOSE_PAREN,
+        signs::OPEN_BRACKET => signs::CLOSE_BRACKET,
+        signs::OPEN_BRACE => signs::CLOSE_BRACE,
+        _ => NO_BRACKET,
     }
 }
 
 fn is_closing(byte: u16) -> bool
     ensures { result ≡ is_closing byte }
 {
-    byte == 41 || byte == 93 || byte == 125
+    byte == signs::CLOSE_PAREN || byte == signs::CLOSE_BRACKET || byte == signs::CLOSE_BRACE
 }
 
 fn innermost(closers: &[u16]) -> u16
     ensures { result ≡ innermost closers.now }
 {
     match closers.last() {
-        None => 0,
+        None => NO_BRACKET,
         Some(bracket) => *bracket,
     }
 }
@@ -84,14 +99,14 @@ fn scan_step(bytes: &[u8], closers: &mut Vec<u16>, at: usize) -> Result<Option<u
     ensures { IfOk result (λ to. option_map (at_place closers.new.items) to ≡ scan_step bytes.now closers.old.items at) }
 {
     let byte = byte_at(bytes, at);
-    if byte == 256 {
+    if byte == signs::END {
         return Ok(None);
     }
-    if byte == 34 || byte == 39 {
+    if is_quote(byte) {
         return Ok(string_end(bytes, byte as u8, at));
     }
     let bracket = closing(byte);
-    if bracket > 0 {
+    if bracket > NO_BRACKET {
         closers.push(bracket)?;
         return Ok(Some(at + 1));
     }
@@ -105,7 +120,8 @@ fn scan_step(bytes: &[u8], closers: &mut Vec<u16>, at: usize) -> Result<Option<u
     Ok(Some(over(bytes, at)))
 }
 
-/// The first place from a place on, outside strings and brackets, that ends the text. None where a string or a bracket isn't closed before it, or where nothing ends it.
+/// The first place from a place on, outside strings and brackets, that ends the text. None where a string or a bracket
+/// isn't closed before it, or where nothing ends it.
 #[tactic(auto, using(crate::proofs::ScanLemmas::scan_found, crate::proofs::ScanLemmas::scan_lost, crate::proofs::ScanLemmas::scan_on), unfolding(crate::specs::Brackets::stop_at))]
 pub fn stop_at(
     alloc: Global,

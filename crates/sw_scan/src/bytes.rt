@@ -1,16 +1,19 @@
-// The bytes of a text, and the characters that matter to names, white space and strings.
-ghost use Rattle.std.specs.Prelude.{◌≡◌, ◌≢◌, ◌<◌, ◌+◌, ◌^◌, length};
-ghost use Rattle.sw_scan.specs.Bytes.{byte, is_break, is_white, is_digit, is_letter, is_hex_digit, is_wide, starts_plainly, is_name_byte, continues};
+// The bytes of a text, and the characters that matter to names, white space, strings and urls.
+ghost use Rattle.std.specs.Prelude.{◌≡◌, ◌≢◌, ◌<◌, ◌≤◌, ◌+◌, ◌^◌, ◌&&◌, nat_le, length, IsTrue};
+ghost use Rattle.sw_scan.specs.Bytes.{byte, is_break, is_white, is_digit, is_letter, is_hex_digit, is_wide, starts_plainly, is_name_byte, is_quote, is_late_sign, is_url_byte, is_range_byte, continues, opens_at, begins_silent, begins_loud, ends_loud};
 
-/// The byte at a place, or 256 past the end.
+use crate::signs;
+use crate::signs::END;
+
+/// The byte at a place, or the number of the end past it.
 #[tactic(auto, unfolding(crate::specs::Bytes::byte))]
 pub fn byte_at(bytes: &[u8], at: usize) -> u16
     ensures byte { result ≡ byte bytes.now at }
-    ensures within { result ≢ 256 → at < length bytes.now }
-    ensures room { result ≢ 256 → at + 1 < 2 ^ 63 }
+    ensures within { result ≢ END → at < length bytes.now }
+    ensures room { result ≢ END → at + 1 < 2 ^ 63 }
 {
     match bytes.get(at) {
-        None => 256,
+        None => signs::END,
         Some(byte) => *byte as u16,
     }
 }
@@ -18,56 +21,128 @@ pub fn byte_at(bytes: &[u8], at: usize) -> u16
 pub fn is_break(byte: u16) -> bool
     ensures { result ≡ is_break byte }
 {
-    byte == 10 || byte == 13 || byte == 12
+    byte == signs::LINE_FEED || byte == signs::CARRIAGE_RETURN || byte == signs::FORM_FEED
 }
 
 /// Space, tab and line breaks.
 pub fn is_white(byte: u16) -> bool
     ensures { result ≡ is_white byte }
 {
-    byte == 32 || byte == 9 || is_break(byte)
+    byte == signs::SPACE || byte == signs::TAB || is_break(byte)
+}
+
+fn is_between(byte: u16, least: u8, most: u8) -> bool
+    ensures { result ≡ (nat_le least byte && nat_le byte most) }
+{
+    least as u16 <= byte && byte <= most as u16
 }
 
 pub fn is_digit(byte: u16) -> bool
     ensures { result ≡ is_digit byte }
 {
-    48 <= byte && byte < 58
+    is_between(byte, b'0', b'9')
 }
 
 /// An ASCII letter.
 pub fn is_letter(byte: u16) -> bool
     ensures { result ≡ is_letter byte }
 {
-    (65 <= byte && byte < 91) || (97 <= byte && byte < 123)
+    is_between(byte, b'A', b'Z') || is_between(byte, b'a', b'z')
 }
 
 pub fn is_hex_digit(byte: u16) -> bool
     ensures { result ≡ is_hex_digit byte }
 {
-    is_digit(byte) || (65 <= byte && byte < 71) || (97 <= byte && byte < 103)
+    is_digit(byte) || is_between(byte, b'A', b'F') || is_between(byte, b'a', b'f')
 }
 
-fn is_wide(byte: u16) -> bool
+/// A byte of a character from U+0080 on.
+pub fn is_wide(byte: u16) -> bool
     ensures { result ≡ is_wide byte }
 {
-    128 <= byte && byte < 256
+    signs::FIRST_WIDE <= byte && byte < signs::END
 }
 
+/// What a unit may begin with.
 pub fn starts_plainly(byte: u16) -> bool
     ensures { result ≡ starts_plainly byte }
 {
-    is_letter(byte) || byte == 95 || is_wide(byte)
+    is_letter(byte) || byte == signs::UNDERSCORE || is_wide(byte)
 }
 
+/// A name character that is no escape.
 pub fn is_name_byte(byte: u16) -> bool
     ensures { result ≡ is_name_byte byte }
 {
-    starts_plainly(byte) || is_digit(byte) || byte == 45
+    starts_plainly(byte) || is_digit(byte) || byte == signs::MINUS
+}
+
+pub fn is_quote(byte: u16) -> bool
+    ensures { result ≡ is_quote byte }
+{
+    byte == signs::QUOTE || byte == signs::APOSTROPHE
+}
+
+fn is_late_sign(byte: u16) -> bool
+    ensures { result ≡ is_late_sign byte }
+{
+    is_between(byte, b'*', b'~') && byte != signs::BACKSLASH
+}
+
+/// What may stand in a `url(..)` that isn't quoted; `#{` and escapes apart.
+pub fn is_url_byte(byte: u16) -> bool
+    ensures { result ≡ is_url_byte byte }
+{
+    byte == signs::EXCLAMATION
+        || byte == signs::HASH
+        || byte == signs::PERCENT
+        || byte == signs::AMPERSAND
+        || is_late_sign(byte)
+        || is_wide(byte)
+}
+
+/// What may follow `u+`.
+pub fn is_range_byte(byte: u16) -> bool
+    ensures { result ≡ is_range_byte byte }
+{
+    is_hex_digit(byte) || byte == signs::QUESTION || byte == signs::MINUS
 }
 
 /// A byte that goes on with a character.
 pub fn continues(byte: u16) -> bool
     ensures { result ≡ continues byte }
 {
-    128 <= byte && byte < 192
+    signs::FIRST_WIDE <= byte && byte < signs::FIRST_LEAD
+}
+
+/// Whether `#{` stands at a place.
+pub fn opens_at(bytes: &[u8], at: usize) -> bool
+    ensures test { result ≡ opens_at bytes.now at }
+    ensures room { IsTrue result → at + 2 ≤ length bytes.now }
+{
+    byte_at(bytes, at) == signs::HASH && byte_at(bytes, at + 1) == signs::OPEN_BRACE
+}
+
+/// Whether `//` stands at a place.
+pub fn begins_silent(bytes: &[u8], at: usize) -> bool
+    ensures test { result ≡ begins_silent bytes.now at }
+    ensures room { IsTrue result → at + 2 ≤ length bytes.now }
+{
+    byte_at(bytes, at) == signs::SLASH && byte_at(bytes, at + 1) == signs::SLASH
+}
+
+/// Whether `/*` stands at a place.
+pub fn begins_loud(bytes: &[u8], at: usize) -> bool
+    ensures test { result ≡ begins_loud bytes.now at }
+    ensures room { IsTrue result → at + 2 ≤ length bytes.now }
+{
+    byte_at(bytes, at) == signs::SLASH && byte_at(bytes, at + 1) == signs::STAR
+}
+
+/// Whether `*/` stands at a place.
+pub fn ends_loud(bytes: &[u8], at: usize) -> bool
+    ensures test { result ≡ ends_loud bytes.now at }
+    ensures room { IsTrue result → at + 2 ≤ length bytes.now }
+{
+    byte_at(bytes, at) == signs::STAR && byte_at(bytes, at + 1) == signs::SLASH
 }

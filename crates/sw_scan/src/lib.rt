@@ -1,12 +1,20 @@
-//! How far names, white space, strings and brackets reach in a text: what the readers of selectors and of media queries share. Places in a text flow in and out; no memory is kept.
+//! How far names, white space, strings, numbers, urls and brackets reach in a text: what the readers of sheets, selectors and media queries share. Places in a text flow in and out; no memory is kept.
 #![tactic(auto)]
 
 mod brackets;
 mod bytes;
 mod pieces;
 mod runs;
+pub mod signs;
+mod words;
 
 pub use brackets::{Stops, stop_at, string_end};
-pub use bytes::{byte_at, is_letter, is_white};
+pub use bytes::{
+    begins_loud, begins_silent, byte_at, ends_loud, is_break, is_digit, is_hex_digit, is_letter,
+    is_quote, is_white, opens_at,
+};
 pub use pieces::{piece, trimmed_end};
-pub use runs::{Class, begins_name, run_end};
+pub use runs::{Class, MOST_HEX_DIGITS, begins_name, escape_end, next_at, run_end, white_end};
+pub use words::{
+    begins_number, begins_range, begins_url, unit_end, unit_start, url_close, url_text_end,
+};

@@ -4,10 +4,11 @@ use Rattle.std.proofs.lemmas.Bool.Decides.{nat_tests}
 use Rattle.std.proofs.lemmas.Option.{slice_get_cases}
 use Rattle.std.proofs.lemmas.List.{map-append}
 use Rattle.sw_grammar.specs.Grammar.{Grammar, many, seq, build, keep, skip, group, anywhere, member, Answer, Got, Unexpected, TooDeep, Reads, Derives, DerivesAny, DerivesIn, Row, done, then}
-use Rattle.sw_grammar.proofs.Whole.{parse_reads, parse_reads_deep}
+use Rattle.sw_grammar.proofs.Whole.{parse_reads, parse_reads_deep, parse_deep_exactly}
 use Rattle.sw_grammar.proofs.Ends.{derives_end}
 use Rattle.sw_text.specs.Places.{Text}
 use Rattle.sw_text.specs.declared.fault.Fault.{Fault}
+use Rattle.sw_text.specs.declared.fault.FaultCode.TheVariants.{Depth}
 use Rattle.sw_tokens.specs.Ends.{tokens_of}
 use Rattle.sw_tokens.specs.Faults.{TellsFault, IsFaultBy}
 use Rattle.sw_tokens.specs.declared.token.Token.{Token}
@@ -25,7 +26,7 @@ use Rattle.sw_scss_parse.specs.Ends.{end_of}
 use Rattle.sw_scss_parse.specs.Terminals.{number_of, lexemes_of}
 use Rattle.sw_scss_parse.specs.Sheets.{Part, Place, Texts, Owns, Values, States, Form, Whole, Block, forms, text_of, terminal_at, terminal_in, statements_of, finish, word, dollar_name, dotted_name, space, owner, variable, owned, qualified, expr, colon_value, declared, assigned, as_name, load, property, selector, rule, statement, to_declared, to_assigned, to_load, to_rule, opening, closing}
 use Rattle.sw_scss_parse.specs.SheetReader.{reader}
-use Rattle.sw_scss_parse.specs.SheetReading.{answered, lexemes_read, tokens_read, sheet_of, ReadsLexemes, ReadsTokens, IsReading, Returns, Obeys}
+use Rattle.sw_scss_parse.specs.SheetReading.{answered, lexemes_read, tokens_read, sheet_of, ReadsLexemes, ReadsTokens, OpensTooMany, IsReading, TellsDepth, fault_at, Returns, Obeys}
 
 not_end : (k : ℕ) → 1 ≤ k → member k (0 ∷ []) ≡ true → ⊥
 not_end k l e = grind (arith, nat_tests)
@@ -143,6 +144,11 @@ module _ (sheet : Text) (lexemes : List Lexeme) where
   lexemes_are_read (TooDeep at) e =
       inr (at, parse_reads_deep (fit sheet lexemes) opening closing (forms_nested sheet lexemes) 128 Whole 0 (TooDeep at) e, refl)
 
+  lexemes_deep : (at : ℕ) → OpensTooMany sheet lexemes at → lexemes_read sheet lexemes ≡ Err (fault_at Depth sheet lexemes at)
+  lexemes_deep at d =
+      let exactly = parse_deep_exactly (fit sheet lexemes) opening closing (forms_nested sheet lexemes) 128 Whole 0 (reader sheet lexemes 128 (forms sheet lexemes Whole) 0) refl at in
+      ap (answered sheet lexemes) (exactly.1 d)
+
   pub got_sheet : (xs : List Statement) (j : ℕ) → reader sheet lexemes 128 (forms sheet lexemes Whole) 0 ≡ Got (map States xs) j → lexemes_read sheet lexemes ≡ Ok (record { statements = xs })
   got_sheet xs j e =
       ap (answered sheet lexemes) e ∙ ap (λ (x : List Statement). let r : Result Sheet Fault = Ok (record { statements = x }) in r) (statements_of_map xs)
@@ -154,6 +160,10 @@ tokens_are_read sheet (Err at) = refl
 pub sheet_is_read : (sheet : Text) → IsReading sheet (sheet_of sheet)
 unfolding sheet_of
 sheet_is_read sheet = tokens_are_read sheet (tokens_of sheet.bytes)
+
+pub sheet_is_deep : (sheet : Text) → TellsDepth sheet (sheet_of sheet)
+unfolding sheet_of
+sheet_is_deep sheet tokens at e d = ap (tokens_read sheet) e ∙ lexemes_deep sheet (lexemes_of sheet.bytes tokens) at d
 
 -- what was returned for the tokens is what the text gives
 pub tokens_returned : (source sheet : Text) (list : List Token) (r : Result Sheet ReadEnd) → source ≡ sheet → tokens_of sheet.bytes ≡ Ok list

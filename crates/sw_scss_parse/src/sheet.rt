@@ -2,7 +2,7 @@
 ghost use Rattle.std.specs.Prelude.{Err};
 ghost use Rattle.sw_text.specs.Places.{Text};
 ghost use Rattle.sw_scss_parse.specs.Terminals.{lexemes_of};
-ghost use Rattle.sw_scss_parse.specs.SheetReading.{fault_at, lexemes_read, sheet_of, Returns, Obeys, IsReading};
+ghost use Rattle.sw_scss_parse.specs.SheetReading.{fault_at, lexemes_read, sheet_of, Returns, Obeys, IsReading, TellsDepth};
 
 use crate::ReadEnd;
 use crate::block::whole_at;
@@ -29,9 +29,11 @@ pub fn read_sheet(alloc: Global, text: &Shared<SheetText>) -> Result<Shared<Shee
 }
 
 /// A law: what `read_sheet` gives for a text is what the grammar says of it. The tree is what the whole list of tokens derives, and the
-/// only one; a fault stands where no sheet can go on.
+/// only one; a fault stands where no sheet can go on. A fault of depth comes exactly where a token is the first that opens a level more
+/// than may be open.
 pub fn sheets_are_of_the_grammar()
-    ensures { (sheet : Text) → IsReading sheet (sheet_of sheet) }
+    ensures grammar { (sheet : Text) → IsReading sheet (sheet_of sheet) }
+    ensures depth { (sheet : Text) → TellsDepth sheet (sheet_of sheet) }
 {}
 
 fn read_tokens(alloc: Global, tokens: &Tokens) -> Result<Shared<Sheet>, ReadEnd>

@@ -1,3 +1,7 @@
 pub mod Loops
-pub mod Nests
+pub mod Turns
 pub mod Pairs
+pub mod Lexical
+pub mod Derives
+pub mod Lists
+pub mod Whole

@@ -3,7 +3,8 @@ use Rattle.std.proofs.Common.{◌≡◌, ◌≢◌, ℕ, zero, suc, ◌+◌, ◌
 use Rattle.std.specs.Prelude.{◌==◌, if◌then◌else◌}
 use Rattle.std.specs.Result.{IsErrAnd}
 use Rattle.std.proofs.lemmas.Result.{err_from_is_err_and}
-use Rattle.sw_scan.specs.Bytes.{byte}
+use Rattle.sw_scan.specs.declared.signs.TheConstants.{END}
+use Rattle.sw_scan.specs.Bytes.{sign, byte}
 use Rattle.sw_selector.specs.declared.fault.SelectorFault.{SelectorFault}
 use Rattle.sw_selector.specs.declared.fault.SelectorFault.TheVariants.{BadSelector, NoParent, TooLarge, Memory}
 use Rattle.sw_selector.specs.declared.selector.Part.{Part}
@@ -68,18 +69,18 @@ module _ (deeper : Lists) (bs : List ℕ) where
   list_fails zero list i z e = absurd (omega arith)
   list_fails (suc n) list i z e = ap (list_by (list_from deeper bs n) bs list) e
 
-  pub list_ends : (n : ℕ) (list : List (List Part)) (i : ℕ) (parts : List Part) (j : ℕ) → 0 < n → complex_at deeper bs i ≡ Some (parts, j) → (byte bs j == 44) ≡ false
+  pub list_ends : (n : ℕ) (list : List (List Part)) (i : ℕ) (parts : List Part) (j : ℕ) → 0 < n → complex_at deeper bs i ≡ Some (parts, j) → (byte bs j == sign ",") ≡ false
       → list_from deeper bs n list i ≡ Some (list ++ parts ∷ [], j)
   list_ends zero list i parts j z e f = absurd (omega arith)
   list_ends (suc n) list i parts j z e f =
-      ap (list_by (list_from deeper bs n) bs list) e ∙ if_false (byte bs j == 44) (list_from deeper bs n (list ++ parts ∷ []) (j + 1)) (Some (list ++ parts ∷ [], j)) f
+      ap (list_by (list_from deeper bs n) bs list) e ∙ if_false (byte bs j == sign ",") (list_from deeper bs n (list ++ parts ∷ []) (j + 1)) (Some (list ++ parts ∷ [], j)) f
 
-  pub list_goes : (n : ℕ) (list : List (List Part)) (i : ℕ) (parts : List Part) (j : ℕ) → 0 < n → complex_at deeper bs i ≡ Some (parts, j) → (byte bs j == 44) ≡ true
+  pub list_goes : (n : ℕ) (list : List (List Part)) (i : ℕ) (parts : List Part) (j : ℕ) → 0 < n → complex_at deeper bs i ≡ Some (parts, j) → (byte bs j == sign ",") ≡ true
       → list_from deeper bs n list i ≡ list_from deeper bs (n - 1) (list ++ parts ∷ []) (j + 1)
   list_goes zero list i parts j z e f = absurd (omega arith)
   list_goes (suc n) list i parts j z e f =
       ap (list_by (list_from deeper bs n) bs list) e
-      ∙ if_true (byte bs j == 44) (list_from deeper bs n (list ++ parts ∷ []) (j + 1)) (Some (list ++ parts ∷ [], j)) f
+      ∙ if_true (byte bs j == sign ",") (list_from deeper bs n (list ++ parts ∷ []) (j + 1)) (Some (list ++ parts ∷ [], j)) f
       ∙ ap (λ (k : ℕ). list_from deeper bs k (list ++ parts ∷ []) (j + 1)) (less n)
 
   pub whole_fails : (n : ℕ) (list : List (List Part)) (i : ℕ) → 0 < n → complex_at deeper bs i ≡ None → whole_from deeper bs n list i ≡ None
@@ -92,26 +93,26 @@ module _ (deeper : Lists) (bs : List ℕ) where
   whole_on n list i parts j e = ap (whole_by (whole_from deeper bs n) bs list) e
 
   pub whole_ends : (n : ℕ) (list : List (List Part)) (i : ℕ) (parts : List Part) (j : ℕ) → 0 < n → complex_at deeper bs i ≡ Some (parts, j)
-      → (byte bs (commas_end bs j) == 256) ≡ true → whole_from deeper bs n list i ≡ Some (list ++ parts ∷ [])
+      → (byte bs (commas_end bs j) == END) ≡ true → whole_from deeper bs n list i ≡ Some (list ++ parts ∷ [])
   whole_ends zero list i parts j z e f = absurd (omega arith)
   whole_ends (suc n) list i parts j z e f =
       whole_on n list i parts j e
-      ∙ if_true (byte bs (commas_end bs j) == 256) (Some (list ++ parts ∷ [])) (if byte bs j == 44 then whole_from deeper bs n (list ++ parts ∷ []) (commas_end bs j) else None) f
+      ∙ if_true (byte bs (commas_end bs j) == END) (Some (list ++ parts ∷ [])) (if byte bs j == sign "," then whole_from deeper bs n (list ++ parts ∷ []) (commas_end bs j) else None) f
 
   pub whole_wrong : (n : ℕ) (list : List (List Part)) (i : ℕ) (parts : List Part) (j : ℕ) → 0 < n → complex_at deeper bs i ≡ Some (parts, j)
-      → (byte bs (commas_end bs j) == 256) ≡ false → (byte bs j == 44) ≡ false → whole_from deeper bs n list i ≡ None
+      → (byte bs (commas_end bs j) == END) ≡ false → (byte bs j == sign ",") ≡ false → whole_from deeper bs n list i ≡ None
   whole_wrong zero list i parts j z e f g = absurd (omega arith)
   whole_wrong (suc n) list i parts j z e f g =
       whole_on n list i parts j e
-      ∙ if_false (byte bs (commas_end bs j) == 256) (Some (list ++ parts ∷ [])) (if byte bs j == 44 then whole_from deeper bs n (list ++ parts ∷ []) (commas_end bs j) else None) f
-      ∙ if_false (byte bs j == 44) (whole_from deeper bs n (list ++ parts ∷ []) (commas_end bs j)) None g
+      ∙ if_false (byte bs (commas_end bs j) == END) (Some (list ++ parts ∷ [])) (if byte bs j == sign "," then whole_from deeper bs n (list ++ parts ∷ []) (commas_end bs j) else None) f
+      ∙ if_false (byte bs j == sign ",") (whole_from deeper bs n (list ++ parts ∷ []) (commas_end bs j)) None g
 
   pub whole_goes : (n : ℕ) (list : List (List Part)) (i : ℕ) (parts : List Part) (j : ℕ) → 0 < n → complex_at deeper bs i ≡ Some (parts, j)
-      → (byte bs (commas_end bs j) == 256) ≡ false → (byte bs j == 44) ≡ true
+      → (byte bs (commas_end bs j) == END) ≡ false → (byte bs j == sign ",") ≡ true
       → whole_from deeper bs n list i ≡ whole_from deeper bs (n - 1) (list ++ parts ∷ []) (commas_end bs j)
   whole_goes zero list i parts j z e f g = absurd (omega arith)
   whole_goes (suc n) list i parts j z e f g =
       whole_on n list i parts j e
-      ∙ if_false (byte bs (commas_end bs j) == 256) (Some (list ++ parts ∷ [])) (if byte bs j == 44 then whole_from deeper bs n (list ++ parts ∷ []) (commas_end bs j) else None) f
-      ∙ if_true (byte bs j == 44) (whole_from deeper bs n (list ++ parts ∷ []) (commas_end bs j)) None g
+      ∙ if_false (byte bs (commas_end bs j) == END) (Some (list ++ parts ∷ [])) (if byte bs j == sign "," then whole_from deeper bs n (list ++ parts ∷ []) (commas_end bs j) else None) f
+      ∙ if_true (byte bs j == sign ",") (whole_from deeper bs n (list ++ parts ∷ []) (commas_end bs j)) None g
       ∙ ap (λ (k : ℕ). whole_from deeper bs k (list ++ parts ∷ []) (commas_end bs j)) (less n)

@@ -1,7 +1,7 @@
 -- Where attribute selectors and namespace prefixes end (Selectors Level 4). A modifier is one letter.
 use Rattle.std.specs.Prelude.{ℕ, ◌+◌, List, Option, Some, None, Bool, not, ◌&&◌, ◌||◌, ◌==◌, if◌then◌else◌}
 use Rattle.sw_scan.specs.declared.runs.Class.TheVariants as classes
-use Rattle.sw_scan.specs.Bytes.{byte, is_letter}
+use Rattle.sw_scan.specs.Bytes.{sign, is_quote, byte, is_letter}
 use Rattle.sw_scan.specs.Runs.{run_end, begins_name}
 use Rattle.sw_scan.specs.Brackets.{string_end}
 
@@ -15,29 +15,31 @@ name_end bs i = run_end classes.Name bs i
 
 -- behind `*` or a name, if one stands there
 abbrev pub word_end : List ℕ → ℕ → ℕ
-word_end bs i = if byte bs i == 42 then i + 1 else (if begins_name bs i then name_end bs i else i)
+word_end bs i = if byte bs i == sign "*" then i + 1 else (if begins_name bs i then name_end bs i else i)
 
 -- behind a namespace prefix, if one stands there: `name|`, `*|` or `|`, but not the operator `|=`
 unfoldable pub prefix_end : List ℕ → ℕ → ℕ
-prefix_end bs i = if (byte bs (word_end bs i) == 124) && not (byte bs (word_end bs i + 1) == 61) then word_end bs i + 1 else i
+prefix_end bs i =
+    if (byte bs (word_end bs i) == sign "|") && not (byte bs (word_end bs i + 1) == sign "=")
+    then word_end bs i + 1 else i
 
 -- ~ | ^ $ *
 abbrev pub is_operator_sign : ℕ → Bool
-is_operator_sign b = (b == 126) || ((b == 124) || ((b == 94) || ((b == 36) || (b == 42))))
+is_operator_sign b = (b == sign "~") || ((b == sign "|") || ((b == sign "^") || ((b == sign "$") || (b == sign "*"))))
 
 unfoldable pub operator_end : List ℕ → ℕ → Option ℕ
 operator_end bs i =
-    if byte bs i == 61 then Some (i + 1)
-    else (if is_operator_sign (byte bs i) && (byte bs (i + 1) == 61) then Some (i + 2) else None)
+    if byte bs i == sign "=" then Some (i + 1)
+    else (if is_operator_sign (byte bs i) && (byte bs (i + 1) == sign "=") then Some (i + 2) else None)
 
 -- a string or a name
 unfoldable pub value_end : List ℕ → ℕ → Option ℕ
 value_end bs i =
-    if (byte bs i == 34) || (byte bs i == 39) then string_end bs (byte bs i) i
+    if is_quote (byte bs i) then string_end bs (byte bs i) i
     else (if begins_name bs i then Some (name_end bs i) else None)
 
 abbrev pub bracket_end : List ℕ → ℕ → Option ℕ
-bracket_end bs i = if byte bs i == 93 then Some (i + 1) else None
+bracket_end bs i = if byte bs i == sign "]" then Some (i + 1) else None
 
 -- from behind the value and white space on
 unfoldable pub modifier_end : List ℕ → ℕ → Option ℕ
@@ -53,7 +55,7 @@ operated_end bs (Some j) = valued_end bs (value_end bs (white bs j))
 
 -- from behind the name and white space on
 unfoldable pub matched_end : List ℕ → ℕ → Option ℕ
-matched_end bs i = if byte bs i == 93 then Some (i + 1) else operated_end bs (operator_end bs i)
+matched_end bs i = if byte bs i == sign "]" then Some (i + 1) else operated_end bs (operator_end bs i)
 
 abbrev pub named_end : List ℕ → ℕ → Option ℕ
 named_end bs i = if begins_name bs i then matched_end bs (white bs (name_end bs i)) else None

@@ -35,7 +35,8 @@ parts_have deeper sought found (part ∷ parts) = parts_have deeper sought (foun
 -- in a list of complex selectors, or before
 abbrev pub lists_have : (List (List Part) → Bool) → Sought → Bool → List (List Part) → Bool
 lists_have deeper sought found [] = found
-lists_have deeper sought found (complex ∷ list) = lists_have deeper sought (found || parts_have deeper sought false complex) list
+lists_have deeper sought found (complex ∷ list) =
+    lists_have deeper sought (found || parts_have deeper sought false complex) list
 
 -- in the argument of a pseudo, looking into so many pseudos in each other, this one counted
 abbrev pub list_has : Sought → ℕ → List (List Part) → Bool

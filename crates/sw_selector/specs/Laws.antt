@@ -1,13 +1,32 @@
--- What nesting is as a whole.
-use Rattle.std.specs.Prelude.{◌≡◌, ◌*◌, List, map, length, Bool}
+-- What reading and nesting are as a whole.
+use Rattle.std.specs.Prelude.{◌≡◌, ◌*◌, ◌<◌, ◌≤◌, ◌↔◌, ℕ, List, map, length, Bool, Ok, Err}
 use Rattle.std.specs.List.{flat_map}
+use Rattle.sw_selector.specs.declared.fault.SelectorFault.TheVariants.{BadSelector, TooLarge}
+use Rattle.sw_selector.specs.declared.reader.TheConstants.{LEVELS, MOST_SELECTORS}
 use Rattle.sw_selector.specs.declared.selector.Part.{Part}
+use Rattle.sw_selector.specs.Grammar.{IsSelectorList}
+use Rattle.sw_selector.specs.Reading.{selectors_of}
 use Rattle.sw_selector.specs.Nesting.{prepared, nested, all_nested}
+
+-- a text is one list of selectors at most
+abbrev pub IsOneList : List ℕ → Type 0
+IsOneList text =
+    (first second : List (List Part)) → IsSelectorList LEVELS text first → IsSelectorList LEVELS text second
+    → first ≡ second
+
+-- what is read is the list that the text is; there is none, or it is too long, exactly where this is answered
+pub record ReadsLists (text : List ℕ) : Type 0 where
+  pub list : (list : List (List Part))
+      → (selectors_of text ≡ Ok list) ↔ (IsSelectorList LEVELS text list × (length list ≤ MOST_SELECTORS))
+  pub bad : (selectors_of text ≡ Err BadSelector) ↔ ((list : List (List Part)) → ¬ IsSelectorList LEVELS text list)
+  pub large : (selectors_of text ≡ Err TooLarge)
+      ↔ ((list : List (List Part)) × IsSelectorList LEVELS text list × (MOST_SELECTORS < length list))
 
 -- for each parent, each child
 abbrev pub NestsInOrder : Bool → List (List Part) → List (List Part) → Type 0
 NestsInOrder at_root parents child =
-    all_nested at_root parents child ≡ flat_map (λ (parent : List Part). map (nested at_root parent) (map (prepared parents 128) child)) parents
+    all_nested at_root parents child
+    ≡ flat_map (λ (parent : List Part). map (nested at_root parent) (map (prepared parents LEVELS) child)) parents
 
 -- as many as there are pairs of a parent and a child
 abbrev pub NestsEachPair : Bool → List (List Part) → List (List Part) → Type 0

@@ -5,3 +5,4 @@ pub mod Nesting
 pub mod Reading
 pub mod Simples
 pub mod Writing
+pub mod Grammar

@@ -1,7 +1,10 @@
--- Selectors nested in each other (Sass): for each parent, each child. A child without `&` stands behind its parent and white space, or by itself
--- at the root; in any other each `&` is the parent, and in a pseudo's argument a selector with `&` stands once for each parent.
-use Rattle.std.specs.Prelude.{ℕ, zero, suc, ◌-◌, ◌*◌, List, [], ◌∷◌, ◌++◌, length, take, slice_get, Option, Some, None, Result, Ok, Err, Bool, true, false, not, ◌&&◌, ◌||◌, ◌==◌, nat_lt, if◌then◌else◌}
+-- Selectors nested in each other (Sass): for each parent, each child. A child without `&` stands behind its parent and
+-- white space, or by itself at the root; in any other each `&` is the parent, and in a pseudo's argument a selector
+-- with `&` stands once for each parent.
+use Rattle.std.specs.Prelude.{ℕ, zero, suc, ◌-◌, ◌*◌, List, [], ◌∷◌, ◌++◌, map, length, take, slice_get, Option, Some, None, Result, Ok, Err, Bool, true, false, not, ◌&&◌, ◌||◌, ◌==◌, nat_lt, if◌then◌else◌}
+use Rattle.std.specs.List.{flat_map}
 use denote.Bor.{Bor}
+use Rattle.sw_selector.specs.declared.reader.TheConstants.{LEVELS, MOST_SELECTORS}
 use Rattle.sw_selector.specs.declared.fault.SelectorFault.{SelectorFault}
 use Rattle.sw_selector.specs.declared.fault.SelectorFault.TheVariants.{BadSelector, NoParent, TooLarge}
 use Rattle.sw_selector.specs.declared.holds.Sought.TheVariants as soughts
@@ -70,8 +73,8 @@ ends_from ends (complex ∷ list) = ends_from (ends_with ends complex) list
 unfoldable pub ends_of : List (List Part) → Ends
 ends_of list = ends_from (record { named = true; led = false }) list
 
--- an `&` with this suffix, where so many pseudos may still open, has a suffix that a parent can't take, or a combinator on both sides, or parents that
--- bring too many pseudos in each other
+-- an `&` with this suffix, where so many pseudos may still open, has a suffix that a parent can't take, or a combinator
+-- on both sides, or parents that bring too many pseudos in each other
 abbrev pub misfits : List (List Part) → Ends → ℕ → Bool → List ℕ → Bool
 misfits parents ends levels joined suffix =
     (not (length suffix == 0) && not ends.named) || ((joined && ends.led) || some_holds soughts.Deeper levels parents)
@@ -88,7 +91,8 @@ part_misfits deeper parents ends levels joined part = part_misfits_by deeper par
 abbrev pub parts_misfit : (List (List Part) → Bool) → List (List Part) → Ends → ℕ → Bool → Bool → List Part → Bool
 parts_misfit deeper parents ends levels found joined [] = found
 parts_misfit deeper parents ends levels found joined (part ∷ parts) =
-    parts_misfit deeper parents ends levels (found || part_misfits deeper parents ends levels joined part) (is_sign_part part) parts
+    parts_misfit deeper parents ends levels (found || part_misfits deeper parents ends levels joined part)
+    (is_sign_part part) parts
 
 abbrev pub lists_misfit : (List (List Part) → Bool) → List (List Part) → Ends → ℕ → Bool → List (List Part) → Bool
 lists_misfit deeper parents ends levels found [] = found
@@ -97,11 +101,13 @@ lists_misfit deeper parents ends levels found (complex ∷ list) =
 
 abbrev pub list_misfits : List (List Part) → Ends → ℕ → List (List Part) → Bool
 list_misfits parents ends zero list = false
-list_misfits parents ends (suc levels) list = lists_misfit (list_misfits parents ends levels) parents ends levels false list
+list_misfits parents ends (suc levels) list =
+    lists_misfit (list_misfits parents ends levels) parents ends levels false list
 
 -- some child can't be nested in these parents, where so many pseudos may stand in each other
 unfoldable pub some_misfits : List (List Part) → ℕ → List (List Part) → Bool
-some_misfits parents levels list = lists_misfit (list_misfits parents (ends_of parents) levels) parents (ends_of parents) levels false list
+some_misfits parents levels list =
+    lists_misfit (list_misfits parents (ends_of parents) levels) parents (ends_of parents) levels false list
 
 abbrev pub suffixed_by : Part → List ℕ → Part-F Part → Part
 suffixed_by part suffix (Part-F.Named name) = parts.Named (name ++ suffix)
@@ -117,7 +123,9 @@ last_suffixed suffix (Some part) = suffixed_part suffix part ∷ []
 
 -- the parent, with the suffix added to its last simple selector
 unfoldable pub suffixed : List Part → List ℕ → List Part
-suffixed parent suffix = if length suffix == 0 then parent else take (length parent - 1) parent ++ last_suffixed suffix (slice_get parent (length parent - 1))
+suffixed parent suffix =
+    if length suffix == 0
+    then parent else take (length parent - 1) parent ++ last_suffixed suffix (slice_get parent (length parent - 1))
 
 -- white space before a parent with a combinator in front is that combinator
 unfoldable pub opened : List Part → List Part → List Part
@@ -138,11 +146,6 @@ parts_spliced parent before (part ∷ parts) = parts_spliced parent (part_splice
 unfoldable pub spliced : List Part → List Part → List Part
 spliced parent complex = parts_spliced parent [] complex
 
--- the selector once for each parent, behind the list
-abbrev pub all_spliced : List Part → List (List Part) → List (List Part) → List (List Part)
-all_spliced complex list [] = list
-all_spliced complex list (parent ∷ parents) = all_spliced complex (list ++ spliced parent complex ∷ []) parents
-
 abbrev pub prepared_by : (List (List Part) → List (List Part)) → Part → Part-F Part → Part
 prepared_by deeper part (Part-F.Pseudo name selectors) = parts.Pseudo name (deeper selectors)
 prepared_by deeper part _ = part
@@ -150,35 +153,34 @@ prepared_by deeper part _ = part
 unfoldable pub part_prepared : (List (List Part) → List (List Part)) → Part → Part
 part_prepared deeper part = prepared_by deeper part (out-Part part)
 
--- each pseudo's argument is nested; behind what is before
-abbrev pub parts_prepared : (List (List Part) → List (List Part)) → List Part → List Part → List Part
-parts_prepared deeper before [] = before
-parts_prepared deeper before (part ∷ parts) = parts_prepared deeper (before ++ part_prepared deeper part ∷ []) parts
+-- each pseudo's argument is nested
+abbrev pub parts_prepared : (List (List Part) → List (List Part)) → List Part → List Part
+parts_prepared deeper parts = map (part_prepared deeper) parts
 
 -- a selector of an argument: once for each parent where `&` stands in it, outside further pseudos
-unfoldable pub inner_added : List (List Part) → List (List Part) → Bool → List Part → List (List Part)
-inner_added parents list refers complex = if refers then all_spliced complex list parents else list ++ complex ∷ []
+unfoldable pub inner_by : List (List Part) → Bool → List Part → List (List Part)
+inner_by parents refers complex =
+    if refers then map (λ (parent : List Part). spliced parent complex) parents else complex ∷ []
 
-abbrev pub inner_from : (List (List Part) → List (List Part)) → List (List Part) → List (List Part) → List (List Part) → List (List Part)
-inner_from deeper parents list [] = list
-inner_from deeper parents list (complex ∷ more) =
-    inner_from deeper parents (inner_added parents list (complex_holds soughts.Parent 0 complex) (parts_prepared deeper [] complex)) more
+abbrev pub inner_of : (List (List Part) → List (List Part)) → List (List Part) → List Part → List (List Part)
+inner_of deeper parents complex =
+    inner_by parents (complex_holds soughts.Parent 0 complex) (parts_prepared deeper complex)
 
 -- the argument of a pseudo, with so many pseudos in each other, this one counted
 abbrev pub inner_nested : List (List Part) → ℕ → List (List Part) → List (List Part)
 inner_nested parents zero list = []
-inner_nested parents (suc levels) list = inner_from (inner_nested parents levels) parents [] list
+inner_nested parents (suc levels) list = flat_map (inner_of (inner_nested parents levels) parents) list
 
 unfoldable pub prepared : List (List Part) → ℕ → List Part → Prepared
-prepared parents levels complex = record { refers = complex_holds soughts.Parent levels complex; parts = parts_prepared (inner_nested parents levels) [] complex }
-
-abbrev pub prepared_from : List (List Part) → ℕ → List Prepared → List (List Part) → List Prepared
-prepared_from parents levels list [] = list
-prepared_from parents levels list (complex ∷ more) = prepared_from parents levels (list ++ prepared parents levels complex ∷ []) more
+prepared parents levels complex = record {
+  refers = complex_holds soughts.Parent levels complex;
+  parts = parts_prepared (inner_nested parents levels) complex;
+}
 
 -- the child behind its parent
 unfoldable pub descended : List Part → List Part → List Part
-descended parent child = if is_led child then parent ++ child else (parent ++ parts.Combinator combinators.Descendant ∷ []) ++ child
+descended parent child =
+    if is_led child then parent ++ child else (parent ++ parts.Combinator combinators.Descendant ∷ []) ++ child
 
 unfoldable pub nested : Bool → List Part → Prepared → List Part
 nested at_root parent child =
@@ -186,30 +188,23 @@ nested at_root parent child =
     else (if at_root then child.parts
     else descended parent child.parts)
 
-abbrev pub children_nested : Bool → List Part → List (List Part) → List Prepared → List (List Part)
-children_nested at_root parent list [] = list
-children_nested at_root parent list (child ∷ children) = children_nested at_root parent (list ++ nested at_root parent child ∷ []) children
-
--- the parents are the outer loop
-abbrev pub parents_nested : Bool → List Prepared → List (List Part) → List (List Part) → List (List Part)
-parents_nested at_root children list [] = list
-parents_nested at_root children list (parent ∷ parents) = parents_nested at_root children (children_nested at_root parent list children) parents
-
+-- for each parent, each child
 unfoldable pub all_nested : Bool → List (List Part) → List (List Part) → List (List Part)
-all_nested at_root parents child = parents_nested at_root (prepared_from parents 128 [] child) [] parents
+all_nested at_root parents child =
+    flat_map (λ (parent : List Part). map (nested at_root parent) (map (prepared parents LEVELS) child)) parents
 
 -- more than 10,000 complex selectors would come
 abbrev pub too_many : List (List Part) → List (List Part) → Bool
-too_many parents child = nat_lt 10000 (length parents * length child)
+too_many parents child = nat_lt MOST_SELECTORS (length parents * length child)
 
 abbrev pub under_by : Bool → List (List Part) → List (List Part) → Result (List (List Part)) SelectorFault
 under_by at_root parents child =
-    if some_misfits parents 128 child then Err BadSelector
+    if some_misfits parents LEVELS child then Err BadSelector
     else (if too_many parents child then Err TooLarge
     else Ok (all_nested at_root parents child))
 
 abbrev pub alone_by : List (List Part) → Result (List (List Part)) SelectorFault
-alone_by child = if some_holds soughts.Parent 128 child then Err NoParent else within_limit child
+alone_by child = if some_holds soughts.Parent LEVELS child then Err NoParent else within_limit child
 
 abbrev pub nest_by : Bool → Option (Bor Selectors) → List (List Part) → Result (List (List Part)) SelectorFault
 nest_by at_root None child = alone_by child

@@ -1,10 +1,13 @@
--- What selectors a text is (Selectors Level 4 and Sass): complex selectors joined by commas. Neighbouring commas count as one and one at the end
--- as none; in a pseudo's argument each comma counts. A combinator may stand in front of a complex selector, and none at its end.
+-- What selectors a text is (Selectors Level 4 and Sass): complex selectors joined by commas. Neighbouring commas count
+-- as one and one at the end as none; in a pseudo's argument each comma counts. A combinator may stand in front of a
+-- complex selector, and none at its end.
 use Rattle.std.specs.Prelude.{◌≡◌, ℕ, zero, suc, ◌+◌, List, [], ◌∷◌, ◌++◌, length, Option, Some, None, Result, Ok, Err, Bool, true, false, ◌&&◌, ◌||◌, ◌==◌, nat_lt, if◌then◌else◌}
+use Rattle.sw_scan.specs.declared.signs.TheConstants.{END}
 use Rattle.sw_scan.specs.declared.runs.Class.TheVariants as classes
-use Rattle.sw_scan.specs.Bytes.{byte}
+use Rattle.sw_scan.specs.Bytes.{sign, byte}
 use Rattle.sw_scan.specs.Runs.{run_end, begins_name}
 use Rattle.sw_scan.specs.Pieces.{piece}
+use Rattle.sw_selector.specs.declared.reader.TheConstants.{LEVELS, MOST_SELECTORS}
 use Rattle.sw_selector.specs.declared.fault.SelectorFault.{SelectorFault}
 use Rattle.sw_selector.specs.declared.fault.SelectorFault.TheVariants.{BadSelector, NoParent, TooLarge, Memory}
 use Rattle.sw_selector.specs.declared.selector.Part.{Part}
@@ -26,7 +29,7 @@ Lists = ℕ → Option (List (List Part) × ℕ)
 -- a pseudo with these selectors as its argument
 unfoldable pub closed_by : List ℕ → List ℕ → Option (List (List Part) × ℕ) → Option (Part × ℕ)
 closed_by bs name None = None
-closed_by bs name (Some x) = if byte bs x.1 == 41 then Some (parts.Pseudo name x.0, x.1 + 1) else None
+closed_by bs name (Some x) = if byte bs x.1 == sign ")" then Some (parts.Pseudo name x.0, x.1 + 1) else None
 
 -- the argument of the pseudo with this name, from i on
 unfoldable pub argument_at : Lists → List ℕ → List ℕ → ℕ → Option (Part × ℕ)
@@ -34,10 +37,13 @@ argument_at deeper bs name i = if takes_selectors name then closed_by bs name (d
 
 -- a pseudo with this name, which ends at i
 unfoldable pub pseudo_behind : Lists → List ℕ → List ℕ → ℕ → Option (Part × ℕ)
-pseudo_behind deeper bs name i = if byte bs i == 40 then argument_at deeper bs name (i + 1) else Some (parts.Named name, i)
+pseudo_behind deeper bs name i =
+    if byte bs i == sign "(" then argument_at deeper bs name (i + 1) else Some (parts.Named name, i)
 
 unfoldable pub pseudo_at : Lists → List ℕ → ℕ → Option (Part × ℕ)
-pseudo_at deeper bs i = if begins_name bs (colons_end bs i) then pseudo_behind deeper bs (piece bs i (name_end bs (colons_end bs i))) (name_end bs (colons_end bs i)) else None
+pseudo_at deeper bs i =
+    if begins_name bs (colons_end bs i)
+    then pseudo_behind deeper bs (piece bs i (name_end bs (colons_end bs i))) (name_end bs (colons_end bs i)) else None
 
 abbrev pub is_simple : Before → Bool
 is_simple befores.Simple = true
@@ -49,27 +55,28 @@ is_joined _ = false
 
 -- what only begins a compound: `&`, or a type
 unfoldable pub head_at : List ℕ → Before → ℕ → Option (Part × ℕ)
-head_at bs before i = if is_simple before then None else (if byte bs i == 38 then parent_at bs i else type_at bs i)
+head_at bs before i =
+    if is_simple before then None else (if byte bs i == sign "&" then parent_at bs i else type_at bs i)
 
 -- a simple selector
 unfoldable pub simple_at : Lists → List ℕ → Before → ℕ → Option (Part × ℕ)
 simple_at deeper bs before i =
-    if (byte bs i == 46) || (byte bs i == 35) then class_at bs i
-    else (if byte bs i == 37 then placeholder_at bs i
-    else (if byte bs i == 91 then attribute_at bs i
-    else (if byte bs i == 58 then pseudo_at deeper bs i
+    if (byte bs i == sign ".") || (byte bs i == sign "#") then class_at bs i
+    else (if byte bs i == sign "%" then placeholder_at bs i
+    else (if byte bs i == sign "[" then attribute_at bs i
+    else (if byte bs i == sign ":" then pseudo_at deeper bs i
     else head_at bs before i)))
 
 abbrev pub combinator_of : ℕ → Option Combinator
 combinator_of b =
-    if b == 62 then Some combinators.Child
-    else (if b == 43 then Some combinators.Next
-    else (if b == 126 then Some combinators.Subsequent
+    if b == sign ">" then Some combinators.Child
+    else (if b == sign "+" then Some combinators.Next
+    else (if b == sign "~" then Some combinators.Subsequent
     else None))
 
 -- the end of the text, a comma, or the end of an argument
 abbrev pub ends_complex : ℕ → Bool
-ends_complex b = (b == 256) || ((b == 44) || (b == 41))
+ends_complex b = (b == END) || ((b == sign ",") || (b == sign ")"))
 
 abbrev pub simple_turn : Option (Part × ℕ) → Option Turn
 simple_turn None = None
@@ -94,13 +101,15 @@ last_turn before i = if is_simple before then Some (turns.Stops i) else None
 
 unfoldable pub spaced_turn : Lists → List ℕ → Before → Bool → ℕ → Option Turn
 spaced_turn deeper bs before spaced i =
-    if ends_complex (byte bs i) then last_turn before i else joined_turn deeper bs before spaced i (combinator_of (byte bs i))
+    if ends_complex (byte bs i)
+    then last_turn before i else joined_turn deeper bs before spaced i (combinator_of (byte bs i))
 
 -- one more part of a complex selector from i on, or its end
 abbrev pub turn_at : Lists → List ℕ → Before → ℕ → Option Turn
 turn_at deeper bs before i = spaced_turn deeper bs before (nat_lt i (white bs i)) (white bs i)
 
-abbrev pub complex_by : (Before → List Part → ℕ → Option (List Part × ℕ)) → List Part → Option Turn → Option (List Part × ℕ)
+abbrev pub complex_by : (Before → List Part → ℕ → Option (List Part × ℕ)) → List Part → Option Turn
+    → Option (List Part × ℕ)
 complex_by on parts None = None
 complex_by on parts (Some (turns.Stops j)) = Some (parts, j)
 complex_by on parts (Some (turns.Takes part before j)) = on before (parts ++ part ∷ []) j
@@ -114,9 +123,11 @@ complex_from deeper bs (suc n) before parts i = complex_by (complex_from deeper 
 unfoldable pub complex_at : Lists → List ℕ → ℕ → Option (List Part × ℕ)
 complex_at deeper bs i = complex_from deeper bs (length bs + 1) befores.Nothing [] i
 
-abbrev pub list_by : (List (List Part) → Lists) → List ℕ → List (List Part) → Option (List Part × ℕ) → Option (List (List Part) × ℕ)
+abbrev pub list_by : (List (List Part) → Lists) → List ℕ → List (List Part) → Option (List Part × ℕ)
+    → Option (List (List Part) × ℕ)
 list_by on bs list None = None
-list_by on bs list (Some x) = if byte bs x.1 == 44 then on (list ++ x.0 ∷ []) (x.1 + 1) else Some (list ++ x.0 ∷ [], x.1)
+list_by on bs list (Some x) =
+    if byte bs x.1 == sign "," then on (list ++ x.0 ∷ []) (x.1 + 1) else Some (list ++ x.0 ∷ [], x.1)
 
 -- at most n complex selectors, with these before
 abbrev pub list_from : Lists → List ℕ → ℕ → List (List Part) → Lists
@@ -126,7 +137,8 @@ list_from deeper bs (suc n) list i = list_by (list_from deeper bs n) bs list (co
 unfoldable pub list_at : Lists → List ℕ → Lists
 list_at deeper bs i = list_from deeper bs (length bs + 1) [] i
 
--- the selectors of an argument from i on, in which at most so many pseudos with selectors stand in each other, this one counted
+-- the selectors of an argument from i on, in which at most so many pseudos with selectors stand in each other, this one
+-- counted
 abbrev pub selectors_in : List ℕ → ℕ → Lists
 selectors_in bs zero i = None
 selectors_in bs (suc levels) i = list_at (selectors_in bs levels) bs i
@@ -134,11 +146,12 @@ selectors_in bs (suc levels) i = list_at (selectors_in bs levels) bs i
 abbrev pub commas_end : List ℕ → ℕ → ℕ
 commas_end bs i = run_end classes.Commas bs i
 
-abbrev pub whole_by : (List (List Part) → ℕ → Option (List (List Part))) → List ℕ → List (List Part) → Option (List Part × ℕ) → Option (List (List Part))
+abbrev pub whole_by : (List (List Part) → ℕ → Option (List (List Part))) → List ℕ → List (List Part)
+    → Option (List Part × ℕ) → Option (List (List Part))
 whole_by on bs list None = None
 whole_by on bs list (Some x) =
-    if byte bs (commas_end bs x.1) == 256 then Some (list ++ x.0 ∷ [])
-    else (if byte bs x.1 == 44 then on (list ++ x.0 ∷ []) (commas_end bs x.1) else None)
+    if byte bs (commas_end bs x.1) == END then Some (list ++ x.0 ∷ [])
+    else (if byte bs x.1 == sign "," then on (list ++ x.0 ∷ []) (commas_end bs x.1) else None)
 
 abbrev pub whole_from : Lists → List ℕ → ℕ → List (List Part) → ℕ → Option (List (List Part))
 whole_from deeper bs zero list i = None
@@ -150,7 +163,7 @@ complexes_of bs levels = whole_from (selectors_in bs levels) bs (length bs + 1) 
 
 -- at most 10,000 complex selectors
 abbrev pub within_limit : List (List Part) → Result (List (List Part)) SelectorFault
-within_limit list = if nat_lt 10000 (length list) then Err TooLarge else Ok list
+within_limit list = if nat_lt MOST_SELECTORS (length list) then Err TooLarge else Ok list
 
 abbrev pub limited : Option (List (List Part)) → Result (List (List Part)) SelectorFault
 limited None = Err BadSelector
@@ -158,7 +171,7 @@ limited (Some list) = within_limit list
 
 -- the selectors of a text, or why it has none
 unfoldable pub selectors_of : List ℕ → Result (List (List Part)) SelectorFault
-selectors_of bs = limited (complexes_of bs 128)
+selectors_of bs = limited (complexes_of bs LEVELS)
 
 -- these are the selectors, or this is why there are none; or no memory was found
 abbrev pub IsAnswer : Result Selectors SelectorFault → Result (List (List Part)) SelectorFault → Type 0

@@ -1,7 +1,7 @@
 -- Simple selectors that hold no other selectors.
 use Rattle.std.specs.Prelude.{◌≡◌, ℕ, ◌+◌, List, ◌++◌, Option, Some, None, Result, Ok, Err, Bool, ◌&&◌, ◌||◌, ◌==◌, nat_lt, codes, bytes_eq, if◌then◌else◌}
 use Rattle.sw_scan.specs.declared.brackets.Stops.TheVariants as stops
-use Rattle.sw_scan.specs.Bytes.{byte}
+use Rattle.sw_scan.specs.Bytes.{sign, byte}
 use Rattle.sw_scan.specs.Runs.{begins_name}
 use Rattle.sw_scan.specs.Pieces.{piece, trimmed_end}
 use Rattle.sw_scan.specs.Brackets.{stop_at}
@@ -36,7 +36,9 @@ placeholder_at bs i = as_part parts.Placeholder (text_at bs i (i + 1))
 
 -- a type, or `*`, behind a namespace prefix that ends at j
 unfoldable pub type_behind : List ℕ → ℕ → ℕ → Option (Part × ℕ)
-type_behind bs i j = if byte bs j == 42 then Some (parts.Closed (piece bs i (j + 1)), j + 1) else as_part parts.Named (text_at bs i j)
+type_behind bs i j =
+    if byte bs j == sign "*"
+    then Some (parts.Closed (piece bs i (j + 1)), j + 1) else as_part parts.Named (text_at bs i j)
 
 abbrev pub type_at : List ℕ → ℕ → Option (Part × ℕ)
 type_at bs i = type_behind bs i (prefix_end bs i)
@@ -53,10 +55,16 @@ unfoldable pub parent_at : List ℕ → ℕ → Option (Part × ℕ)
 parent_at bs i = Some (parts.Parent (piece bs (i + 1) (name_end bs (i + 1))), name_end bs (i + 1))
 
 abbrev pub takes_list : List ℕ → Bool
-takes_list name = bytes_eq name (codes ":not") || (bytes_eq name (codes ":is") || (bytes_eq name (codes ":where") || (bytes_eq name (codes ":has") || bytes_eq name (codes ":matches"))))
+takes_list name =
+    bytes_eq name (codes ":not")
+    || (bytes_eq name (codes ":is")
+    || (bytes_eq name (codes ":where") || (bytes_eq name (codes ":has") || bytes_eq name (codes ":matches"))))
 
 abbrev pub takes_scope : List ℕ → Bool
-takes_scope name = bytes_eq name (codes ":any") || (bytes_eq name (codes ":current") || (bytes_eq name (codes ":host") || (bytes_eq name (codes ":host-context") || bytes_eq name (codes "::slotted"))))
+takes_scope name =
+    bytes_eq name (codes ":any")
+    || (bytes_eq name (codes ":current")
+    || (bytes_eq name (codes ":host") || (bytes_eq name (codes ":host-context") || bytes_eq name (codes "::slotted"))))
 
 -- the pseudos whose arguments are selectors
 unfoldable pub takes_selectors : List ℕ → Bool
@@ -74,11 +82,12 @@ argument_text bs i j = piece bs (white bs i) (trimmed_end bs (white bs i) j)
 unfoldable pub raw_by : List ℕ → List ℕ → ℕ → Option ℕ → Option (Part × ℕ)
 raw_by bs name i None = None
 raw_by bs name i (Some j) =
-    if (byte bs j == 41) && nat_lt (white bs i) j then Some (parts.Closed (with_argument name (argument_text bs i j)), j + 1) else None
+    if (byte bs j == sign ")") && nat_lt (white bs i) j
+    then Some (parts.Closed (with_argument name (argument_text bs i j)), j + 1) else None
 
 abbrev pub raw_at : List ℕ → List ℕ → ℕ → Option (Part × ℕ)
 raw_at bs name i = raw_by bs name i (stop_at stops.Argument bs i)
 
 -- where the name of the pseudo begins whose first colon stands at i
 abbrev pub colons_end : List ℕ → ℕ → ℕ
-colons_end bs i = if byte bs (i + 1) == 58 then i + 2 else i + 1
+colons_end bs i = if byte bs (i + 1) == sign ":" then i + 2 else i + 1

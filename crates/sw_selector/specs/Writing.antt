@@ -1,5 +1,7 @@
--- How selectors are written: `, ` between complex selectors, combinators with spaces. One with a placeholder, also in a pseudo, isn't written.
+-- How selectors are written: `, ` between complex selectors, combinators with spaces. One with a placeholder, also in a
+-- pseudo, isn't written.
 use Rattle.std.specs.Prelude.{ℕ, zero, suc, List, [], ◌∷◌, ◌++◌, length, Bool, true, false, ◌==◌, codes, if◌then◌else◌}
+use Rattle.sw_selector.specs.declared.reader.TheConstants.{LEVELS}
 use Rattle.sw_selector.specs.declared.holds.Sought.TheVariants as soughts
 use Rattle.sw_selector.specs.declared.selector.Combinator.{Combinator}
 use Rattle.sw_selector.specs.declared.selector.Combinator.TheVariants as combinators
@@ -48,7 +50,8 @@ list_text (suc levels) list = lists_text (list_text levels) [] list
 
 unfoldable pub written_behind : List ℕ → List Part → List ℕ
 written_behind out complex =
-    if complex_holds soughts.Placeholder 128 complex then out else parts_text (list_text 128) (separated out) true complex
+    if complex_holds soughts.Placeholder LEVELS complex
+    then out else parts_text (list_text LEVELS) (separated out) true complex
 
 abbrev pub written_from : List ℕ → List (List Part) → List ℕ
 written_from out [] = out
@@ -72,15 +75,17 @@ signed list combinators.Descendant = list
 signed list combinator = list ++ sign_text combinator ∷ []
 
 abbrev pub unit_by : List (List ℕ) → List ℕ → List ℕ → Part-F Part → Units
-unit_by list compound text (Part-F.Combinator combinator) = record { list = signed (closed list compound) combinator; compound = [] }
+unit_by list compound text (Part-F.Combinator combinator) =
+    record { list = signed (closed list compound) combinator; compound = [] }
 unit_by list compound text _ = record { list = list; compound = compound ++ text }
 
 unfoldable pub unit_step : List (List ℕ) → List ℕ → Part → Units
-unit_step list compound part = unit_by list compound (part_text (list_text 128) false part) (out-Part part)
+unit_step list compound part = unit_by list compound (part_text (list_text LEVELS) false part) (out-Part part)
 
 abbrev pub units_from : List (List ℕ) → List ℕ → List Part → List (List ℕ)
 units_from list compound [] = closed list compound
-units_from list compound (part ∷ parts) = units_from (unit_step list compound part).list (unit_step list compound part).compound parts
+units_from list compound (part ∷ parts) =
+    units_from (unit_step list compound part).list (unit_step list compound part).compound parts
 
 unfoldable pub units_of : List Part → List (List ℕ)
 units_of complex = units_from [] [] complex

@@ -2,7 +2,7 @@
 ghost use Rattle.std.specs.Prelude.{◌≡◌, ◌<◌, length};
 ghost use Rattle.sw_selector.specs.Attributes.{white, name_end, word_end, prefix_end, is_operator_sign, operator_end, value_end, bracket_end, modifier_end, matched_end, named_end, attribute_end};
 
-use sw_scan::{Class, begins_name, byte_at, is_letter, run_end, string_end};
+use sw_scan::{Class, begins_name, byte_at, is_letter, is_quote, run_end, signs, string_end};
 
 /// The place behind white space.
 pub fn white(bytes: &[u8], at: usize) -> usize
@@ -21,7 +21,7 @@ pub fn name_end(bytes: &[u8], at: usize) -> usize
 fn word_end(bytes: &[u8], at: usize) -> usize
     ensures { result ≡ word_end bytes.now at }
 {
-    if byte_at(bytes, at) == 42 {
+    if byte_at(bytes, at) == signs::STAR {
         return at + 1;
     }
     if begins_name(bytes, at) {
@@ -36,7 +36,7 @@ pub fn prefix_end(bytes: &[u8], at: usize) -> usize
     ensures { result ≡ prefix_end bytes.now at }
 {
     let bar = word_end(bytes, at);
-    if byte_at(bytes, bar) == 124 && byte_at(bytes, bar + 1) != 61 {
+    if byte_at(bytes, bar) == signs::BAR && byte_at(bytes, bar + 1) != signs::EQUALS {
         return bar + 1;
     }
     at
@@ -45,7 +45,11 @@ pub fn prefix_end(bytes: &[u8], at: usize) -> usize
 fn is_operator_sign(byte: u16) -> bool
     ensures { result ≡ is_operator_sign byte }
 {
-    byte == 126 || byte == 124 || byte == 94 || byte == 36 || byte == 42
+    byte == signs::TILDE
+        || byte == signs::BAR
+        || byte == signs::CARET
+        || byte == signs::DOLLAR
+        || byte == signs::STAR
 }
 
 #[tactic(auto, unfolding(crate::specs::Attributes::operator_end))]
@@ -53,10 +57,10 @@ fn operator_end(bytes: &[u8], at: usize) -> Option<usize>
     ensures { result ≡ operator_end bytes.now at }
 {
     let byte = byte_at(bytes, at);
-    if byte == 61 {
+    if byte == signs::EQUALS {
         return Some(at + 1);
     }
-    if is_operator_sign(byte) && byte_at(bytes, at + 1) == 61 {
+    if is_operator_sign(byte) && byte_at(bytes, at + 1) == signs::EQUALS {
         return Some(at + 2);
     }
     None
@@ -67,7 +71,7 @@ fn value_end(bytes: &[u8], at: usize) -> Option<usize>
     ensures { result ≡ value_end bytes.now at }
 {
     let byte = byte_at(bytes, at);
-    if byte == 34 || byte == 39 {
+    if is_quote(byte) {
         return string_end(bytes, byte as u8, at);
     }
     if begins_name(bytes, at) {
@@ -79,7 +83,7 @@ fn value_end(bytes: &[u8], at: usize) -> Option<usize>
 fn bracket_end(bytes: &[u8], at: usize) -> Option<usize>
     ensures { result ≡ bracket_end bytes.now at }
 {
-    if byte_at(bytes, at) == 93 {
+    if byte_at(bytes, at) == signs::CLOSE_BRACKET {
         return Some(at + 1);
     }
     None
@@ -99,7 +103,7 @@ fn modifier_end(bytes: &[u8], at: usize) -> Option<usize>
 fn matched_end(bytes: &[u8], at: usize) -> Option<usize>
     ensures { result ≡ matched_end bytes.now at }
 {
-    if byte_at(bytes, at) == 93 {
+    if byte_at(bytes, at) == signs::CLOSE_BRACKET {
         return Some(at + 1);
     }
     let operator = operator_end(bytes, at)?;

@@ -1,4 +1,5 @@
-//! Selectors: read from a text, nested in each other, written out, and taken apart. Texts flow in from the evaluator; texts flow back.
+//! Selectors: read from a text, nested in each other, written out, and taken apart. Texts flow in from the evaluator;
+//! texts flow back.
 #![tactic(auto)]
 
 mod attribute;
@@ -18,7 +19,7 @@ mod units;
 mod write;
 
 pub use fault::SelectorFault;
-pub use laws::nests_in_order;
+pub use laws::{nests_in_order, reads_the_grammar};
 pub use nesting::nest;
-pub use reader::read;
+pub use reader::{LEVELS, MOST_SELECTORS, read};
 pub use selector::{Combinator, Complex, Part, Selectors};

@@ -63,8 +63,9 @@ fn list_misfits(parents: &[Complex], ends: Ends, levels: u8, list: &[Complex]) -
     lists_misfit(parents, ends, levels - 1, list)
 }
 
-/// Whether a child can't be nested in these parents, where so many pseudos may stand in each other: it has a suffix and a parent
-/// doesn't end in a name, or a combinator would stand beside another, or too many pseudos would stand in each other.
+/// Whether a child can't be nested in these parents, where so many pseudos may stand in each other: it has a suffix and
+/// a parent doesn't end in a name, or a combinator would stand beside another, or too many pseudos would stand in each
+/// other.
 #[tactic(auto, unfolding(crate::specs::Nesting::some_misfits))]
 pub fn some_misfits(parents: &[Complex], levels: u8, list: &[Complex]) -> bool
     ensures { result ≡ some_misfits parents.now levels list.now }

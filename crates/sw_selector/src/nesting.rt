@@ -1,22 +1,25 @@
 // Selectors nested in each other.
-ghost use Rattle.std.specs.Prelude.{◌≡◌, ◌∷◌, ◌++◌, [], IfOk, OnOk, Ok};
+ghost use Rattle.std.specs.Prelude.{◌≡◌, ◌∷◌, ◌++◌, [], List, map, IfOk, OnOk, Ok};
+ghost use Rattle.std.specs.List.{flat_map};
+ghost use Rattle.sw_selector.specs.declared.selector.Part.{Part};
 ghost use Rattle.sw_selector.specs.Reading.{IsAnswer};
-ghost use Rattle.sw_selector.specs.Nesting.{descended, nested, children_nested, parents_nested, all_nested, too_many, under_by, alone_by, nest_by};
+ghost use Rattle.sw_selector.specs.Nesting.{descended, nested, all_nested, too_many, under_by, alone_by, nest_by};
 
 use crate::holds::{Sought, some_holds};
 use crate::misfits::some_misfits;
 use crate::parents::is_led;
 use crate::prepare::{Prepared, all_prepared};
-use crate::reader::LEVELS;
+use crate::reader::{LEVELS, MOST_SELECTORS};
 use crate::splice::{push_parts, spliced};
 use crate::{Combinator, Complex, Part, SelectorFault, Selectors};
 use std::alloc::Global;
 use sw_text::{List, Memory};
 
-/// The child's selectors nested in the parent's, with the parents as outer loop: a child without `&` stands behind its parent and
-/// white space, or by itself with `at_root`; in any other each `&` is the parent. Refused are, in this order: `NoParent`, an `&`
-/// without a parent; `BadSelector`, where a suffix has no name to be added to, a combinator would stand beside another, or more
-/// than 128 pseudos would stand in each other; `TooLarge`, exactly where there would be more than 10,000 complex selectors.
+/// The child's selectors nested in the parent's, with the parents as outer loop: a child without `&` stands behind its
+/// parent and white space, or by itself with `at_root`; in any other each `&` is the parent. Refused are, in this
+/// order: `NoParent`, an `&` without a parent; `BadSelector`, where a suffix has no name to be added to, a combinator
+/// would stand beside another, or more than 128 pseudos would stand in each other; `TooLarge`, exactly where there
+/// would be more than 10,000 complex selectors.
 pub fn nest(
     alloc: Global,
     parent: Option<&Selectors>,
@@ -42,7 +45,7 @@ fn nested_alone(alloc: Global, child: &[Complex]) -> Result<Selectors, SelectorF
     if some_holds(Sought::Parent, LEVELS, child) {
         return Err(SelectorFault::NoParent);
     }
-    if child.len() > 10_000 {
+    if child.len() > MOST_SELECTORS {
         return Err(SelectorFault::TooLarge);
     }
     Ok(Selectors {
@@ -92,7 +95,7 @@ fn too_many(parents: &[Complex], child: &[Complex]) -> bool
 {
     match parents.len().checked_mul(child.len()) {
         None => true,
-        Some(count) => count > 10_000,
+        Some(count) => count > MOST_SELECTORS,
     }
 }
 
@@ -111,6 +114,7 @@ fn all_nested(
     Ok(out)
 }
 
+#[tactic(auto, using(crate::proofs::Turns::flat_turn))]
 fn push_parents(
     alloc: Global,
     out: &mut List<Complex>,
@@ -118,7 +122,8 @@ fn push_parents(
     parents: &[Complex],
     children: &[Prepared],
 ) -> Result<(), Memory>
-    ensures { OnOk result (out.new ≡ parents_nested at_root children.now out.old parents.now) }
+    ensures { OnOk result (out.new
+        ≡ out.old ++ flat_map (λ (parent : List Part). map (nested at_root parent) children.now) parents.now) }
 {
     'parents: for parent in parents {
         push_children(alloc, out, at_root, parent.as_slice(), children)?;
@@ -126,6 +131,7 @@ fn push_parents(
     Ok(())
 }
 
+#[tactic(auto, using(crate::proofs::Turns::map_turn))]
 fn push_children(
     alloc: Global,
     out: &mut List<Complex>,
@@ -133,7 +139,7 @@ fn push_children(
     parent: &[Part],
     children: &[Prepared],
 ) -> Result<(), Memory>
-    ensures { OnOk result (out.new ≡ children_nested at_root parent.now out.old children.now) }
+    ensures { OnOk result (out.new ≡ out.old ++ map (nested at_root parent.now) children.now) }
 {
     'children: for child in children {
         out.push(nested(alloc, at_root, parent, child)?)?;

@@ -1,6 +1,6 @@
 // Children whose pseudos are nested.
-ghost use Rattle.std.specs.Prelude.{◌≡◌, ◌∷◌, ◌++◌, [], IfOk, OnOk};
-ghost use Rattle.sw_selector.specs.Nesting.{part_prepared, parts_prepared, inner_added, inner_from, inner_nested, prepared, prepared_from};
+ghost use Rattle.std.specs.Prelude.{◌≡◌, ◌∷◌, ◌++◌, [], map, IfOk, OnOk};
+ghost use Rattle.sw_selector.specs.Nesting.{part_prepared, parts_prepared, inner_by, inner_nested, prepared};
 
 use crate::holds::{Sought, complex_holds};
 use crate::splice::push_all_spliced;
@@ -38,13 +38,14 @@ fn part_prepared(
 }
 
 #[cycle(prepare)]
+#[tactic(auto, using(crate::proofs::Turns::map_turn))]
 fn parts_prepared(
     alloc: Global,
     parents: &[Complex],
     levels: u8,
     parts: &[Part],
 ) -> Result<Complex, Memory>
-    ensures { IfOk result (λ whole. whole ≡ parts_prepared (inner_nested parents.now levels) [] parts.now) }
+    ensures { IfOk result (λ whole. whole ≡ parts_prepared (inner_nested parents.now levels) parts.now) }
 {
     let mut out = List::new(alloc);
     'parts: for part in parts {
@@ -54,7 +55,7 @@ fn parts_prepared(
     Ok(out)
 }
 
-#[tactic(auto, unfolding(crate::specs::Nesting::inner_added))]
+#[tactic(auto, unfolding(crate::specs::Nesting::inner_by))]
 fn push_inner(
     alloc: Global,
     list: &mut List<Complex>,
@@ -62,7 +63,7 @@ fn push_inner(
     refers: bool,
     complex: Complex,
 ) -> Result<(), Memory>
-    ensures { OnOk result (list.new ≡ inner_added parents.now list.old refers complex) }
+    ensures { OnOk result (list.new ≡ list.old ++ inner_by parents.now refers complex) }
 {
     if refers {
         return push_all_spliced(alloc, list, parents, complex.as_slice());
@@ -71,6 +72,7 @@ fn push_inner(
 }
 
 #[cycle(prepare)]
+#[tactic(auto, using(crate::proofs::Turns::flat_turn))]
 fn inner_nested(
     alloc: Global,
     parents: &[Complex],
@@ -106,13 +108,14 @@ fn prepare_child(
 }
 
 /// The children, whose pseudos are nested in these parents. So many pseudos may stand in each other.
+#[tactic(auto, using(crate::proofs::Turns::map_turn))]
 pub fn all_prepared(
     alloc: Global,
     parents: &[Complex],
     levels: u8,
     list: &[Complex],
 ) -> Result<List<Prepared>, Memory>
-    ensures { IfOk result (λ children. children ≡ prepared_from parents.now levels [] list.now) }
+    ensures { IfOk result (λ children. children ≡ map (prepared parents.now levels) list.now) }
 {
     let mut out = List::new(alloc);
     'list: for complex in list {

@@ -11,14 +11,18 @@ use crate::simple::{
 use crate::turn::{Before, Turn, combinator_of, ends_complex, is_joined, is_simple};
 use crate::{Combinator, Complex, Part, SelectorFault, Selectors};
 use std::alloc::Global;
-use sw_scan::{Class, begins_name, byte_at, run_end};
+use sw_scan::{Class, begins_name, byte_at, run_end, signs};
 use sw_text::{List, Name, Shared};
 
-// At most so many pseudos with selectors stand in each other.
-pub(crate) const LEVELS: u8 = 128;
+/// At most so many pseudos with selectors stand in each other.
+pub const LEVELS: u8 = 128;
 
-/// The selectors of a text without comments. `BadSelector` comes exactly where the text is none, also where more than 128
-/// pseudos with selectors stand in each other; else `TooLarge` exactly where there are more than 10,000 complex selectors.
+/// A list has at most so many complex selectors.
+pub const MOST_SELECTORS: usize = 10_000;
+
+/// The selectors of a text without comments. `BadSelector` comes exactly where the text is none, also where more than
+/// 128 pseudos with selectors stand in each other; else `TooLarge` exactly where there are more than 10,000 complex
+/// selectors.
 #[tactic(auto, unfolding(crate::specs::Reading::selectors_of))]
 pub fn read(alloc: Global, text: &str) -> Result<Selectors, SelectorFault>
     ensures { IsAnswer result (selectors_of text.now) }
@@ -30,7 +34,7 @@ pub fn read(alloc: Global, text: &str) -> Result<Selectors, SelectorFault>
 fn within_limit(list: List<Complex>) -> Result<Selectors, SelectorFault>
     ensures { IsAnswer result (within_limit list) }
 {
-    if list.len() > 10_000 {
+    if list.len() > MOST_SELECTORS {
         return Err(SelectorFault::TooLarge);
     }
     Ok(Selectors { list })
@@ -46,10 +50,10 @@ fn complexes_of(alloc: Global, text: &str, levels: u8) -> Result<List<Complex>, 
         let (complex, to) = complex_at(alloc, text, levels, place)?;
         list.push(complex)?;
         place = commas_end(text.as_bytes(), to);
-        if byte_at(text.as_bytes(), place) == 256 {
+        if byte_at(text.as_bytes(), place) == signs::END {
             return Ok(list);
         }
-        if byte_at(text.as_bytes(), to) != 44 {
+        if byte_at(text.as_bytes(), to) != signs::COMMA {
             return Err(SelectorFault::BadSelector);
         }
     }
@@ -81,7 +85,7 @@ fn selectors_in(
     'selectors: for _turn in 0..text.len() + 1 {
         let (complex, to) = complex_at(alloc, text, levels - 1, place)?;
         list.push(complex)?;
-        if byte_at(text.as_bytes(), to) != 44 {
+        if byte_at(text.as_bytes(), to) != signs::COMMA {
             return Ok((list, to));
         }
         place = to + 1;
@@ -208,16 +212,16 @@ fn simple_at(
     ensures { IsRead result (simple_at (selectors_in text.now levels) text.now before at) }
 {
     let byte = byte_at(text.as_bytes(), at);
-    if byte == 46 || byte == 35 {
+    if byte == signs::DOT || byte == signs::HASH {
         return class_at(alloc, text, at);
     }
-    if byte == 37 {
+    if byte == signs::PERCENT {
         return placeholder_at(alloc, text, at);
     }
-    if byte == 91 {
+    if byte == signs::OPEN_BRACKET {
         return attribute_at(alloc, text, at);
     }
-    if byte == 58 {
+    if byte == signs::COLON {
         return pseudo_at(alloc, text, levels, at);
     }
     head_at(alloc, text, before, at)
@@ -237,7 +241,7 @@ fn head_at(
     if is_simple(before) {
         return Err(SelectorFault::BadSelector);
     }
-    if byte_at(text.as_bytes(), at) == 38 {
+    if byte_at(text.as_bytes(), at) == signs::AMPERSAND {
         return parent_at(alloc, text, at);
     }
     type_at(alloc, text, at)
@@ -275,7 +279,7 @@ fn pseudo_behind(
 ) -> Result<(Part, usize), SelectorFault>
     ensures { IsRead result (pseudo_behind (selectors_in text.now levels) text.now name at) }
 {
-    if byte_at(text.as_bytes(), at) == 40 {
+    if byte_at(text.as_bytes(), at) == signs::OPEN_PAREN {
         return argument_at(alloc, text, levels, name, at + 1);
     }
     Ok((Part::Named(name), at))
@@ -292,7 +296,7 @@ fn closed_by(
 ) -> Result<(Part, usize), SelectorFault>
     ensures { IsRead result (closed_by text.now name (Some (list, at))) }
 {
-    if byte_at(text.as_bytes(), at) != 41 {
+    if byte_at(text.as_bytes(), at) != signs::CLOSE_PAREN {
         return Err(SelectorFault::BadSelector);
     }
     let selectors = Shared::new(alloc, list)?;

@@ -7,7 +7,7 @@ ghost use Rattle.sw_selector.specs.Simples.{IsRead, text_at, class_at, placehold
 use crate::attribute::{attribute_end, name_end, prefix_end, white};
 use crate::{Part, SelectorFault};
 use std::alloc::Global;
-use sw_scan::{Stops, begins_name, byte_at, piece, stop_at, trimmed_end};
+use sw_scan::{Stops, begins_name, byte_at, piece, signs, stop_at, trimmed_end};
 use sw_text::{Memory, Name};
 
 /// What stands between two places.
@@ -60,7 +60,7 @@ fn type_behind(
 ) -> Result<(Part, usize), SelectorFault>
     ensures { IsRead result (type_behind text.now from at) }
 {
-    if byte_at(text.as_bytes(), at) == 42 {
+    if byte_at(text.as_bytes(), at) == signs::STAR {
         let name = text_of(alloc, text, from, at + 1)?;
         return Ok((Part::Closed(name), at + 1));
     }
@@ -154,7 +154,9 @@ fn raw_by(
     match end {
         None => Err(SelectorFault::BadSelector),
         Some(end) => {
-            if byte_at(text.as_bytes(), end) != 41 || white(text.as_bytes(), at) >= end {
+            if byte_at(text.as_bytes(), end) != signs::CLOSE_PAREN
+                || white(text.as_bytes(), at) >= end
+            {
                 return Err(SelectorFault::BadSelector);
             }
             let whole = with_argument(alloc, name, argument_text(text, at, end))?;
@@ -181,7 +183,7 @@ pub fn colons_end(bytes: &[u8], at: usize) -> usize
     requires { at < length bytes.now }
     ensures { result ≡ colons_end bytes.now at }
 {
-    if byte_at(bytes, at + 1) == 58 {
+    if byte_at(bytes, at + 1) == signs::COLON {
         at + 2
     } else {
         at + 1

@@ -1,7 +1,8 @@
 // A parent in the place of `&`.
-ghost use Rattle.std.specs.Prelude.{◌≡◌, ◌∷◌, ◌++◌, [], IfOk, OnOk};
+ghost use Rattle.std.specs.Prelude.{◌≡◌, ◌∷◌, ◌++◌, [], List, map, IfOk, OnOk};
 ghost use Rattle.std.specs.String.{string_bytes};
-ghost use Rattle.sw_selector.specs.Nesting.{suffixed_part, suffixed, opened, part_spliced, parts_spliced, spliced, all_spliced};
+ghost use Rattle.sw_selector.specs.Nesting.{suffixed_part, suffixed, opened, part_spliced, parts_spliced, spliced};
+ghost use Rattle.sw_selector.specs.declared.selector.Part.{Part};
 
 use crate::parents::{ends_in_space, is_led};
 use crate::{Complex, Part};
@@ -125,13 +126,14 @@ pub fn spliced(alloc: Global, parent: &[Part], complex: &[Part]) -> Result<Compl
 }
 
 /// Puts the complex selector behind others once for each parent.
+#[tactic(auto, using(crate::proofs::Turns::map_turn))]
 pub fn push_all_spliced(
     alloc: Global,
     list: &mut List<Complex>,
     parents: &[Complex],
     complex: &[Part],
 ) -> Result<(), Memory>
-    ensures { OnOk result (list.new ≡ all_spliced complex.now list.old parents.now) }
+    ensures { OnOk result (list.new ≡ list.old ++ map (λ (parent : List Part). spliced parent complex.now) parents.now) }
 {
     'parents: for parent in parents {
         list.push(spliced(alloc, parent.as_slice(), complex)?)?;

@@ -3,6 +3,7 @@ ghost use Rattle.std.specs.Prelude.{◌≡◌};
 ghost use Rattle.sw_selector.specs.Reading.{is_simple, is_joined, combinator_of, ends_complex};
 
 use crate::{Combinator, Part};
+use sw_scan::signs;
 
 /// What stands before a place in a complex selector.
 #[derive(Clone, Copy, Debug, PartialEq, Eq)]
@@ -42,9 +43,9 @@ pub fn combinator_of(byte: u16) -> Option<Combinator>
     ensures { result ≡ combinator_of byte }
 {
     match byte {
-        62 => Some(Combinator::Child),
-        43 => Some(Combinator::Next),
-        126 => Some(Combinator::Subsequent),
+        signs::GREATER => Some(Combinator::Child),
+        signs::PLUS => Some(Combinator::Next),
+        signs::TILDE => Some(Combinator::Subsequent),
         _ => None,
     }
 }
@@ -53,5 +54,5 @@ pub fn combinator_of(byte: u16) -> Option<Combinator>
 pub fn ends_complex(byte: u16) -> bool
     ensures { result ≡ ends_complex byte }
 {
-    byte == 256 || byte == 44 || byte == 41
+    byte == signs::END || byte == signs::COMMA || byte == signs::CLOSE_PAREN
 }

@@ -10,7 +10,8 @@ use std::alloc::Global;
 use sw_text::{List, Memory, Name};
 
 impl Selectors {
-    /// The texts of the compounds and combinators of each complex selector in order. White space between compounds has none.
+    /// The texts of the compounds and combinators of each complex selector in order. White space between compounds has
+    /// none.
     pub fn parts(&self, alloc: Global) -> Result<List<List<Name>>, Memory>
         ensures { IfOk result (λ texts. texts ≡ all_units [] self.now.list) }
     {
@@ -78,7 +79,8 @@ fn push_unit(
     compound: &mut String,
     part: &Part,
 ) -> Result<(), Memory>
-    ensures { OnOk result (record { list = list.new; compound = string_bytes compound.new } ≡ unit_step list.old (string_bytes compound.old) part.now) }
+    ensures { OnOk result (record { list = list.new; compound = string_bytes compound.new }
+        ≡ unit_step list.old (string_bytes compound.old) part.now) }
 {
     match part {
         Part::Combinator(combinator) => {

@@ -10,8 +10,8 @@ use std::alloc::Global;
 use sw_text::{Memory, Name};
 
 impl Selectors {
-    /// The selectors as CSS has them, without the complex selectors in which a placeholder stands, also in a pseudo: `, ` between
-    /// them, combinators with spaces. The text is empty where all have a placeholder.
+    /// The selectors as CSS has them, without the complex selectors in which a placeholder stands, also in a pseudo: `,
+    /// ` between them, combinators with spaces. The text is empty where all have a placeholder.
     pub fn write(&self, alloc: Global) -> Result<Name, Memory>
         ensures { IfOk result (λ text. text ≡ text_of self.now.list) }
     {
@@ -67,7 +67,8 @@ fn write_combinator(out: &mut String, first: bool, combinator: Combinator) -> Re
 }
 
 fn write_sign(out: &mut String, first: bool, sign: &str) -> Result<(), Memory>
-    ensures { OnOk result (string_bytes out.new ≡ string_bytes out.old ++ ((if first then [] else codes " ") ++ sign.now ++ codes " ")) }
+    ensures { OnOk result (string_bytes out.new
+        ≡ string_bytes out.old ++ ((if first then [] else codes " ") ++ sign.now ++ codes " ")) }
 {
     if !first {
         out.push_str(" ")?;
@@ -113,7 +114,8 @@ fn push_name(out: &mut String, name: &Name) -> Result<(), Memory>
 }
 
 fn write_pseudo(out: &mut String, name: &Name, argument: &str) -> Result<(), Memory>
-    ensures { OnOk result (string_bytes out.new ≡ string_bytes out.old ++ (name.now ++ codes "(" ++ argument.now ++ codes ")")) }
+    ensures { OnOk result (string_bytes out.new
+        ≡ string_bytes out.old ++ (name.now ++ codes "(" ++ argument.now ++ codes ")")) }
 {
     out.push_str(name.as_str())?;
     out.push_str("(")?;

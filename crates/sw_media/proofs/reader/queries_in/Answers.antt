@@ -1,5 +1,6 @@
 use Rattle.std.proofs.Common.{◌≡◌, ℕ, ◌+◌, ◌-◌, List, [], ◌∷◌, ◌++◌, Some, length, sym, ◌∙◌, ap, arith}
-use Rattle.sw_scan.specs.Bytes.{byte}
+use Rattle.sw_scan.specs.declared.signs.TheConstants.{END}
+use Rattle.sw_scan.specs.Bytes.{sign, byte}
 use Rattle.sw_media.specs.declared.query.Query.{Query}
 use Rattle.sw_media.specs.Words.{white}
 use Rattle.sw_media.specs.Reading.{query_at, queries_in, conditions_in, list_from}
@@ -16,8 +17,8 @@ returns-in_err-query c =
     (λ e. sym c.queries.invariant
     ∙ list_fails deeper bs ((length bs + 1) - c.queries._turn) c.queries.list c.queries.place (omega arith) (ap (query_at deeper bs) (sym w) ∙ e))
 
-pub returns-then-byte-eq256 : goal.returns-then-byte-eq256
-returns-then-byte-eq256 c =
+pub returns-then-byte-eq-END : goal.returns-then-byte-eq-END
+returns-then-byte-eq-END c =
     let bs = c.args.text.now in
     let deeper = conditions_in bs c.args.levels in
     let j = c.in_ok-query.to in
@@ -27,11 +28,11 @@ returns-then-byte-eq256 c =
     c.byte_at-byte.ensures.byte ∙ ap (λ (xs : List ℕ). byte xs c.white-behind.result) c.as_bytes-in-queries-2.ensures.value ∙ ap (byte bs) v in
     sym c.queries.invariant
     ∙ list_ends deeper bs ((length bs + 1) - c.queries._turn) c.queries.list c.queries.place c.in_ok-query.query j (omega arith)
-    (ap (query_at deeper bs) (sym w) ∙ c.in_ok-query.ensures) (is_byte c.byte_at-byte.result (byte bs (white bs j)) 256 b c.if-byte-eq256.true)
+    (ap (query_at deeper bs) (sym w) ∙ c.in_ok-query.ensures) (is_byte c.byte_at-byte.result (byte bs (white bs j)) END b c.if-byte-eq-END.true)
     ∙ ap (λ (list : List Query). Some list) (sym c.in_ok-push.ensures.ok)
 
-pub returns-then-byte-ne44 : goal.returns-then-byte-ne44
-returns-then-byte-ne44 c =
+pub returns-then-byte-ne-COMMA : goal.returns-then-byte-ne-COMMA
+returns-then-byte-ne-COMMA c =
     let bs = c.args.text.now in
     let deeper = conditions_in bs c.args.levels in
     let j = c.in_ok-query.to in
@@ -41,8 +42,8 @@ returns-then-byte-ne44 c =
     c.byte_at-byte.ensures.byte ∙ ap (λ (xs : List ℕ). byte xs c.white-behind.result) c.as_bytes-in-queries-2.ensures.value ∙ ap (byte bs) v in
     sym c.queries.invariant
     ∙ list_wrong deeper bs ((length bs + 1) - c.queries._turn) c.queries.list c.queries.place c.in_ok-query.query j (omega arith)
-    (ap (query_at deeper bs) (sym w) ∙ c.in_ok-query.ensures) (is_other c.byte_at-byte.result (byte bs (white bs j)) 256 b c.if-byte-eq256.false)
-    (is_other c.byte_at-byte.result (byte bs (white bs j)) 44 b c.if-byte-ne44.true)
+    (ap (query_at deeper bs) (sym w) ∙ c.in_ok-query.ensures) (is_other c.byte_at-byte.result (byte bs (white bs j)) END b c.if-byte-eq-END.false)
+    (is_other c.byte_at-byte.result (byte bs (white bs j)) (sign ",") b c.if-byte-ne-COMMA.true)
 
 pub queries-preserved : goal.queries-preserved
 queries-preserved c =
@@ -59,5 +60,5 @@ queries-preserved c =
     ∙ ap (λ (list : List Query). list_from deeper bs (n - 1) list (c.white-behind.result + 1)) c.in_ok-push.ensures.ok
     ∙ ap (λ (k : ℕ). list_from deeper bs (n - 1) (c.queries.list ++ c.in_ok-query.query ∷ []) (k + 1)) v
     ∙ sym (list_goes deeper bs n c.queries.list c.queries.place c.in_ok-query.query j (omega arith)
-    (ap (query_at deeper bs) (sym w) ∙ c.in_ok-query.ensures) (is_byte c.byte_at-byte.result (byte bs (white bs j)) 44 b c.if-byte-ne44.false))
+    (ap (query_at deeper bs) (sym w) ∙ c.in_ok-query.ensures) (is_byte c.byte_at-byte.result (byte bs (white bs j)) (sign ",") b c.if-byte-ne-COMMA.false))
     ∙ c.queries.invariant

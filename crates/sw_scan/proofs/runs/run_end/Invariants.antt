@@ -1,6 +1,13 @@
-use Rattle.std.proofs.Common.{◌≡◌, ◌-◌, length}
-use Rattle.sw_scan.specs.Runs.{run_from, run_end}
+use Rattle.std.proofs.Common.{◌≡◌, ◌-◌, ◌≤◌, length}
+use Rattle.std.specs.Prelude.{max}
+use Rattle.sw_scan.specs.Runs.{next, run_end}
 use Rattle.sw_scan.proofs.runs.run_end.Given as goal
 
 abbrev pub invariant-run : goal.invariant-run
-invariant-run l = run_from l.class l.bytes (length l.bytes - l._step) l.place ≡ run_end l.class l.bytes l.at
+invariant-run l = record {
+  end : run_end l.class l.bytes l.place ≡ run_end l.class l.bytes l.at;
+  next : l.next ≡ next l.class l.bytes l.place;
+}
+
+abbrev pub decreases-run : goal.decreases-run
+decreases-run l = length l.bytes - l.place

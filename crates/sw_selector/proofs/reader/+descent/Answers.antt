@@ -1,5 +1,5 @@
 use Rattle.std.proofs.Common.{◌≡◌, ℕ, ◌+◌, ◌-◌, List, Some, true, length, sym, ◌∙◌, ap, arith}
-use Rattle.sw_scan.specs.Bytes.{byte}
+use Rattle.sw_scan.specs.Bytes.{sign, byte}
 use Rattle.sw_selector.specs.declared.selector.Part.{Part}
 use Rattle.sw_selector.specs.Simples.{takes_selectors}
 use Rattle.sw_selector.specs.Reading.{argument_at, complex_from, complex_at, turn_at, list_from, selectors_in}
@@ -47,14 +47,14 @@ selectors_in-returns-in_err-complex t c =
     c.from_residual.ensures.1 c.in_err-complex.ensures
     (λ e. sym c.selectors.invariant ∙ list_fails deeper bs ((length bs + 1) - c.selectors._turn) c.selectors.list c.selectors.place (omega arith) e)
 
-pub selectors_in-returns-then-byte_at-ne44 : goal.selectors_in-returns-then-byte_at-ne44
-selectors_in-returns-then-byte_at-ne44 t c =
+pub selectors_in-returns-then-byte_at-ne-COMMA : goal.selectors_in-returns-then-byte_at-ne-COMMA
+selectors_in-returns-then-byte_at-ne-COMMA t c =
     let bs = c.args.text.now in
     let deeper = selectors_in bs (c.args.levels - 1) in
     let b : c.byte_at.result ≡ byte bs c.in_ok-complex.to = c.byte_at.ensures.byte ∙ ap (λ (xs : List ℕ). byte xs c.in_ok-complex.to) c.as_bytes.ensures.value in
     sym c.selectors.invariant
     ∙ list_ends deeper bs ((length bs + 1) - c.selectors._turn) c.selectors.list c.selectors.place c.in_ok-complex.complex c.in_ok-complex.to (omega arith) c.in_ok-complex.ensures
-    (is_other c.byte_at.result (byte bs c.in_ok-complex.to) 44 b c.if-byte_at-ne44.true)
+    (is_other c.byte_at.result (byte bs c.in_ok-complex.to) (sign ",") b c.if-byte_at-ne-COMMA.true)
     ∙ ap (λ (list : List (List Part)). Some (list, c.in_ok-complex.to)) (sym c.in_ok-push.ensures.ok)
 
 pub selectors_in-selectors-preserved : goal.selectors_in-selectors-preserved
@@ -67,5 +67,5 @@ selectors_in-selectors-preserved t c =
     ap (λ (k : ℕ). list_from deeper bs k c.push.new.self (c.in_ok-complex.to + 1)) less
     ∙ ap (λ (list : List (List Part)). list_from deeper bs (n - 1) list (c.in_ok-complex.to + 1)) c.in_ok-push.ensures.ok
     ∙ sym (list_goes deeper bs n c.selectors.list c.selectors.place c.in_ok-complex.complex c.in_ok-complex.to (omega arith) c.in_ok-complex.ensures
-    (is_byte c.byte_at.result (byte bs c.in_ok-complex.to) 44 b c.if-byte_at-ne44.false))
+    (is_byte c.byte_at.result (byte bs c.in_ok-complex.to) (sign ",") b c.if-byte_at-ne-COMMA.false))
     ∙ c.selectors.invariant

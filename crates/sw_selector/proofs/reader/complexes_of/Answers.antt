@@ -1,5 +1,6 @@
 use Rattle.std.proofs.Common.{◌≡◌, ℕ, ◌+◌, ◌-◌, List, Some, length, sym, ◌∙◌, ap, arith}
-use Rattle.sw_scan.specs.Bytes.{byte}
+use Rattle.sw_scan.specs.declared.signs.TheConstants.{END}
+use Rattle.sw_scan.specs.Bytes.{sign, byte}
 use Rattle.sw_selector.specs.declared.selector.Part.{Part}
 use Rattle.sw_selector.specs.Reading.{complex_at, whole_from, complexes_of, selectors_in, commas_end}
 use Rattle.sw_selector.proofs.Loops.{handed_on, is_byte, is_other, whole_fails, whole_ends, whole_wrong, whole_goes}
@@ -13,8 +14,8 @@ returns-in_err-complex c =
     c.from_residual.ensures.1 c.in_err-complex.ensures
     (λ e. sym c.selectors.invariant ∙ whole_fails deeper bs ((length bs + 1) - c.selectors._turn) c.selectors.list c.selectors.place (omega arith) e)
 
-pub returns-then-byte_at-eq256 : goal.returns-then-byte_at-eq256
-returns-then-byte_at-eq256 c =
+pub returns-then-byte_at-eq-END : goal.returns-then-byte_at-eq-END
+returns-then-byte_at-eq-END c =
     let bs = c.args.text.now in
     let deeper = selectors_in bs c.args.levels in
     let j = c.in_ok-complex.to in
@@ -23,11 +24,11 @@ returns-then-byte_at-eq256 c =
     c.byte_at.ensures.byte ∙ ap (λ (xs : List ℕ). byte xs c.commas_end-place.result) c.as_bytes-in-selectors.ensures.value ∙ ap (byte bs) p in
     sym c.selectors.invariant
     ∙ whole_ends deeper bs ((length bs + 1) - c.selectors._turn) c.selectors.list c.selectors.place c.in_ok-complex.complex j (omega arith) c.in_ok-complex.ensures
-    (is_byte c.byte_at.result (byte bs (commas_end bs j)) 256 b c.if-byte_at-eq256.true)
+    (is_byte c.byte_at.result (byte bs (commas_end bs j)) END b c.if-byte_at-eq-END.true)
     ∙ ap (λ (list : List (List Part)). Some list) (sym c.in_ok-push.ensures.ok)
 
-pub returns-then-byte_at-ne44 : goal.returns-then-byte_at-ne44
-returns-then-byte_at-ne44 c =
+pub returns-then-byte_at-ne-COMMA : goal.returns-then-byte_at-ne-COMMA
+returns-then-byte_at-ne-COMMA c =
     let bs = c.args.text.now in
     let deeper = selectors_in bs c.args.levels in
     let j = c.in_ok-complex.to in
@@ -37,8 +38,8 @@ returns-then-byte_at-ne44 c =
     let d : c.byte_at-in-selectors.result ≡ byte bs j = c.byte_at-in-selectors.ensures.byte ∙ ap (λ (xs : List ℕ). byte xs j) c.as_bytes-in-selectors-2.ensures.value in
     sym c.selectors.invariant
     ∙ whole_wrong deeper bs ((length bs + 1) - c.selectors._turn) c.selectors.list c.selectors.place c.in_ok-complex.complex j (omega arith) c.in_ok-complex.ensures
-    (is_other c.byte_at.result (byte bs (commas_end bs j)) 256 b c.if-byte_at-eq256.false)
-    (is_other c.byte_at-in-selectors.result (byte bs j) 44 d c.if-byte_at-ne44.true)
+    (is_other c.byte_at.result (byte bs (commas_end bs j)) END b c.if-byte_at-eq-END.false)
+    (is_other c.byte_at-in-selectors.result (byte bs j) (sign ",") d c.if-byte_at-ne-COMMA.true)
 
 pub selectors-preserved : goal.selectors-preserved
 selectors-preserved c =
@@ -55,6 +56,6 @@ selectors-preserved c =
     ∙ ap (λ (list : List (List Part)). whole_from deeper bs (n - 1) list c.commas_end-place.result) c.in_ok-push.ensures.ok
     ∙ ap (whole_from deeper bs (n - 1) _) p
     ∙ sym (whole_goes deeper bs n c.selectors.list c.selectors.place c.in_ok-complex.complex j (omega arith) c.in_ok-complex.ensures
-    (is_other c.byte_at.result (byte bs (commas_end bs j)) 256 b c.if-byte_at-eq256.false)
-    (is_byte c.byte_at-in-selectors.result (byte bs j) 44 d c.if-byte_at-ne44.false))
+    (is_other c.byte_at.result (byte bs (commas_end bs j)) END b c.if-byte_at-eq-END.false)
+    (is_byte c.byte_at-in-selectors.result (byte bs j) (sign ",") d c.if-byte_at-ne-COMMA.false))
     ∙ c.selectors.invariant

@@ -1,0 +1,8 @@
+pub mod Bindings
+pub mod Cuts
+pub mod Dashes
+pub mod Jumps
+pub mod Nodes
+pub mod Places
+pub mod Seen
+pub mod Sights

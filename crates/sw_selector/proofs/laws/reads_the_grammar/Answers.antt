@@ -1,0 +1,5 @@
+use Rattle.sw_selector.proofs.Whole.{one_list, reads_lists}
+use Rattle.sw_selector.proofs.laws.reads_the_grammar.Goals as goal
+
+pub returns : goal.returns
+returns c = record { one = one_list; read = reads_lists }
