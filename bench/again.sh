@@ -1,7 +1,8 @@
 #!/bin/sh
 # How long a compile takes in a session that has compiled the same folder before: one entry loads N modules, each with 1 or 20 variables
-# and with no rule or ten, and reads one variable of each. The second compile finds all as it was, the third one module edited. The
-# fastest of five sessions counts.
+# and with no rule or ten, and reads one variable of each. The second compile finds all as it was, the third one module edited. In the
+# last folder each of N modules reads 20 names of two modules in its ten rules, so that it asks 40 questions beside its two loads; there
+# the time of the second compile is also told by the question. The fastest of five sessions counts.
 # Usage: again.sh PROGRAM
 set -eu
 exec python3 - "$1" <<'END'
@@ -51,6 +52,24 @@ def module(number, variables, rules):
     return f"{others}$v: w{number};\n{blocks}"
 
 
+def asking(number):
+    """A module that reads 20 names of two modules in ten rules."""
+    return '@use "lib";\n@use "theme";\n' + "".join(
+        f".m{number}-{rule} {{\n  color: lib.$n{rule};\n  border: theme.$n{rule};\n}}\n" for rule in range(10)
+    )
+
+
+def compiled_thrice(session, edit, runs):
+    """The seconds of a first compile, of a second one, and of one after the edit; `runs` says how many bodies have to run."""
+    first, ran_first = session.compile()
+    second, ran_second = session.compile()
+    session.edit(*edit)
+    edited, ran_edited = session.compile()
+    session.end()
+    assert (ran_first, ran_second, ran_edited) == runs, (ran_first, ran_second, ran_edited)
+    return first, second, edited
+
+
 def measured(program, modules, variables, rules):
     session = Session(program)
     for number in range(modules):
@@ -58,13 +77,17 @@ def measured(program, modules, variables, rules):
     loads = "".join(f'@use "m{number}";\n' for number in range(modules))
     lines = "".join(f"p{number}: m{number}.$v;\n" for number in range(modules))
     session.edit("main.scss", loads + "a {\n" + lines + "}")
-    first, ran_first = session.compile()
-    second, ran_second = session.compile()
-    session.edit("m0.scss", "$v: other;")
-    edited, ran_edited = session.compile()
-    session.end()
-    assert (ran_first, ran_second, ran_edited) == (modules + 1, 0, 2)
-    return first, second, edited
+    return compiled_thrice(session, ("m0.scss", "$v: other;"), (modules + 1, 0, 2))
+
+
+def measured_asking(program, modules):
+    session = Session(program)
+    for name in ("lib", "theme"):
+        session.edit(f"{name}.scss", "".join(f"$n{rule}: {name}{rule};\n" for rule in range(20)))
+    for number in range(modules):
+        session.edit(f"m{number}.scss", asking(number))
+    session.edit("main.scss", "".join(f'@use "m{number}";\n' for number in range(modules)))
+    return compiled_thrice(session, ("m0.scss", asking(modules)), (modules + 3, 0, 1))
 
 
 for variables, rules in ((1, 0), (20, 0), (20, 10)):
@@ -75,4 +98,11 @@ for variables, rules in ((1, 0), (20, 0), (20, 10)):
             f"{modules} modules of {variables} variables and {rules} rules: first {first:.2f} ms, second {second:.2f} ms, ratio {second / first:.3f};"
             f" after one edit {edited:.2f} ms, ratio {edited / first:.3f}"
         )
+for modules in (100, 200, 400):
+    times = [measured_asking(sys.argv[1], modules) for _ in range(5)]
+    first, second, edited = (min(column) * 1000 for column in zip(*times))
+    print(
+        f"{modules} modules of 40 questions: first {first:.2f} ms, second {second:.2f} ms, {second / modules / 40 * 1000:.3f} us a question;"
+        f" after one edit {edited:.2f} ms"
+    )
 END

@@ -1,6 +1,3 @@
-pub mod Writing
 pub mod Nexts
 pub mod Turning
-pub mod Serving
-pub mod Growing
-pub mod Whole
+pub mod Following

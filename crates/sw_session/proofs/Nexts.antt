@@ -1,41 +1,17 @@
--- What stands at the front of the bytes, by the line that was read and a put's bytes behind it.
-use Rattle.std.proofs.Common.{◌≡◌, ◌≢◌, ℕ, ◌≤◌, false, eqb, List, [], ◌∷◌, ◌++◌, length, take, drop, refl, ap, ◌∙◌, append_assoc, arith}
-use Rattle.std.proofs.lemmas.List.{take_at, drop_at, drop_all}
+-- What stands at the front of the bytes behind the line of a put.
+use Rattle.std.proofs.Common.{◌≡◌, ◌≢◌, ℕ, ◌≤◌, true, false, eqb, if◌then◌else◌, List, [], ◌∷◌, ◌++◌, length, take, drop, None, Some, refl, ap, ◌∙◌, append_assoc, arith, inl, inr}
+use Rattle.std.specs.declared.option.Option.{Option}
+use Rattle.std.proofs.lemmas.List.{take_at, drop_at, drop_all, take-append-le, drop-append-le}
+use Rattle.std.proofs.lemmas.Bool.{cases_lt}
 use Rattle.std.proofs.lemmas.Bool.Decides.{nat_tests}
-use Rattle.sw_io.specs.Lines.{Line as Line_split, Long, Unended, split_line}
+use Rattle.sw_wire.specs.declared.request.Request.{Request}
+use Rattle.sw_wire.specs.declared.request.Request.TheVariants.{Put as Put_line, Remove as Remove_line, Compile as Compile_line, End as End_line}
 use Rattle.sw_wire.specs.Requests.{request_of}
-use Rattle.sw_session.specs.Script.{Put, Next, Whole, NoRequest, Short, put_at, next_by, next_by_line, next, last, last_by, last_by_line, Bad, Cut}
+use Rattle.sw_protocol.specs.Script.{Next, Whole, NoRequest, Short}
+use Rattle.sw_protocol.specs.Exactly.{more_next, Grows}
+use Rattle.sw_session.specs.Script.{Event, Put, put_at, front_by, grammar}
 
--- the bytes, and then a line feed, are the first line, whatever follows
-abbrev pub IsLine : List ℕ → Type 0
-IsLine line = (rest : List ℕ) → split_line 1024 (line ++ 10 ∷ rest) ≡ Line_split line rest
-
-pub next_line : (line : List ℕ) → IsLine line → (rest : List ℕ) → next ((line ++ 10 ∷ []) ++ rest) ≡ next_by_line (request_of line) rest
-unfolding next
-next_line line h rest = rw (append_assoc line (10 ∷ []) rest, h rest) refl
-
-pub last_line : (line : List ℕ) → IsLine line → (rest : List ℕ) → last ((line ++ 10 ∷ []) ++ rest) ≡ last_by_line (request_of line)
-unfolding last
-last_line line h rest = rw (append_assoc line (10 ∷ []) rest, h rest) refl
-
-pub next_long : (bytes : List ℕ) → split_line 1024 bytes ≡ Long → next bytes ≡ NoRequest
-unfolding next
-next_long bytes h = ap next_by h
-
-pub next_short : (bytes : List ℕ) → split_line 1024 bytes ≡ Unended → next bytes ≡ Short
-unfolding next
-next_short bytes h = ap next_by h
-
-pub last_long : (bytes : List ℕ) → split_line 1024 bytes ≡ Long → last bytes ≡ Bad
-unfolding last
-last_long bytes h = ap last_by h
-
-pub last_short : (bytes : List ℕ) → split_line 1024 bytes ≡ Unended → last bytes ≡ Cut
-unfolding last
-last_short bytes h = ap last_by h
-
--- at the bytes of a put
-abbrev pub put_of : List ℕ → ℕ → List ℕ → Next
+abbrev pub put_of : List ℕ → ℕ → List ℕ → Next Event
 put_of path count bytes = put_at path (take count bytes) (drop count bytes)
 
 at_body : (path bytes tail : List ℕ) (count : ℕ) → length bytes ≡ count → put_of path count (bytes ++ tail) ≡ put_at path bytes tail
@@ -53,3 +29,24 @@ put_wrong path bytes byte count e n rest =
 
 pub put_short : (path bytes : List ℕ) (count : ℕ) → length bytes ≤ count → put_of path count bytes ≡ Short
 put_short path bytes count le = ap (put_at path (take count bytes)) (drop_all count bytes le)
+
+-- what a line begins stays as it is
+put_grows : (path body tail more : List ℕ) → put_at path body tail ≢ Short → put_at path body (tail ++ more) ≡ more_next more (put_at path body tail)
+put_grows path body [] more h = absurd (h refl)
+put_grows path body (byte ∷ tail) more h =
+    elim (eqb byte 10) as (λ t. (if t then Whole (Put path body) (tail ++ more) else NoRequest) ≡ more_next more (if t then Whole (Put path body) tail else NoRequest)) [ true ↦ refl | false ↦ refl ]
+
+front_grows : (said : Option Request) (rest more : List ℕ) → front_by said rest ≢ Short → front_by said (rest ++ more) ≡ more_next more (front_by said rest)
+front_grows None rest more h = refl
+front_grows (Some (Remove_line path)) rest more h = refl
+front_grows (Some (Compile_line entry paths)) rest more h = refl
+front_grows (Some End_line) rest more h = refl
+front_grows (Some (Put_line path count)) rest more h =
+    elim (cases_lt count (length rest)) [
+      | inl lt ↦ let le : count ≤ length rest = omega arith in
+          rw (take-append-le count rest more le, drop-append-le count rest more le) (put_grows path (take count rest) (drop count rest) more h)
+      | inr le ↦ absurd (h (ap (put_at path (take count rest)) (drop_all count rest le)))
+    ]
+
+pub grows : Grows grammar
+grows line rest more h = front_grows (request_of line) rest more h

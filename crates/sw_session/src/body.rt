@@ -2,10 +2,11 @@
 ghost use Rattle.std.specs.Prelude.{◌≡◌, ◌≤◌, ◌∷◌, ◌++◌, [], List, ℕ, length, IfErr, OnOk, IsTrue};
 ghost use Rattle.sw_io.specs.Reads.{Reads};
 ghost use Rattle.sw_io.specs.Ends.{RunEnds};
-ghost use Rattle.sw_session.specs.Turns.{BodyEnds, SourceCause};
+ghost use Rattle.sw_protocol.specs.Turns.{Cause};
+ghost use Rattle.sw_session.specs.Edits.{BodyEnds};
 
-use crate::stop::Stop;
 use sw_io::{Failed, ReadStop, Reader, Source};
+use sw_protocol::Stop;
 
 /// Reads the bytes of a put and the line feed behind them. The bytes are dropped, or kept in `body`.
 pub fn read_body<S: Source>(
@@ -20,7 +21,7 @@ pub fn read_body<S: Source>(
     ensures err { IfErr result (λ stop. (used : List ℕ) × Reads reader.old (S.left source.old) used reader.new (S.left source.new)
         × BodyEnds stop count used reader.new (S.left source.new)) }
     ensures bound { OnOk result (length reader.new ≤ 4096) }
-    ensures cause { SourceCause (S.faults source.old) (S.faults source.new) result }
+    ensures cause { Cause Stop.SourceFailed (S.faults source.old) (S.faults source.new) result }
 {
     read_bytes(reader, source, count, keep, body)?;
     match reader.next(source) {

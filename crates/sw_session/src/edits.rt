@@ -2,15 +2,16 @@
 ghost use Rattle.std.specs.Prelude.{◌≡◌, ◌≤◌, Err, IfOk, IfErr, OnOk, OnErr, length};
 ghost use Rattle.sw_folder.specs.Edits.{after_put, after_removal, folder_after};
 ghost use Rattle.sw_wire.specs.Replies.{edit_text};
-ghost use Rattle.sw_session.specs.Turns.{Puts, PutEnds, SourceCause};
+ghost use Rattle.sw_protocol.specs.Turns.{Cause};
+ghost use Rattle.sw_session.specs.Edits.{Puts, PutEnds};
 
 use crate::body::read_body;
 use crate::reading::SheetReader;
-use crate::stop::Stop;
 use std::alloc::Global;
 use sw_folder::{EditFault, unread_fault};
 use sw_io::{Reader, Source};
 use sw_keeper::Keeper;
+use sw_protocol::Stop;
 use sw_text::Name;
 use sw_wire::edit_reply;
 use sw_world::Engine;
@@ -28,8 +29,9 @@ pub fn put<S: Source, E: Engine>(
     ensures ok { IfOk result (λ reply. Puts path.now count reader.old (S.left source.old) keeper.old
         reader.new (S.left source.new) keeper.new reply.now) }
     ensures err { IfErr result (λ stop. PutEnds stop count reader.old (S.left source.old) reader.new (S.left source.new)) }
+    ensures same { OnErr result (keeper.new ≡ keeper.old) }
     ensures bound { OnOk result (length reader.new ≤ 4096) }
-    ensures cause { SourceCause (S.faults source.old) (S.faults source.new) result }
+    ensures cause { Cause Stop.SourceFailed (S.faults source.old) (S.faults source.new) result }
 {
     let mut body = Vec::new(alloc);
     match unread_fault(path.as_str(), count as usize) {
@@ -53,6 +55,7 @@ fn keep<E: Engine>(
     ensures reply { IfOk result (λ reply. reply.now ≡ edit_text (after_put path.now body.now keeper.old.folder)) }
     ensures folder { OnOk result (keeper.new.folder ≡ folder_after (after_put path.now body.now keeper.old.folder) keeper.old.folder) }
     ensures kept { keeper.new.kept ≡ keeper.old.kept }
+    ensures same { OnErr result (keeper.new ≡ keeper.old) }
     ensures err { IfErr result (λ stop. stop ≡ Stop.Memory) }
 {
     match keeper.put(path, body) {

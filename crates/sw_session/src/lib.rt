@@ -1,4 +1,4 @@
-//! A session: reads requests from a source, answers each over a folder, and writes the replies into a sink.
+//! A session: answers the requests of a source over a folder, and writes the replies into a sink.
 //! Lines and bytes flow in and become requests; edits go to the folder, compiles go over it with an engine and the host's functions; replies flow out.
 #![tactic(auto)]
 
@@ -8,13 +8,12 @@ mod command;
 mod edits;
 mod laws;
 mod reading;
-mod sending;
+mod requests;
 mod service;
-mod stop;
-mod turns;
+mod session;
 
 pub use command::run;
-pub use laws::{answers_all, ends_exactly};
+pub use laws::{answers_all, ends_exactly, transcript_is_one};
 pub use reading::SheetReader;
 pub use service::{serve, serve_within};
-pub use stop::Stop;
+pub use sw_protocol::Stop;

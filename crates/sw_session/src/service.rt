@@ -1,15 +1,13 @@
-// The loop of a session.
-ghost use Rattle.std.specs.Prelude.{◌≡◌, []};
+// A whole session.
+ghost use Rattle.std.specs.Prelude.{◌≡◌};
 ghost use Rattle.sw_io.specs.Causes.{Rose};
 ghost use Rattle.sw_session.specs.Sheets.{setting_of};
 ghost use Rattle.sw_session.specs.Served.{surroundings, Served, ServedWith};
 
-use crate::reading::SheetReader;
-use crate::stop::Stop;
-use crate::turns::{last, turn};
+use crate::session::Session;
 use std::alloc::Global;
-use sw_io::{Reader, Sink, Source};
-use sw_keeper::Keeper;
+use sw_io::{Sink, Source};
+use sw_protocol::{Lines, Service, Stop};
 use sw_world::{Engine, Hosts};
 
 const MOST_REQUESTS: u32 = 1_000_000;
@@ -25,7 +23,8 @@ pub fn serve<S: Source, K: Sink, E: Engine, H: Hosts>(
     engine: &mut E,
     hosts: &mut H,
 ) -> u8
-    ensures served { ServedWith (setting_of E.body H.answer H.after) result (surroundings (S.left source.old) (K.written sink.old) (E.ran engine.old) (H.state hosts.old))
+    ensures served { ServedWith (setting_of E.body H.answer H.after) result
+        (surroundings (S.left source.old) (K.written sink.old) (E.ran engine.old) (H.state hosts.old))
         (surroundings (S.left source.new) (K.written sink.new) (E.ran engine.new) (H.state hosts.new)) }
     ensures source_fault { result ≡ 4 → Rose (S.faults source.old) (S.faults source.new) }
     ensures sink_fault { result ≡ 5 → Rose (K.faults sink.old) (K.faults sink.new) }
@@ -42,47 +41,18 @@ pub fn serve_within<S: Source, K: Sink, E: Engine, H: Hosts>(
     engine: &mut E,
     hosts: &mut H,
 ) -> Stop
-    ensures served { Served (setting_of E.body H.answer H.after) most result (surroundings (S.left source.old) (K.written sink.old) (E.ran engine.old) (H.state hosts.old))
+    ensures served { Served (setting_of E.body H.answer H.after) most result
+        (surroundings (S.left source.old) (K.written sink.old) (E.ran engine.old) (H.state hosts.old))
         (surroundings (S.left source.new) (K.written sink.new) (E.ran engine.new) (H.state hosts.new)) }
     ensures source_fault { result ≡ Stop.SourceFailed → Rose (S.faults source.old) (S.faults source.new) }
     ensures sink_fault { result ≡ Stop.SinkFailed → Rose (K.faults sink.old) (K.faults sink.new) }
 {
-    match Reader::new(alloc) {
+    match Lines::new(alloc) {
         Err(_) => Stop::Memory,
-        Ok(mut reader) => answer_all(alloc, most, &mut reader, source, sink, engine, hosts),
-    }
-}
-
-fn answer_all<S: Source, K: Sink, E: Engine, H: Hosts>(
-    alloc: Global,
-    most: u32,
-    reader: &mut Reader,
-    source: &mut S,
-    sink: &mut K,
-    engine: &mut E,
-    hosts: &mut H,
-) -> Stop
-    requires { reader.old ≡ [] }
-    ensures served { Served (setting_of E.body H.answer H.after) most result (surroundings (S.left source.old) (K.written sink.old) (E.ran engine.old) (H.state hosts.old))
-        (surroundings (S.left source.new) (K.written sink.new) (E.ran engine.new) (H.state hosts.new)) }
-    ensures source_fault { result ≡ Stop.SourceFailed → Rose (S.faults source.old) (S.faults source.new) }
-    ensures sink_fault { result ≡ Stop.SinkFailed → Rose (K.faults sink.old) (K.faults sink.new) }
-{
-    let mut line = Vec::new(alloc);
-    let mut keeper = Keeper::<SheetReader, E>::new(alloc);
-    'requests: for _ in 0..most {
-        if let Err(stop) = turn(
-            alloc,
-            &mut line,
-            reader,
-            &mut keeper,
-            source,
-            sink,
-            engine,
-            hosts,
-        ) {
-            return stop;
+        Ok(lines) => {
+            let protocol = Session::<E>::new(alloc);
+            let mut service = Service { lines, protocol };
+            service.answer_all(most, source, sink, engine, hosts)
         }
     }
-    last(alloc, &mut line, reader, source)
 }

@@ -1,0 +1,6 @@
+pub mod Writing
+pub mod Fronts
+pub mod Serving
+pub mod Growing
+pub mod Whole
+pub mod One

@@ -1,0 +1,357 @@
+-- The loop: what was done so far, and what is left, whatever comes.
+use Rattle.std.proofs.Common.{◌≡◌, ℕ, suc, zero, ◌+◌, ◌≤◌, ◌<◌, List, [], ◌∷◌, ◌++◌, length, inl, inr, refl, sym, ap, ◌∙◌, subst, append_assoc, arith, zero-add, add-zero}
+use Rattle.std.specs.declared.option.Option.{Option}
+use Rattle.std.specs.Io.KnownBytes.{Appends, Consumes}
+use Rattle.std.proofs.lemmas.List.{append-nil, length_push}
+use Rattle.sw_io.proofs.Reading.{reads_none, reads_on}
+use Rattle.sw_protocol.specs.declared.stop.Stop.{Stop}
+use Rattle.sw_protocol.specs.declared.stop.Stop.TheVariants.{Ended, Wrong, CutOff, SourceFailed, SinkFailed, Memory, OutsideFailed, Over as Over_stop}
+use Rattle.sw_protocol.specs.Script.{Next, Whole, Closing, NoRequest, Short, Ending, End, Bad, Over, Cut, Grammar, next, last, Script, script, script_by, behind, behind_by}
+use Rattle.sw_protocol.specs.Protocol.{Protocol, Turn}
+use Rattle.sw_protocol.specs.Transcript.{AreMarks, turns, text, ran_in, held_after}
+use Rattle.sw_protocol.specs.Turns.{Place, place, Uses, Standing, Does, Answers, Breaks, Leaves, TurnEnds, LastEnds}
+use Rattle.sw_protocol.specs.Served.{Surroundings, surroundings, Served, EndsIn, Did, Tells, LeavesOff, TellsBy}
+use Rattle.sw_protocol.proofs.Writing.{appends_none, appends_on}
+
+-- scripts
+module _ {Event : Type 0} (grammar : Grammar Event) where
+  script_next : (n : ℕ) (bytes : List ℕ) (is : Next Event) → next grammar bytes ≡ is → script grammar (suc n) bytes ≡ script_by (script grammar n) is
+  unfolding script
+  script_next n bytes is e = ap (script_by (script grammar n)) e
+
+  script_last : (bytes : List ℕ) (is : Ending) → last grammar bytes ≡ is → script grammar zero bytes ≡ record { events = []; ending = is }
+  unfolding script
+  script_last bytes is e = ap (λ (x : Ending). let s : Script Event = record { events = []; ending = x } in s) e
+
+  behind_whole : (n : ℕ) (bytes : List ℕ) (event : Event) (rest : List ℕ) → next grammar bytes ≡ Whole event rest → behind grammar (suc n) bytes ≡ behind grammar n rest
+  unfolding behind
+  behind_whole n bytes event rest e = ap (behind_by (behind grammar n)) e
+
+  behind_none : (bytes : List ℕ) → behind grammar zero bytes ≡ bytes
+  unfolding behind
+  behind_none bytes = refl
+
+  events_on : (n : ℕ) (used rest : List ℕ) (event : Event) → next grammar (used ++ rest) ≡ Whole event rest → length (script grammar (suc n) (used ++ rest)).events ≡ suc (length (script grammar n rest).events)
+  events_on n used rest event w = ap (λ (x : Script Event). length x.events) (script_next n (used ++ rest) (Whole event rest) w)
+
+-- turns
+module _ {Held Reply : Type 0} where
+  text_append : (xs ys : List (Turn Held Reply)) → text (xs ++ ys) ≡ text xs ++ text ys
+  text_append [] ys = refl
+  text_append (x ∷ xs) ys = ap (λ t. x.text ++ t) (text_append xs ys) ∙ sym (append_assoc x.text (text xs) (text ys))
+
+  ran_append : (xs ys : List (Turn Held Reply)) → ran_in (xs ++ ys) ≡ ran_in xs ++ ran_in ys
+  ran_append [] ys = refl
+  ran_append (x ∷ xs) ys = ap (λ t. x.ran ++ t) (ran_append xs ys) ∙ sym (append_assoc x.ran (ran_in xs) (ran_in ys))
+
+  held_push : (held : Held) (xs : List (Turn Held Reply)) (x : Turn Held Reply) → held_after held (xs ++ x ∷ []) ≡ x.held
+  held_push held [] x = refl
+  held_push held (y ∷ xs) x = held_push y.held xs x
+
+  -- the reply and the bodies of one turn more
+  text_more : (done : List (Turn Held Reply)) (turn : Turn Held Reply) → text done ++ turn.text ≡ text (done ++ turn ∷ [])
+  text_more done turn = ap (λ t. text done ++ t) (sym (append-nil turn.text)) ∙ sym (text_append done (turn ∷ []))
+
+  ran_more : (ran now next : List (List ℕ)) (done : List (Turn Held Reply)) (turn : Turn Held Reply) → now ≡ ran ++ ran_in done → next ≡ now ++ turn.ran → next ≡ ran ++ ran_in (done ++ turn ∷ [])
+  ran_more ran now next done turn a b =
+      b ∙ ap (λ t. t ++ turn.ran) a ∙ append_assoc ran (ran_in done) turn.ran
+      ∙ ap (λ t. ran ++ t) (ap (λ t. ran_in done ++ t) (sym (append-nil turn.ran)) ∙ sym (ran_append done (turn ∷ [])))
+
+module _ {Event Mark Held Reply : Type 0} (p : Protocol Event Mark Held Reply) where
+  no_turns : (h : Held) (events : List Event) → turns p h events [] ≡ []
+  unfolding turns
+  no_turns h [] = refl
+  no_turns h (event ∷ events) = refl
+
+  no_marks : (h : Held) (events : List Event) → AreMarks p h events []
+  unfolding AreMarks
+  no_marks h [] = tt
+  no_marks h (event ∷ events) = tt
+
+  first_turn : (h : Held) (event : Event) (events : List Event) (mark : Mark) (later : List Mark)
+      → turns p h (event ∷ events) (mark ∷ later) ≡ p.turn_of h event mark ∷ turns p (p.turn_of h event mark).held events later
+  unfolding turns
+  first_turn h event events mark later = refl
+
+  first_mark : (h : Held) (event : Event) (events : List Event) (mark : Mark) (later : List Mark)
+      → p.IsMark h event mark → AreMarks p (p.turn_of h event mark).held events later → AreMarks p h (event ∷ events) (mark ∷ later)
+  unfolding AreMarks
+  first_mark h event events mark later m l = (m, l)
+
+  -- the turns and the marks of a request and of what follows it
+  turns_on : (n : ℕ) (h : Held) (event : Event) (mark : Mark) (later : List Mark) (used rest : List ℕ) → next p.grammar (used ++ rest) ≡ Whole event rest
+      → turns p h (script p.grammar (suc n) (used ++ rest)).events (mark ∷ later) ≡ p.turn_of h event mark ∷ turns p (p.turn_of h event mark).held (script p.grammar n rest).events later
+  turns_on n h event mark later used rest w =
+      ap (λ (x : Script Event). turns p h x.events (mark ∷ later)) (script_next p.grammar n (used ++ rest) (Whole event rest) w) ∙ first_turn h event (script p.grammar n rest).events mark later
+
+  marks_on : (n : ℕ) (h : Held) (event : Event) (mark : Mark) (later : List Mark) (used rest : List ℕ) → next p.grammar (used ++ rest) ≡ Whole event rest
+      → p.IsMark h event mark → AreMarks p (p.turn_of h event mark).held (script p.grammar n rest).events later → AreMarks p h (script p.grammar (suc n) (used ++ rest)).events (mark ∷ later)
+  marks_on n h event mark later used rest w m l =
+      subst (λ (x : Script Event). AreMarks p h x.events (mark ∷ later)) (sym (script_next p.grammar n (used ++ rest) (Whole event rest) w)) (first_mark h event (script p.grammar n rest).events mark later m l)
+
+-- from one place to another some requests were carried out and answered whole, and so many more may come; whatever bytes and marks
+-- follow, the turns of all are those done and those of the rest
+pub record Going {Event Mark Held Reply : Type 0} (p : Protocol Event Mark Held Reply) (most : ℕ) (start : Standing Held) (n : ℕ) (s : Standing Held) (old new : Place) : Type 0 where
+  pub used : List ℕ
+  pub marks : List Mark
+  pub done : List (Turn Held Reply)
+  pub uses : Uses old used new
+  pub sends : Appends old.written new.written (text done)
+  pub runs : s.ran ≡ start.ran ++ ran_in done
+  pub holds : s.held ≡ held_after start.held done
+  pub all : (rest : List ℕ) (later : List Mark)
+      → turns p start.held (script p.grammar most (used ++ rest)).events (marks ++ later) ≡ done ++ turns p s.held (script p.grammar n rest).events later
+  pub marked : (rest : List ℕ) (later : List Mark) → AreMarks p s.held (script p.grammar n rest).events later
+      → AreMarks p start.held (script p.grammar most (used ++ rest)).events (marks ++ later)
+  pub each : (rest : List ℕ) → length (script p.grammar most (used ++ rest)).events ≡ length marks + length (script p.grammar n rest).events
+  pub ending : (rest : List ℕ) → (script p.grammar most (used ++ rest)).ending ≡ (script p.grammar n rest).ending
+  pub behind : (k : ℕ) (rest : List ℕ) → behind p.grammar (length done + k) (used ++ rest) ≡ behind p.grammar k rest
+
+abbrev pub around : {Held : Type 0} → Place → Standing Held → Surroundings Held
+around at s = surroundings at.left at.written s.held s.ran
+
+given_is : (old new : Place) (used : List ℕ) (u : Uses old used new) → old.ahead ≡ [] → u.given ≡ used ++ new.ahead
+given_is old new used u e = sym (ap (λ t. t ++ u.given) e) ∙ u.bytes
+
+-- all that was taken
+taken_is : (old new : Place) (used : List ℕ) (u : Uses old used new) → old.ahead ≡ [] → Consumes old.left new.left (used ++ new.ahead)
+taken_is old new used u e = subst (λ (t : List ℕ). Consumes old.left new.left t) (given_is old new used u e) u.source
+
+counted : {Mark : Type 0} (marks : List Mark) (all rest : ℕ) → all ≡ length marks + rest → rest ≡ 0 → length (marks ++ []) ≡ all
+counted marks all rest a b = ap length (append-nil marks) ∙ omega arith
+
+drained : (used ahead : List ℕ) → ahead ≡ [] → used ++ ahead ≡ used
+drained used ahead e = ap (λ t. used ++ t) e ∙ append-nil used
+
+module _ {Event Mark Held Reply : Type 0} (p : Protocol Event Mark Held Reply) (most : ℕ) (start : Standing Held) where
+  pub going_start : (at : Place) → Going p most start most start at at
+  going_start at = record {
+    used = [];
+    marks = [];
+    done = [];
+    uses = reads_none _ _;
+    sends = appends_none _;
+    runs = sym (append-nil start.ran);
+    holds = refl;
+    all = λ rest later. refl;
+    marked = λ rest later m. m;
+    each = λ rest. sym (zero-add (length (script p.grammar most rest).events));
+    ending = λ rest. refl;
+    behind = λ k rest. ap (λ i. behind p.grammar i rest) (zero-add k);
+  }
+
+  -- one request more was carried out, and what follows is as what it leaves says
+  module _ (n : ℕ) (s t : Standing Held) (old mid : Place) (g : Going p most start (suc n) s old mid)
+      (used : List ℕ) (event : Event) (w : (rest : List ℕ) → next p.grammar (used ++ rest) ≡ Whole event rest) (d : Does p event s t) where
+    abbrev turn_done : Turn Held Reply
+    turn_done = p.turn_of s.held event d.mark
+
+    more_runs : t.ran ≡ start.ran ++ ran_in (g.done ++ turn_done ∷ [])
+    more_runs = ran_more start.ran s.ran t.ran g.done turn_done g.runs d.ran
+
+    more_holds : t.held ≡ held_after start.held (g.done ++ turn_done ∷ [])
+    more_holds = d.held ∙ sym (held_push start.held g.done turn_done)
+
+    more_all : (rest : List ℕ) (later : List Mark)
+        → turns p start.held (script p.grammar most ((g.used ++ used) ++ rest)).events ((g.marks ++ d.mark ∷ []) ++ later) ≡ (g.done ++ turn_done ∷ []) ++ turns p t.held (script p.grammar n rest).events later
+    more_all rest later = rw (append_assoc g.used used rest, append_assoc g.marks (d.mark ∷ []) later, append_assoc g.done (turn_done ∷ []) (turns p t.held (script p.grammar n rest).events later))
+        (g.all (used ++ rest) (d.mark ∷ later)
+        ∙ ap (λ x. g.done ++ x) (turns_on p n s.held event d.mark later used rest (w rest)
+        ∙ ap (λ (h : Held). turn_done ∷ turns p h (script p.grammar n rest).events later) (sym d.held)))
+
+    more_marked : (rest : List ℕ) (later : List Mark) → AreMarks p t.held (script p.grammar n rest).events later
+        → AreMarks p start.held (script p.grammar most ((g.used ++ used) ++ rest)).events ((g.marks ++ d.mark ∷ []) ++ later)
+    more_marked rest later m = rw (append_assoc g.used used rest, append_assoc g.marks (d.mark ∷ []) later)
+        (g.marked (used ++ rest) (d.mark ∷ later)
+        (marks_on p n s.held event d.mark later used rest (w rest) d.is_mark
+        (subst (λ (h : Held). AreMarks p h (script p.grammar n rest).events later) d.held m)))
+
+    more_behind : (k : ℕ) (rest : List ℕ) → behind p.grammar (length (g.done ++ turn_done ∷ []) + k) ((g.used ++ used) ++ rest) ≡ behind p.grammar k rest
+    more_behind k rest = rw (append_assoc g.used used rest)
+        (ap (λ i. behind p.grammar i (g.used ++ (used ++ rest))) (longer (length g.done) k _ (length_push g.done turn_done))
+        ∙ g.behind (suc k) (used ++ rest) ∙ behind_whole p.grammar k (used ++ rest) event rest (w rest))
+      where
+        longer : (d n k : ℕ) → k ≡ d + 1 → k + n ≡ d + suc n
+        longer d n k e = omega arith
+
+    -- all that was taken, with nothing behind it
+    last_order : (ahead : List ℕ) → turns p start.held (script p.grammar most ((g.used ++ used) ++ ahead)).events (g.marks ++ d.mark ∷ []) ≡ g.done ++ turn_done ∷ []
+    last_order ahead =
+        ap (turns p start.held (script p.grammar most ((g.used ++ used) ++ ahead)).events) (sym (append-nil (g.marks ++ d.mark ∷ [])))
+        ∙ more_all ahead [] ∙ ap (λ x. (g.done ++ turn_done ∷ []) ++ x) (no_turns p t.held (script p.grammar n ahead).events) ∙ append-nil (g.done ++ turn_done ∷ [])
+
+    last_marked : (ahead : List ℕ) → AreMarks p start.held (script p.grammar most ((g.used ++ used) ++ ahead)).events (g.marks ++ d.mark ∷ [])
+    last_marked ahead =
+        subst (AreMarks p start.held (script p.grammar most ((g.used ++ used) ++ ahead)).events) (append-nil (g.marks ++ d.mark ∷ [])) (more_marked ahead [] (no_marks p t.held (script p.grammar n ahead).events))
+
+    last_did : (ahead : List ℕ) (old_at new_at : Place)
+        → Did (turns p start.held (script p.grammar most ((g.used ++ used) ++ ahead)).events (g.marks ++ d.mark ∷ [])) (around old_at start) (around new_at t)
+    last_did ahead old_at new_at = record {
+      ran = more_runs ∙ ap (λ x. start.ran ++ ran_in x) (sym (last_order ahead));
+      held = more_holds ∙ ap (held_after start.held) (sym (last_order ahead));
+    }
+
+    last_near : (ahead : List ℕ) → length ahead ≤ 4096
+        → length (behind p.grammar (length (turns p start.held (script p.grammar most ((g.used ++ used) ++ ahead)).events (g.marks ++ d.mark ∷ []))) ((g.used ++ used) ++ ahead)) ≤ 4096
+    last_near ahead le = rw (last_order ahead) (rw (← add-zero (length (g.done ++ turn_done ∷ [])), more_behind 0 ahead, behind_none p.grammar ahead) le)
+
+  pub going_on : (n : ℕ) (s t : Standing Held) (old mid new : Place) → Going p most start (suc n) s old mid → Answers (next p.grammar) p mid s new t → Going p most start n t old new
+  going_on n s t old mid new g a =
+      let turn : Turn Held Reply = p.turn_of s.held a.event a.says.does.mark in record {
+        used = g.used ++ a.takes.used;
+        marks = g.marks ++ a.says.does.mark ∷ [];
+        done = g.done ++ turn ∷ [];
+        uses = reads_on _ _ _ _ _ _ _ _ g.uses a.takes.uses;
+        sends = subst (λ (x : List ℕ). Appends old.written new.written x) (text_more g.done turn) (appends_on _ _ _ (text g.done) turn.text g.sends a.says.sends);
+        runs = more_runs n s t old mid g a.takes.used a.event a.takes.whole a.says.does;
+        holds = more_holds n s t old mid g a.takes.used a.event a.takes.whole a.says.does;
+        all = more_all n s t old mid g a.takes.used a.event a.takes.whole a.says.does;
+        marked = more_marked n s t old mid g a.takes.used a.event a.takes.whole a.says.does;
+        each = λ rest. rw (append_assoc g.used a.takes.used rest)
+            (count (length g.marks) _ _ _ _ (g.each (a.takes.used ++ rest)) (events_on p.grammar n a.takes.used rest a.event (a.takes.whole rest)) (length_push g.marks a.says.does.mark));
+        ending = λ rest. rw (append_assoc g.used a.takes.used rest)
+            (g.ending (a.takes.used ++ rest) ∙ ap (λ (x : Script Event). x.ending) (script_next p.grammar n (a.takes.used ++ rest) (Whole a.event rest) (a.takes.whole rest)));
+        behind = more_behind n s t old mid g a.takes.used a.event a.takes.whole a.says.does;
+      }
+    where
+      count : (m all rest more now : ℕ) → all ≡ m + more → more ≡ suc rest → now ≡ m + 1 → all ≡ now + rest
+      count m all rest more now a b c = omega arith
+
+  -- nothing more was done
+  module _ (n : ℕ) (s t : Standing Held) (old mid new : Place) (used : List ℕ) (e : old.ahead ≡ []) (g : Going p most start n s old mid)
+      (u : Uses mid used new) (a : Appends mid.written new.written []) (r : t ≡ s) where
+    none_order : turns p start.held (script p.grammar most ((g.used ++ used) ++ new.ahead)).events (g.marks ++ []) ≡ g.done
+    none_order = rw (append_assoc g.used used new.ahead)
+        (g.all (used ++ new.ahead) [] ∙ ap (λ x. g.done ++ x) (no_turns p s.held (script p.grammar n (used ++ new.ahead)).events) ∙ append-nil g.done)
+
+    none_served : (stop : Stop) → EndsIn stop (script p.grammar most ((g.used ++ used) ++ new.ahead)).ending new.left
+        → TellsBy p stop (script p.grammar most ((g.used ++ used) ++ new.ahead)).events (g.marks ++ []) (turns p start.held (script p.grammar most ((g.used ++ used) ++ new.ahead)).events (g.marks ++ [])) ((g.used ++ used) ++ new.ahead) (text g.done ++ [])
+        → Served p most stop (around old start) (around new t)
+    none_served stop ends tells = record {
+      taken = (g.used ++ used) ++ new.ahead;
+      marks = g.marks ++ [];
+      out = text g.done ++ [];
+      source = taken_is old new (g.used ++ used) (reads_on _ _ _ _ _ _ _ _ g.uses u) e;
+      sink = appends_on _ _ _ (text g.done) [] g.sends a;
+      ending = ends;
+      marked = rw (append_assoc g.used used new.ahead) (g.marked (used ++ new.ahead) [] (no_marks p s.held (script p.grammar n (used ++ new.ahead)).events));
+      did = record {
+        ran = ap (λ (x : Standing Held). x.ran) r ∙ g.runs ∙ ap (λ x. start.ran ++ ran_in x) (sym none_order);
+        held = ap (λ (x : Standing Held). x.held) r ∙ g.holds ∙ ap (held_after start.held) (sym none_order);
+      };
+      tells = tells;
+    }
+
+    none_written : text g.done ++ [] ≡ text (turns p start.held (script p.grammar most ((g.used ++ used) ++ new.ahead)).events (g.marks ++ []))
+    none_written = append-nil (text g.done) ∙ ap text (sym none_order)
+
+    -- the rest of the script has no request
+    closes : (stop : Stop) (ending : Ending) → script p.grammar n (used ++ new.ahead) ≡ record { events = []; ending = ending }
+        → EndsIn stop ending new.left
+        → ((events : List Event) (marks : List Mark) (done : List (Turn Held Reply)) (taken out : List ℕ) → Tells events marks done out → TellsBy p stop events marks done taken out)
+        → Served p most stop (around old start) (around new t)
+    closes stop ending is ends tells = none_served stop
+        (rw (append_assoc g.used used new.ahead, g.ending (used ++ new.ahead), is) ends)
+        (tells _ _ _ _ _ (record {
+          each = rw (append_assoc g.used used new.ahead) (counted g.marks _ _ (g.each (used ++ new.ahead)) (ap (λ (x : Script Event). length x.events) is));
+          written = none_written;
+        }))
+
+    -- want of memory: what was answered stays whole
+    forgets : Served p most Memory (around old start) (around new t)
+    forgets = none_served Memory tt (inl none_written)
+
+  breaks_off : (n : ℕ) (s t : Standing Held) (old mid new : Place) → old.ahead ≡ [] → Going p most start (suc n) s old mid → Breaks (next p.grammar) p mid s new t
+      → Served p most SinkFailed (around old start) (around new t)
+  breaks_off n s t old mid new e g b = record {
+    taken = (g.used ++ b.takes.used) ++ new.ahead;
+    marks = g.marks ++ b.says.does.mark ∷ [];
+    out = text g.done ++ b.says.front;
+    source = taken_is old new (g.used ++ b.takes.used) (reads_on _ _ _ _ _ _ _ _ g.uses b.takes.uses) e;
+    sink = appends_on _ _ _ (text g.done) b.says.front g.sends b.says.sends;
+    ending = tt;
+    marked = last_marked n s t old mid g b.takes.used b.event b.takes.whole b.says.does new.ahead;
+    did = last_did n s t old mid g b.takes.used b.event b.takes.whole b.says.does new.ahead old new;
+    tells = record {
+      whole = g.done;
+      broken = p.turn_of s.held b.event b.says.does.mark;
+      front = b.says.front;
+      back = b.says.back;
+      order = last_order n s t old mid g b.takes.used b.event b.takes.whole b.says.does new.ahead;
+      parts = b.says.parts;
+      written = refl;
+      near = last_near n s t old mid g b.takes.used b.event b.takes.whole b.says.does new.ahead b.near;
+    };
+  }
+
+  module _ (n : ℕ) (s t : Standing Held) (old mid new : Place) (e : old.ahead ≡ []) (g : Going p most start (suc n) s old mid) where
+    left_served : (stop : Stop) (b : Leaves stop (next p.grammar) p mid s new t) → EndsIn stop (script p.grammar most ((g.used ++ b.takes.used) ++ new.ahead)).ending new.left
+        → (LeavesOff p stop (g.marks ++ b.says.does.mark ∷ []) (turns p start.held (script p.grammar most ((g.used ++ b.takes.used) ++ new.ahead)).events (g.marks ++ b.says.does.mark ∷ [])) (text g.done ++ [])
+        → TellsBy p stop (script p.grammar most ((g.used ++ b.takes.used) ++ new.ahead)).events (g.marks ++ b.says.does.mark ∷ []) (turns p start.held (script p.grammar most ((g.used ++ b.takes.used) ++ new.ahead)).events (g.marks ++ b.says.does.mark ∷ [])) ((g.used ++ b.takes.used) ++ new.ahead) (text g.done ++ []))
+        → Served p most stop (around old start) (around new t)
+    left_served stop b ends tells = record {
+      taken = (g.used ++ b.takes.used) ++ new.ahead;
+      marks = g.marks ++ b.says.does.mark ∷ [];
+      out = text g.done ++ [];
+      source = taken_is old new (g.used ++ b.takes.used) (reads_on _ _ _ _ _ _ _ _ g.uses b.takes.uses) e;
+      sink = appends_on _ _ _ (text g.done) [] g.sends b.says.sends;
+      ending = ends;
+      marked = last_marked n s t old mid g b.takes.used b.event b.takes.whole b.says.does new.ahead;
+      did = last_did n s t old mid g b.takes.used b.event b.takes.whole b.says.does new.ahead old new;
+      tells = tells (record {
+        said = g.marks;
+        mark = b.says.does.mark;
+        marks_order = refl;
+        left = b.says.left;
+        whole = g.done;
+        unsaid = p.turn_of s.held b.event b.says.does.mark;
+        order = last_order n s t old mid g b.takes.used b.event b.takes.whole b.says.does new.ahead;
+        written = append-nil (text g.done);
+      });
+    }
+
+    pub turn_ends : (stop : Stop) → TurnEnds (next p.grammar) p stop mid s new t → Served p most stop (around old start) (around new t)
+    turn_ends Ended (f, r) = closes (suc n) s t old mid new f.used e g f.uses f.sends r Ended End (script_next p.grammar n (f.used ++ new.ahead) Closing (f.means new.ahead)) refl (λ events marks done taken out w. w)
+    turn_ends Wrong (f, r) = closes (suc n) s t old mid new f.used e g f.uses f.sends r Wrong Bad (script_next p.grammar n (f.used ++ new.ahead) NoRequest (f.means new.ahead)) refl (λ events marks done taken out w. w)
+    turn_ends CutOff (f, z, r) =
+        closes (suc n) s t old mid new f.used e g f.uses f.sends r CutOff Cut (script_next p.grammar n (f.used ++ new.ahead) Short (ap (next p.grammar) (drained f.used new.ahead f.none) ∙ f.means)) (refl, z) (λ events marks done taken out w. w)
+    turn_ends SourceFailed (f, r) =
+        closes (suc n) s t old mid new f.used e g f.uses f.sends r SourceFailed Cut (script_next p.grammar n (f.used ++ new.ahead) Short (ap (next p.grammar) (drained f.used new.ahead f.none) ∙ f.means)) refl (λ events marks done taken out w. w)
+    turn_ends SinkFailed b = breaks_off n s t old mid new e g b
+    turn_ends Memory (inl (f, r)) = forgets (suc n) s t old mid new f.used e g f.uses f.sends r
+    turn_ends Memory (inr b) = left_served Memory b tt (λ x. inr x)
+    turn_ends OutsideFailed b = left_served OutsideFailed b tt (λ x. x)
+    turn_ends Over_stop x = absurd x
+
+  module _ (s : Standing Held) (old mid new : Place) (e : old.ahead ≡ []) (g : Going p most start zero s old mid) where
+    pub last_ends : (stop : Stop) → LastEnds p.grammar stop mid new → Served p most stop (around old start) (around new s)
+    last_ends Ended f = closes zero s s old mid new f.used e g f.uses f.sends refl Ended End (script_last p.grammar (f.used ++ new.ahead) End (f.means new.ahead)) refl (λ events marks done taken out w. w)
+    last_ends Wrong f = closes zero s s old mid new f.used e g f.uses f.sends refl Wrong Bad (script_last p.grammar (f.used ++ new.ahead) Bad (f.means new.ahead)) refl (λ events marks done taken out w. w)
+    last_ends CutOff (f, z) =
+        closes zero s s old mid new f.used e g f.uses f.sends refl CutOff Cut (script_last p.grammar (f.used ++ new.ahead) Cut (ap (last p.grammar) (drained f.used new.ahead f.none) ∙ f.means)) (refl, z) (λ events marks done taken out w. w)
+    last_ends SourceFailed f =
+        closes zero s s old mid new f.used e g f.uses f.sends refl SourceFailed Cut (script_last p.grammar (f.used ++ new.ahead) Cut (ap (last p.grammar) (drained f.used new.ahead f.none) ∙ f.means)) refl (λ events marks done taken out w. w)
+    last_ends SinkFailed f = absurd f
+    last_ends Memory f = forgets zero s s old mid new f.used e g f.uses f.sends refl
+    last_ends OutsideFailed f = absurd f
+    last_ends Over_stop f = closes zero s s old mid new f.used e g f.uses f.sends refl Over_stop Over (script_last p.grammar (f.used ++ new.ahead) Over (f.means new.ahead)) refl (λ events marks done taken out w. w)
+
+  -- nothing was begun
+  pub no_lines : (left written : Option (List ℕ)) → Served p most Memory (surroundings left written start.held start.ran) (surroundings left written start.held start.ran)
+  no_lines left written =
+      forgets most start start (place [] left written) (place [] left written) (place [] left written) [] refl (going_start (place [] left written)) (reads_none _ _) (appends_none _) refl
+
+  pub going_on_at : (n counter : ℕ) (s t : Standing Held) (old mid new : Place) → n + counter ≡ most → counter < most
+      → Going p most start n s old mid → Answers (next p.grammar) p mid s new t → (k : ℕ) × (k + (counter + 1) ≡ most) × Going p most start k t old new
+  going_on_at zero counter s t old mid new e lt g a = absurd (omega arith)
+  going_on_at (suc k) counter s t old mid new e lt g a = (k, omega arith, going_on k s t old mid new g a)
+
+  pub turn_ends_at : (n counter : ℕ) (s t : Standing Held) (old mid new : Place) (stop : Stop) → n + counter ≡ most → counter < most
+      → old.ahead ≡ [] → Going p most start n s old mid → TurnEnds (next p.grammar) p stop mid s new t → Served p most stop (around old start) (around new t)
+  turn_ends_at zero counter s t old mid new stop is lt e g x = absurd (omega arith)
+  turn_ends_at (suc k) counter s t old mid new stop is lt e g x = turn_ends k s t old mid new e g stop x
+
+  pub last_ends_at : (n counter : ℕ) (s : Standing Held) (old mid new : Place) (stop : Stop) → n + counter ≡ most → most ≤ counter
+      → old.ahead ≡ [] → Going p most start n s old mid → LastEnds p.grammar stop mid new → Served p most stop (around old start) (around new s)
+  last_ends_at zero counter s old mid new stop is le e g t = last_ends s old mid new e g stop t
+  last_ends_at (suc k) counter s old mid new stop is le e g t = absurd (omega arith)

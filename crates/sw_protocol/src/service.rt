@@ -1,0 +1,85 @@
+// The loop.
+ghost use Rattle.std.specs.Prelude.{◌≡◌, ◌≤◌, [], ℕ, List, Option, OnOk, IfErr};
+ghost use Rattle.sw_io.specs.Causes.{Rose};
+ghost use Rattle.sw_protocol.specs.Script.{next};
+ghost use Rattle.sw_protocol.specs.Turns.{place, standing, Answers, TurnEnds, LastEnds, Cause};
+ghost use Rattle.sw_protocol.specs.Served.{surroundings, Served};
+
+use crate::{Lines, Protocol, Stop};
+use sw_io::{Sink, Source};
+
+/// A protocol, and the lines that it answers.
+#[derive(Drop)]
+pub struct Service<P> {
+    pub lines: Lines,
+    pub protocol: P,
+}
+
+impl<P> Service<P> {
+    /// Answers at most so many requests of the source, until the line `end` or until the answers end otherwise, and tells how.
+    pub fn answer_all<S: Source, K: Sink, E, O>(
+        &mut self,
+        most: u32,
+        source: &mut S,
+        sink: &mut K,
+        engine: &mut E,
+        outside: &mut O,
+    ) -> Stop
+    where
+        P: Protocol<E, O>,
+        requires { self.old.lines.reader ≡ [] }
+        ensures served { Served P.rules most result
+            (surroundings (S.left source.old) (K.written sink.old) (P.held self.old.protocol outside.old) (P.ran engine.old))
+            (surroundings (S.left source.new) (K.written sink.new) (P.held self.new.protocol outside.new) (P.ran engine.new)) }
+        ensures source_fault { result ≡ Stop.SourceFailed → Rose (S.faults source.old) (S.faults source.new) }
+        ensures sink_fault { result ≡ Stop.SinkFailed → Rose (K.faults sink.old) (K.faults sink.new) }
+        ensures outside_fault { result ≡ Stop.OutsideFailed → Rose (P.faults outside.old) (P.faults outside.new) }
+    {
+        'requests: for _ in 0..most {
+            if let Err(stop) = self.turn(source, sink, engine, outside) {
+                return stop;
+            }
+        }
+        self.last::<S, E, O>(source)
+    }
+
+    /// Reads a line, and answers its request.
+    fn turn<S: Source, K: Sink, E, O>(
+        &mut self,
+        source: &mut S,
+        sink: &mut K,
+        engine: &mut E,
+        outside: &mut O,
+    ) -> Result<(), Stop>
+    where
+        P: Protocol<E, O>,
+        ensures ok { OnOk result (Answers (next P.rules.grammar) P.rules
+            (place self.old.lines.reader (S.left source.old) (K.written sink.old)) (standing (P.held self.old.protocol outside.old) (P.ran engine.old))
+            (place self.new.lines.reader (S.left source.new) (K.written sink.new)) (standing (P.held self.new.protocol outside.new) (P.ran engine.new))) }
+        ensures err { IfErr result (λ stop. TurnEnds (next P.rules.grammar) P.rules stop
+            (place self.old.lines.reader (S.left source.old) (K.written sink.old)) (standing (P.held self.old.protocol outside.old) (P.ran engine.old))
+            (place self.new.lines.reader (S.left source.new) (K.written sink.new)) (standing (P.held self.new.protocol outside.new) (P.ran engine.new))) }
+        ensures source_cause { Cause Stop.SourceFailed (S.faults source.old) (S.faults source.new) result }
+        ensures sink_cause { Cause Stop.SinkFailed (K.faults sink.old) (K.faults sink.new) result }
+        ensures outside_cause { Cause Stop.OutsideFailed (P.faults outside.old) (P.faults outside.new) result }
+    {
+        self.lines.reader.line(source, &mut self.lines.line)?;
+        self.protocol
+            .turn(&mut self.lines, source, sink, engine, outside)
+    }
+
+    /// Reads a line where no more requests are answered.
+    fn last<S: Source, E, O>(&mut self, source: &mut S) -> Stop
+    where
+        P: Protocol<E, O>,
+        ensures ends { (written : Option (List ℕ)) → LastEnds P.rules.grammar result (place self.old.lines.reader (S.left source.old) written) (place self.new.lines.reader (S.left source.new) written) }
+        ensures protocol { self.new.protocol ≡ self.old.protocol }
+        ensures later { S.faults source.old ≤ S.faults source.new }
+        ensures fault { result ≡ Stop.SourceFailed → Rose (S.faults source.old) (S.faults source.new) }
+    {
+        match self.lines.reader.line(source, &mut self.lines.line) {
+            Err(stop) => Stop::from(stop),
+            Ok(()) => self.protocol.last(&self.lines),
+        }
+    }
+}
