@@ -58,7 +58,8 @@ empties depth [] = []
 empties depth (w ∷ ws) = indent depth ++ head w.name w.prelude ++ codes " {}\n" ++ empties (suc depth) ws
 
 abbrev pub rule_text : ℕ → List ℕ → List Line → List ℕ
-rule_text depth selector lines = indent depth ++ selector ++ codes " {\n" ++ lines_text (depth + 1) lines ++ indent depth ++ codes "}\n"
+rule_text depth selector lines =
+    indent depth ++ selector ++ codes " {\n" ++ lines_text (depth + 1) lines ++ indent depth ++ codes "}\n"
 
 abbrev pub body : Block → List ℕ
 body block =
@@ -70,7 +71,8 @@ body block =
     ]
     else empties (depth - 1) (drop (depth - 1) block.wrappers)
 
--- where the first at-rules are open, those that the block stands outside of end, those around it begin, and it is written
+-- where the first at-rules are open, those that the block stands outside of end, those around it begin, and it is
+-- written
 abbrev pub block_text : List Wrapper → Block → List ℕ
 block_text before block =
     let both : ℕ = shared before (around block) in
@@ -85,17 +87,21 @@ blocks_text before (block ∷ blocks) = block_text before block ++ blocks_text (
 -- the next block stands in the at-rule that this one is the own block of
 abbrev pub is_entered : Block → List Block → Bool
 is_entered block [] = false
-is_entered block (next ∷ blocks) = (block.statement == next.statement) && nat_le (length block.wrappers) (shared block.wrappers next.wrappers)
+is_entered block (next ∷ blocks) =
+    (block.statement == next.statement) && nat_le (length block.wrappers) (shared block.wrappers next.wrappers)
 
 -- the blocks without the own ones of at-rules that hold something
 abbrev pub filled : List Block → List Block
 filled [] = []
-filled (block ∷ blocks) = if not (nat_lt 0 (length block.lines)) && is_entered block blocks then filled blocks else block ∷ filled blocks
+filled (block ∷ blocks) =
+    if not (nat_lt 0 (length block.lines)) && is_entered block blocks then filled blocks else block ∷ filled blocks
 
 abbrev pub grouped_with : Block → List (List Block) → List (List Block)
 grouped_with block [] = (block ∷ []) ∷ []
 grouped_with block ([] ∷ groups) = (block ∷ []) ∷ groups
-grouped_with block ((next ∷ group) ∷ groups) = if block.statement == next.statement then (block ∷ next ∷ group) ∷ groups else (block ∷ []) ∷ (next ∷ group) ∷ groups
+grouped_with block ((next ∷ group) ∷ groups) =
+    if block.statement == next.statement then (block ∷ next ∷ group) ∷ groups
+    else (block ∷ []) ∷ (next ∷ group) ∷ groups
 
 -- what one top-level statement gave is a group
 abbrev pub grouped : List Block → List (List Block)
@@ -119,7 +125,9 @@ is_one_comment lines = false
 
 -- one comment at the top level and nothing else
 abbrev pub is_comment : List Block → Bool
-is_comment (block ∷ []) = nat_le (length block.wrappers) 0 && (is_one_comment block.lines && elim block.selector as (λ s. Bool) [ None ↦ true | Some text ↦ false ])
+is_comment (block ∷ []) =
+    nat_le (length block.wrappers) 0
+    && (is_one_comment block.lines && elim block.selector as (λ s. Bool) [ None ↦ true | Some text ↦ false ])
 is_comment blocks = false
 
 -- a group as it is written, and whether it is a comment and nothing else

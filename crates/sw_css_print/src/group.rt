@@ -12,7 +12,8 @@ use sw_text::Memory;
 
 /// Puts the groups of these blocks, with blank lines between them, and tells whether the last one is a comment.
 pub fn put_groups(out: &mut Vec<u8>, blocks: &[&Block]) -> Result<bool, Memory>
-    ensures bytes { OnOk result (out.new.items ≡ out.old.items ++ page (map group_of (grouped (map (λ b. b.now) blocks.now)))) }
+    ensures bytes { OnOk result (out.new.items
+        ≡ out.old.items ++ page (map group_of (grouped (map (λ b. b.now) blocks.now)))) }
     ensures shuts { IfOk result (λ shuts. shuts ≡ shuts_of (map group_of (grouped (map (λ b. b.now) blocks.now)))) }
 {
     let mut last = None;
@@ -29,7 +30,9 @@ pub fn put_groups(out: &mut Vec<u8>, blocks: &[&Block]) -> Result<bool, Memory>
 
 // Puts one group behind others, and tells whether it is a comment.
 fn put_group(out: &mut Vec<u8>, last: Option<bool>, group: &[&Block]) -> Result<bool, Memory>
-    ensures bytes { OnOk result (out.new.items ≡ out.old.items ++ (gap last (is_comment (map (λ b. b.now) group.now)) ++ blocks_text [] (map (λ b. b.now) group.now))) }
+    ensures bytes { OnOk result (out.new.items
+        ≡ out.old.items ++ (gap last (is_comment (map (λ b. b.now) group.now))
+        ++ blocks_text [] (map (λ b. b.now) group.now))) }
     ensures comment { IfOk result (λ comment. comment ≡ is_comment (map (λ b. b.now) group.now)) }
 {
     let comment = is_comment(group);

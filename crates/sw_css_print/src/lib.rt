@@ -1,4 +1,5 @@
-//! The CSS bytes of a compile. The output of each module is printed once, as a part; the parts of a compile are joined to its page.
+//! The CSS bytes of a compile. The output of each module is printed once, as a part; the parts of a compile are joined
+//! to its page.
 #![tactic(auto)]
 
 mod block;

@@ -34,7 +34,8 @@ fn parts(alloc: Global, trees: &[Shared<CssTree>]) -> Result<Vec<Shared<Printed>
 /// The bytes of the outputs of which these are the parts. Each part is copied once.
 pub fn join(alloc: Global, parts: &[Shared<Printed>]) -> Result<Vec<u8>, Memory>
     ensures bytes { IfOk result (λ bytes. bytes.items ≡ join parts.now) }
-    ensures page { IfOk result (λ bytes. (trees : List Output) → parts.now ≡ map print_one trees → bytes.items ≡ print trees) }
+    ensures page { IfOk result (λ bytes. (trees : List Output) → parts.now ≡ map print_one trees
+        → bytes.items ≡ print trees) }
 {
     let mut out = Vec::new(alloc);
     out.reserve(size(parts))?;

@@ -62,7 +62,8 @@ is_written block = elim block.selector as (λ s. Bool) [
 -- the place past the last block that is written
 abbrev pub written_end : List Block → ℕ
 written_end [] = 0
-written_end (block ∷ blocks) = if nat_lt 0 (written_end blocks) then suc (written_end blocks) else (if is_written block then 1 else 0)
+written_end (block ∷ blocks) =
+    if nat_lt 0 (written_end blocks) then suc (written_end blocks) else (if is_written block then 1 else 0)
 
 -- the block at this place has the line after its others
 abbrev pub line_added : List Block → ℕ → Line → List Block
@@ -82,10 +83,14 @@ same_number (Some m) (Some n) = m == n
 
 -- the block is one for lines outside every rule, of this statement and in these at-rules
 abbrev pub takes_lines : ℕ → List Wrapper → Block → Bool
-takes_lines statement wrappers block = (block.statement == statement) && (same_number (innermost block.wrappers) (innermost wrappers) && elim block.selector as (λ s. Bool) [ None ↦ true | Some text ↦ false ])
+takes_lines statement wrappers block =
+    (block.statement == statement)
+    && (same_number (innermost block.wrappers) (innermost wrappers)
+    && elim block.selector as (λ s. Bool) [ None ↦ true | Some text ↦ false ])
 
 abbrev pub last_takes_lines : ℕ → List Wrapper → List Block → Bool
-last_takes_lines statement wrappers blocks = elim (last blocks) as (λ b. Bool) [ None ↦ false | Some block ↦ takes_lines statement wrappers block ]
+last_takes_lines statement wrappers blocks =
+    elim (last blocks) as (λ b. Bool) [ None ↦ false | Some block ↦ takes_lines statement wrappers block ]
 
 -- Lines
 
@@ -99,7 +104,8 @@ line_size (Import text) = length text
 -- Outside every rule: into the last block where that one takes it, else into a new one.
 abbrev pub target : Output → Target
 target out = elim (here out).rule as (λ r. Target) [
-  | None ↦ if last_takes_lines out.statement (here out).wrappers out.blocks then Old (length out.blocks - 1) else New None
+  | None ↦ if last_takes_lines out.statement (here out).wrappers out.blocks then Old (length out.blocks - 1)
+      else New None
   | Some rule ↦ if nat_lt rule.latest (written_end out.blocks - 1) then New (Some rule.selector) else Old rule.latest
 ]
 
@@ -110,7 +116,13 @@ target_size (New selector) = elim selector as (λ s. ℕ) [ None ↦ 0 | Some te
 
 -- a new block is the last one
 abbrev pub block_put : Output → Option (List ℕ) → List Line → List Block
-block_put out selector lines = out.blocks ++ record { statement = out.statement; wrappers = (here out).wrappers; selector = selector; lines = lines } ∷ []
+block_put out selector lines =
+    out.blocks ++ record {
+      statement = out.statement;
+      wrappers = (here out).wrappers;
+      selector = selector;
+      lines = lines;
+    } ∷ []
 
 -- the rule has its latest block at this place
 abbrev pub rule_moved : ℕ → Option Rule → Option Rule
@@ -122,11 +134,17 @@ moved at frame = record frame { rule = rule_moved at frame.rule }
 
 -- so has the rule of the innermost frame
 abbrev pub moved_last : ℕ → List Frame → List Frame
-moved_last at frames = elim (last frames) as (λ f. List Frame) [ None ↦ frames | Some frame ↦ slice_set frames (length frames - 1) (moved at frame) ]
+moved_last at frames =
+    elim (last frames) as (λ f. List Frame)
+    [ None ↦ frames | Some frame ↦ slice_set frames (length frames - 1) (moved at frame) ]
 
 abbrev pub placed : Output → Target → Line → Output
 placed out (Old at) line = record out { blocks = line_added out.blocks at line }
-placed out (New selector) line = record out { blocks = block_put out selector (line ∷ []); open_frames = moved_last (length out.blocks) out.open_frames }
+placed out (New selector) line =
+    record out {
+      blocks = block_put out selector (line ∷ []);
+      open_frames = moved_last (length out.blocks) out.open_frames;
+    }
 
 abbrev pub grown : Output → ℕ → Output
 grown out size = record out { bytes = out.bytes + size }
@@ -157,7 +175,8 @@ frame_put out frame = out.open_frames ++ frame ∷ []
 abbrev pub rule_opened : Output → List ℕ → Output
 rule_opened out selector = record out {
   blocks = block_put out (Some selector) [];
-  open_frames = frame_put out (record (here out) { rule = Some (record { selector = selector; latest = length out.blocks }) });
+  open_frames =
+      frame_put out (record (here out) { rule = Some (record { selector = selector; latest = length out.blocks }) });
   bytes = out.bytes + length selector;
 }
 
@@ -167,7 +186,9 @@ left_rules out = record out { open_frames = frame_put out (record (here out) { r
 
 -- `keyframes`, and those with the prefix of a maker
 abbrev pub is_keyframes : List ℕ → Bool
-is_keyframes name = bytes_eq name (codes "keyframes") || (starts_with nat_eq name (codes "-") && ends_with nat_eq name (codes "-keyframes"))
+is_keyframes name =
+    bytes_eq name (codes "keyframes")
+    || (starts_with nat_eq name (codes "-") && ends_with nat_eq name (codes "-keyframes"))
 
 -- no selector is opened in it
 abbrev pub is_bare : List ℕ → Bool
@@ -179,21 +200,26 @@ stays name = not (bytes_eq name (codes "media") || bytes_eq name (codes "support
 
 -- the rule that is opened once more inside
 abbrev pub reopened : List ℕ → Option Rule → Option (List ℕ)
-reopened name rule = elim rule as (λ r. Option (List ℕ)) [ None ↦ None | Some r ↦ if is_bare name then None else Some r.selector ]
+reopened name rule =
+    elim rule as (λ r. Option (List ℕ)) [ None ↦ None | Some r ↦ if is_bare name then None else Some r.selector ]
 
 abbrev pub empty_block : ℕ → List Wrapper → Option (List ℕ) → Block
-empty_block statement wrappers selector = record { statement = statement; wrappers = wrappers; selector = selector; lines = [] }
+empty_block statement wrappers selector =
+    record { statement = statement; wrappers = wrappers; selector = selector; lines = [] }
 
 -- what an at-rule begins with: its own block, where it is written even when it is empty, and one of the rule around it
 abbrev pub first_blocks : ℕ → List Wrapper → Bool → Option (List ℕ) → List Block
 first_blocks statement wrappers own rule =
-    (if own then empty_block statement wrappers None ∷ [] else []) ++ elim rule as (λ r. List Block) [ None ↦ [] | Some text ↦ empty_block statement wrappers (Some text) ∷ [] ]
+    (if own then empty_block statement wrappers None ∷ [] else [])
+    ++ elim rule as (λ r. List Block) [ None ↦ [] | Some text ↦ empty_block statement wrappers (Some text) ∷ [] ]
 
 -- the rule of its frame
 abbrev pub inner_rule : ℕ → Option (List ℕ) → Option Rule
-inner_rule at rule = elim rule as (λ r. Option Rule) [ None ↦ None | Some text ↦ Some (record { selector = text; latest = at }) ]
+inner_rule at rule =
+    elim rule as (λ r. Option Rule) [ None ↦ None | Some text ↦ Some (record { selector = text; latest = at }) ]
 
--- an at-rule with a block is opened as the innermost of these; it moves out of the rule around it, which is opened once more inside
+-- an at-rule with a block is opened as the innermost of these; it moves out of the rule around it, which is opened once
+-- more inside
 abbrev pub at_put : Output → List Wrapper → Option ℕ → List ℕ → List ℕ → Output
 at_put out around media name prelude =
     let wrappers : List Wrapper = around ++ record { number = out.opened; name = name; prelude = prelude } ∷ [] in
@@ -201,7 +227,8 @@ at_put out around media name prelude =
     let blocks : List Block = out.blocks ++ first_blocks out.statement wrappers (stays name) rule in
     record out {
       blocks = blocks;
-      open_frames = frame_put out (record { wrappers = wrappers; rule = inner_rule (length blocks - 1) rule; media = media });
+      open_frames =
+          frame_put out (record { wrappers = wrappers; rule = inner_rule (length blocks - 1) rule; media = media });
       opened = suc out.opened;
       bytes = out.bytes + (length name + length prelude);
     }
@@ -224,7 +251,8 @@ closed out = record out { open_frames = take (length out.open_frames - 1) out.op
 -- the latest blocks of the open rules are among the first so many
 abbrev pub AreBelow : ℕ → List Frame → Type 0
 AreBelow end [] = Unit {0}
-AreBelow end (frame ∷ frames) = (elim frame.rule as (λ r. Type 0) [ None ↦ Unit {0} | Some rule ↦ rule.latest < end ]) × AreBelow end frames
+AreBelow end (frame ∷ frames) =
+    (elim frame.rule as (λ r. Type 0) [ None ↦ Unit {0} | Some rule ↦ rule.latest < end ]) × AreBelow end frames
 
 -- a block there takes a line: it is within, and none after it is written
 abbrev pub IsTarget : Output → Target → Type 0

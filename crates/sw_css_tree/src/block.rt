@@ -39,7 +39,8 @@ pub struct Block {
 }
 
 impl Block {
-    /// Whether something of it is written: it has lines and its selector isn't the empty text, or it is the own block of an at-rule.
+    /// Whether something of it is written: it has lines and its selector isn't the empty text, or it is the own block
+    /// of an at-rule.
     pub fn is_written(&self) -> bool
         ensures { result ≡ is_written self.now }
     {

@@ -20,7 +20,8 @@ IsReturn (Err (Fault fault)) s t = t ≡ Fails fault
 IsReturn (Err Memory) s t = Unit {0}
 
 -- the call went on with the talk t, and returned r
-pub record Did {W A : Type 0} (gives : W → Op → Answer → W → Type 0) (t : Talk (A × State)) (a : Stand) (w : W) (r : Result A Stop) (s : State) (b : Stand) (x : W) : Type 0 where
+pub record Did {W A : Type 0} (gives : W → Op → Answer → W → Type 0) (t : Talk (A × State)) (a : Stand) (w : W)
+    (r : Result A Stop) (s : State) (b : Stand) (x : W) : Type 0 where
   pub last : Talk (A × State)
   pub ran : Ran gives t a w last b x
   pub is_return : IsReturn r s last

@@ -10,7 +10,8 @@ use Rattle.sw_world.specs.declared.end.Finish.{Finish}
 use Rattle.sw_world.specs.Body.{Asks, Ends}
 use Rattle.sw_eval.specs.Talk.{Talk, Gives, Fails, Asking, answered, too_many, run}
 
-pub run_ends : (left : ℕ) (t : Talk Finish) (given : List Answer) → left ≤ length given → (end : End) × (run left t given ≡ Ends end)
+pub run_ends : (left : ℕ) (t : Talk Finish) (given : List Answer) → left ≤ length given
+    → (end : End) × (run left t given ≡ Ends end)
 unfolding run
 run_ends left (Gives finish) given le = (Done_end finish, refl)
 run_ends left (Fails fault) given le = (Fault_end fault, refl)
@@ -18,7 +19,8 @@ run_ends zero (Asking op at k) given le = (Fault_end (too_many at), refl)
 run_ends (suc left) (Asking op at k) [] le = absurd (omega arith)
 run_ends (suc left) (Asking op at k) (a ∷ given) le = run_ends left (answered k a) given (omega arith)
 
-pub run_keeps : (left : ℕ) (t : Talk Finish) (given more : List Answer) (end : End) → run left t given ≡ Ends end → run left t (given ++ more) ≡ Ends end
+pub run_keeps : (left : ℕ) (t : Talk Finish) (given more : List Answer) (end : End) → run left t given ≡ Ends end
+    → run left t (given ++ more) ≡ Ends end
 unfolding run
 run_keeps left (Gives finish) given more end e = e
 run_keeps left (Fails fault) given more end e = e
@@ -26,7 +28,8 @@ run_keeps zero (Asking op at k) given more end e = e
 run_keeps (suc left) (Asking op at k) [] more end e = absurd cc
 run_keeps (suc left) (Asking op at k) (a ∷ given) more end e = run_keeps left (answered k a) given more end e
 
-pub run_refused : (left : ℕ) (t : Talk Finish) (given : List Answer) (op : Op) (fault : Fault) → run left t given ≡ Asks op → run left t (given ++ Refused fault ∷ []) ≡ Ends (Fault_end fault)
+pub run_refused : (left : ℕ) (t : Talk Finish) (given : List Answer) (op : Op) (fault : Fault)
+    → run left t given ≡ Asks op → run left t (given ++ Refused fault ∷ []) ≡ Ends (Fault_end fault)
 unfolding run
 run_refused left (Gives finish) given op fault e = absurd cc
 run_refused left (Fails other) given op fault e = absurd cc

@@ -1,4 +1,5 @@
--- What a sheet means: the talk that its evaluation is (the Sass specification on variables and modules; places of faults and limits are this project's own).
+-- What a sheet means: the talk that its evaluation is (the Sass specification on variables and modules; places of
+-- faults and limits are this project's own).
 use Rattle.std.specs.Prelude.{ℕ, zero, suc, ◌+◌, Bool, true, false, ◌||◌, ◌==◌, nat_lt, nat_le, if◌then◌else◌, List, [], ◌∷◌, length, take, Option, Some, None}
 use Rattle.sw_text.specs.declared.fault.Fault.{Fault}
 use Rattle.sw_text.specs.declared.fault.FaultCode.{FaultCode}
@@ -72,7 +73,9 @@ got at _ s = Fails (fault C.UnknownVariable at)
 -- what another module's variable holds: its owner is found, and then its value got
 unfoldable pub outside : FaultCode → List ℕ → Option (List ℕ) → List ℕ → Span → Span → Eval Plain
 outside unknown site space name at space_at s =
-    bind (asking (Find site space K.Variable name) at s) (λ a. bind (owner unknown at space_at a.0 a.1) (λ o. bind (asking (Get o.0.0 o.0.1) at o.1) (λ b. got at b.0 b.1)))
+    bind (asking (Find site space K.Variable name) at s)
+    (λ a. bind (owner unknown at space_at a.0 a.1)
+    (λ o. bind (asking (Get o.0.0 o.0.1) at o.1) (λ b. got at b.0 b.1)))
 
 abbrev pub or_outside : List ℕ → List ℕ → Span → Option Plain → Eval Plain
 or_outside site name at (Some v) s = Gives (v, s)
@@ -90,7 +93,8 @@ is_private (c ∷ cs) = (c == 45) || (c == 95)
 -- a variable behind a namespace
 unfoldable pub qualified : List ℕ → Qualified → Eval Plain
 qualified site q s =
-    if is_private q.name then Fails (fault C.Private q.span) else outside C.UnknownMember site (Some q.space) q.name q.span q.space_span s
+    if is_private q.name then Fails (fault C.Private q.span)
+    else outside C.UnknownMember site (Some q.space) q.name q.span q.space_span s
 
 -- the owner of a variable is given the value
 abbrev pub put : List ℕ × List ℕ → Plain → Span → Eval (Unit {0})
@@ -100,7 +104,8 @@ put found v at s = bind (asking (Put found.0 found.1 v) at s) (λ b. Gives (tt, 
 unfoldable pub assigned : List ℕ → Qualified → Plain → Span → Eval (Unit {0})
 assigned site q v at s =
     if is_private q.name then Fails (fault C.Private q.span)
-    else bind (asking (Find site (Some q.space) K.Variable q.name) at s) (λ a. bind (target at q a.0 a.1) (λ o. put o.0 v at o.1))
+    else bind (asking (Find site (Some q.space) K.Variable q.name) at s)
+    (λ a. bind (target at q a.0 a.1) (λ o. put o.0 v at o.1))
 
 -- ---- expressions
 
@@ -128,7 +133,8 @@ numbered number out = if is_open out then out else record out { statement = numb
 
 -- the output is this one now, where its bytes aren't too many
 abbrev pub output_is : Output → Span → Eval (Unit {0})
-output_is out at s = if nat_le out.bytes most_bytes then Gives (tt, record s { css = out }) else Fails (fault C.TooLarge at)
+output_is out at s =
+    if nat_le out.bytes most_bytes then Gives (tt, record s { css = out }) else Fails (fault C.TooLarge at)
 
 unfoldable pub opening : List ℕ → Span → Eval (Unit {0})
 opening selectors at s = output_is (rule_opened s.css selectors) at s
@@ -136,7 +142,8 @@ opening selectors at s = output_is (rule_opened s.css selectors) at s
 -- a text, at most as heavy as a value, of what can be written in CSS
 abbrev pub text_by : Shown → Span → Eval (List ℕ)
 text_by value at s =
-    if value.css then (if nat_lt (length value.text) most_weight then Gives (value.text, s) else Fails (fault C.TooLarge at))
+    if value.css then (if nat_lt (length value.text) most_weight then Gives (value.text, s)
+    else Fails (fault C.TooLarge at))
     else Fails (fault C.NotCss at)
 
 -- the value's text
@@ -156,7 +163,8 @@ declaring property text at s = if is_open s.css then lining property text at s e
 
 -- a declaration of this value, whose expression stands at the first place and whose statement at the second
 unfoldable pub written : List ℕ → Plain → Span → Span → Eval (Unit {0})
-written property v value_at at s = if is_blank v then Gives (tt, s) else bind (text_of v value_at s) (λ t. declaring property t.0 at t.1)
+written property v value_at at s =
+    if is_blank v then Gives (tt, s) else bind (text_of v value_at s) (λ t. declaring property t.0 at t.1)
 
 -- ---- statements
 
@@ -172,16 +180,21 @@ module _ (value : List ℕ → Expr → Eval Plain) (does : Level → List ℕ �
   -- rules don't nest yet
   unfoldable pub rule : Level → List ℕ → List ℕ → List Statement → Span → Eval (Unit {0})
   rule Block site selectors xs at s = Fails (fault C.BadPlace at)
-  rule Top site selectors xs at s = bind (opening selectors at s) (λ q. bind (nested site xs q.1) (λ r. Gives (tt, record r.1 { css = closed r.1.css })))
+  rule Top site selectors xs at s =
+      bind (opening selectors at s) (λ q. bind (nested site xs q.1)
+      (λ r. Gives (tt, record r.1 { css = closed r.1.css })))
 
   -- a declaration stands in a rule
   unfoldable pub declaration : List ℕ → List ℕ → Expr → Span → Eval (Unit {0})
   declaration site property e at s =
-      if is_open s.css then bind (value site e s) (λ r. written property r.0 (span_of e) at r.1) else Fails (fault C.BadPlace at)
+      if is_open s.css then bind (value site e s) (λ r. written property r.0 (span_of e) at r.1)
+      else Fails (fault C.BadPlace at)
 
   abbrev pub does_layer : Level → List ℕ → Statement-F Statement → Eval (Unit {0})
-  does_layer level site (Statement-F.Variable name e flags at) s = bind (value site e s) (λ r. Gives (tt, set_by level r.1 (name, r.0)))
-  does_layer level site (Statement-F.Assignment q e flags at) s = bind (value site e s) (λ r. assigned site q r.0 at r.1)
+  does_layer level site (Statement-F.Variable name e flags at) s =
+      bind (value site e s) (λ r. Gives (tt, set_by level r.1 (name, r.0)))
+  does_layer level site (Statement-F.Assignment q e flags at) s =
+      bind (value site e s) (λ r. assigned site q r.0 at r.1)
   does_layer level site (Statement-F.Declaration property e at) s = declaration site (plain property.parts) e at s
   does_layer level site (Statement-F.Rule selector xs at) s = rule level site (plain selector.parts) xs at s
   does_layer level site (Statement-F.Use url namespace config at) s = Fails (fault C.BadPlace at)
@@ -211,7 +224,8 @@ space_of (Default name) = name
 space_of (Written name) = name
 
 abbrev pub load_at : List ℕ → Statement-F Statement → Option Op
-load_at path (Statement-F.Use url namespace config at) = Some (Load path url.text url.span (Use (Some (space_of namespace))) [])
+load_at path (Statement-F.Use url namespace config at) =
+    Some (Load path url.text url.span (Use (Some (space_of namespace))) [])
 load_at path _ = None
 
 -- the question of a statement that loads a module
@@ -231,7 +245,8 @@ unfoldable pub entered : ℕ → Statement → State → State
 entered number x s = record s { css = numbered number s.css; late = s.late || ends_loads x }
 
 abbrev pub top_by : List ℕ → ℕ → Statement → Option Op → Eval (Unit {0})
-top_by path number x (Some op) s = if s.late then Fails (fault C.LateUse (place_of x)) else bind (asking op (place_of x) s) (λ r. Gives (tt, r.1))
+top_by path number x (Some op) s =
+    if s.late then Fails (fault C.LateUse (place_of x)) else bind (asking op (place_of x) s) (λ r. Gives (tt, r.1))
 top_by path number x None s = does_to 1000 Top path x (entered number x s)
 
 -- a statement of the top level, with its number: a load, or another one

@@ -23,12 +23,14 @@ HasRoom (At_Waiting op) len capacity = len < capacity
 HasRoom _ len capacity = Unit {0}
 
 -- what holds of the fields of a body
-pub record Keeps (job : Job) (pairs : List Pair) (at next : ℕ) (s : State) (place : Place) (len capacity : ℕ) : Type 0 where
-  pub resume : IsResume job pairs at next s
-  pub room : HasRoom place len capacity
+pub record Keeps (job : Job) (pairs : List Pair) (at next : ℕ) (s : State) (place : Place) (len capacity : ℕ) : Type 0
+  where
+    pub resume : IsResume job pairs at next s
+    pub room : HasRoom place len capacity
 
 -- what a turn of a body did
-pub record TurnDid {W : Type 0} (gives : W → Op → Answer → W → Type 0) (b : List Answer → Next) (ps : List Pair) (w : W) (qs : List Pair) (x : W) : Type 0 where
+pub record TurnDid {W : Type 0} (gives : W → Op → Answer → W → Type 0) (b : List Answer → Next) (ps : List Pair) (w : W)
+    (qs : List Pair) (x : W) : Type 0 where
   pub asked : List Pair
   pub grew : qs ≡ ps ++ asked
   pub led : Leads gives w asked x

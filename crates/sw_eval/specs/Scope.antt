@@ -1,4 +1,5 @@
--- Variables by their names. The top is a table in the order of first declaration; of the local ones the last of a name counts.
+-- Variables by their names. The top is a table in the order of first declaration; of the local ones the last of a name
+-- counts.
 use Rattle.std.specs.Prelude.{ℕ, suc, zero, Bool, if◌then◌else◌, bytes_eq, List, [], ◌∷◌, ◌++◌, Option, Some, None, option_map, slice_get, slice_set}
 use Rattle.sw_values.specs.declared.plain.Plain.{Plain}
 use Rattle.sw_eval.specs.Table.{Variable, look_top, assign_top}

@@ -26,7 +26,8 @@ pub(crate) fn ask<W: World>(
     world: &mut W,
 ) -> Result<Answer, Stop>
     requires { IsLoad op → ⊥ }
-    ensures { (s : State) → Did W.gives (asking op at.now s) (stand asked.old) world.old result s (stand asked.new) world.new }
+    ensures { (s : State)
+        → Did W.gives (asking op at.now s) (stand asked.old) world.old result s (stand asked.new) world.new }
 {
     if asked.at >= 1_000_000 || asked.at < asked.pairs.len() {
         known(asked, at, world)
@@ -38,7 +39,8 @@ pub(crate) fn ask<W: World>(
 // The answer to a question, where it is known or there are too many.
 pub(crate) fn known<W: World>(asked: &mut Asked, at: &Span, world: &mut W) -> Result<Answer, Stop>
     requires { (asked.old.at < length asked.old.pairs.items) ⊎ (1000000 ≤ asked.old.at) }
-    ensures { (op : Op) (s : State) → Did W.gives (asking op at.now s) (stand asked.old) world.old result s (stand asked.new) world.new }
+    ensures { (op : Op) (s : State)
+        → Did W.gives (asking op at.now s) (stand asked.old) world.old result s (stand asked.new) world.new }
 {
     if asked.at >= 1_000_000 {
         return fails(FaultCode::Turns, at);
@@ -58,7 +60,8 @@ fn ask_world<W: World>(
     requires plain { IsLoad op → ⊥ }
     requires at_end { asked.old.at ≡ length asked.old.pairs.items }
     requires few { asked.old.at < 1000000 }
-    ensures { (at : Span) (s : State) → Did W.gives (asking op at s) (stand asked.old) world.old result s (stand asked.new) world.new }
+    ensures { (at : Span) (s : State)
+        → Did W.gives (asking op at s) (stand asked.old) world.old result s (stand asked.new) world.new }
 {
     let answer = answer_of(alloc, &mut asked.pairs, &op, world)?;
     let result = taken(&answer);

@@ -42,9 +42,15 @@ impl Model for Evaluation {
 
     ghost coded = { Prim.hlevel (codes, s.the_row.coded, p.the_row.coded) };
 
-    ghost view = { λ b. record { job = record { sheet = b.sheet; config = b.config; path = b.path }; pairs = b.asked.pairs.items; started = b.started; place = b.place } };
+    ghost view = { λ b. record {
+      job = record { sheet = b.sheet; config = b.config; path = b.path };
+      pairs = b.asked.pairs.items;
+      started = b.started;
+      place = b.place;
+    } };
 
-    ghost invariant = { λ b. Keeps (record { sheet = b.sheet; config = b.config; path = b.path }) b.asked.pairs.items b.asked.at b.next b.state b.place (vec_len b.asked.pairs) (vec_capacity b.asked.pairs) };
+    ghost invariant = { λ b. Keeps (record { sheet = b.sheet; config = b.config; path = b.path }) b.asked.pairs.items b.asked.at
+        b.next b.state b.place (vec_len b.asked.pairs) (vec_capacity b.asked.pairs) };
 }
 
 // A turn, with what it adds to what ran. Room for the path is taken first.
@@ -93,7 +99,8 @@ fn go_on<W: World>(
 // Hands a waiting body its answer.
 fn give_to(b: &mut Evaluation, answer: Answer)
     requires { (op : Op) × (status_of b.old.place ≡ Waiting op) }
-    ensures { (op : Op) × (status_of b.old.place ≡ Waiting op) × (b.new ≡ record b.old { pairs = b.old.pairs ++ (op, answer) ∷ []; started = true; place = At_Running }) }
+    ensures { (op : Op) × (status_of b.old.place ≡ Waiting op)
+        × (b.new ≡ record b.old { pairs = b.old.pairs ++ (op, answer) ∷ []; started = true; place = At_Running }) }
 {
     b.started = true;
     if let Place::Waiting(op) = mem::replace(&mut b.place, Place::Running) {

@@ -1,4 +1,5 @@
-//! The evaluator: a module's body goes through the statements of its sheet, asks the world what lies outside, and leaves variables and output behind. It takes trees from below and hands questions and ends up.
+//! The evaluator: a module's body goes through the statements of its sheet, asks the world what lies outside, and
+//! leaves variables and output behind. It takes trees from below and hands questions and ends up.
 #![tactic(auto)]
 
 mod ask;

@@ -87,7 +87,8 @@ fn top<W: World>(
     asked: &mut Asked,
     world: &mut W,
 ) -> Result<Option<Op>, Stop>
-    ensures did { TopDid W.gives path.now number statement.now state.old (stand asked.old) world.old result state.new (stand asked.new) world.new }
+    ensures did { TopDid W.gives path.now number statement.now state.old (stand asked.old) world.old result state.new
+        (stand asked.new) world.new }
     ensures room { IfOk result (λ o. IfSome o (λ _. vec_len asked.new.pairs < vec_capacity asked.new.pairs)) }
 {
     if !is_load(statement) {
@@ -125,7 +126,8 @@ pub(crate) fn walk_on<W: World>(
     asked: &mut Asked,
     world: &mut W,
 ) -> Result<Option<Op>, Stop>
-    ensures walked { Walked W.gives path.now all.now next.old state.old (stand asked.old) world.old result next.new state.new (stand asked.new) world.new }
+    ensures walked { Walked W.gives path.now all.now next.old state.old (stand asked.old) world.old result next.new
+        state.new (stand asked.new) world.new }
     ensures room { IfOk result (λ o. IfSome o (λ _. vec_len asked.new.pairs < vec_capacity asked.new.pairs)) }
 {
     while *next < all.len() {

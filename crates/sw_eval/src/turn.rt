@@ -30,7 +30,8 @@ fn reset(alloc: Global, next: &mut usize, state: &mut State, asked: &mut Asked)
 
 // What a body leaves behind.
 fn finish(alloc: Global, variables: Table<Value>, css: CssTree) -> Result<End, Memory>
-    ensures { IfOk result (λ end. end ≡ Done (record { variables = variables; callables = []; css = css; taken = [] })) }
+    ensures { IfOk result (λ end. end
+        ≡ Done (record { variables = variables; callables = []; css = css; taken = [] })) }
 {
     let css = Shared::new(alloc, css)?;
     let finish = Finish {
@@ -53,10 +54,14 @@ pub(crate) fn turn<W: World>(
     asked: &mut Asked,
     world: &mut W,
 ) -> Result<Turn, Memory>
-    requires { IsResume (record { sheet = sheet.now; config = config.now; path = path.now }) asked.old.pairs.items asked.old.at next.old state.old }
-    ensures did { TurnDid W.gives (body (record { sheet = sheet.now; config = config.now; path = path.now })) asked.old.pairs.items world.old asked.new.pairs.items world.new }
-    ensures resume { IsResume (record { sheet = sheet.now; config = config.now; path = path.now }) asked.new.pairs.items asked.new.at next.new state.new }
-    ensures step { IfOk result (λ t. IsStep (body (record { sheet = sheet.now; config = config.now; path = path.now })) asked.new.pairs.items t) }
+    requires { IsResume (record { sheet = sheet.now; config = config.now; path = path.now }) asked.old.pairs.items
+        asked.old.at next.old state.old }
+    ensures did { TurnDid W.gives (body (record { sheet = sheet.now; config = config.now; path = path.now }))
+        asked.old.pairs.items world.old asked.new.pairs.items world.new }
+    ensures resume { IsResume (record { sheet = sheet.now; config = config.now; path = path.now }) asked.new.pairs.items
+        asked.new.at next.new state.new }
+    ensures step { IfOk result (λ t. IsStep (body (record { sheet = sheet.now; config = config.now; path = path.now }))
+        asked.new.pairs.items t) }
     ensures room { IfOk result (λ t. HasRoomAt t (vec_len asked.new.pairs) (vec_capacity asked.new.pairs)) }
 {
     match walk_on(

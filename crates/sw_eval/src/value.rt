@@ -57,7 +57,9 @@ fn outside<W: World>(
     asked: &mut Asked,
     world: &mut W,
 ) -> Result<Value, Stop>
-    ensures { (s : State) → Did W.gives (outside unknown site.now space name.now at.now space_at.now s) (stand asked.old) world.old result s (stand asked.new) world.new }
+    ensures { (s : State)
+        → Did W.gives (outside unknown site.now space name.now at.now space_at.now s) (stand asked.old) world.old result
+        s (stand asked.new) world.new }
 {
     let site = site.share()?;
     let name = name.share()?;
@@ -87,7 +89,8 @@ fn variable<W: World>(
     asked: &mut Asked,
     world: &mut W,
 ) -> Result<Value, Stop>
-    ensures { Did W.gives (variable site.now name.now at.now state.now) (stand asked.old) world.old result state.now (stand asked.new) world.new }
+    ensures { Did W.gives (variable site.now name.now at.now state.now) (stand asked.old) world.old result state.now
+        (stand asked.new) world.new }
 {
     match own(state, name) {
         Some(value) => Ok(value.share()?),
@@ -113,7 +116,8 @@ fn qualified<W: World>(
     asked: &mut Asked,
     world: &mut W,
 ) -> Result<Value, Stop>
-    ensures { (s : State) → Did W.gives (qualified site.now q.now s) (stand asked.old) world.old result s (stand asked.new) world.new }
+    ensures { (s : State)
+        → Did W.gives (qualified site.now q.now s) (stand asked.old) world.old result s (stand asked.new) world.new }
 {
     if is_private(&q.name) {
         return fails(FaultCode::Private, &q.span);
@@ -141,7 +145,8 @@ fn put<W: World>(
     asked: &mut Asked,
     world: &mut W,
 ) -> Result<(), Stop>
-    ensures { (s : State) → Did W.gives (put found value.now at.now s) (stand asked.old) world.old result s (stand asked.new) world.new }
+    ensures { (s : State)
+        → Did W.gives (put found value.now at.now s) (stand asked.old) world.old result s (stand asked.new) world.new }
 {
     let value = value.share()?;
     let op = Op::Put {
@@ -163,7 +168,9 @@ pub(crate) fn assigned<W: World>(
     asked: &mut Asked,
     world: &mut W,
 ) -> Result<(), Stop>
-    ensures { (s : State) → Did W.gives (assigned site.now q.now value.now at.now s) (stand asked.old) world.old result s (stand asked.new) world.new }
+    ensures { (s : State)
+        → Did W.gives (assigned site.now q.now value.now at.now s) (stand asked.old) world.old result s
+        (stand asked.new) world.new }
 {
     if is_private(&q.name) {
         return fails(FaultCode::Private, &q.span);
@@ -203,7 +210,8 @@ pub(crate) fn value<W: World>(
     asked: &mut Asked,
     world: &mut W,
 ) -> Result<Value, Stop>
-    ensures { Did W.gives (value_to depth site.now e.now state.old) (stand asked.old) world.old result state.new (stand asked.new) world.new }
+    ensures { Did W.gives (value_to depth site.now e.now state.old) (stand asked.old) world.old result state.new
+        (stand asked.new) world.new }
 {
     if depth == 0 {
         return fails(FaultCode::Depth, span_of(e));
@@ -219,7 +227,8 @@ fn value_one<W: World>(
     asked: &mut Asked,
     world: &mut W,
 ) -> Result<Value, Stop>
-    ensures { Did W.gives (value_one site.now e.now state.old) (stand asked.old) world.old result state.new (stand asked.new) world.new }
+    ensures { Did W.gives (value_one site.now e.now state.old) (stand asked.old) world.old result state.new
+        (stand asked.new) world.new }
 {
     match e {
         Expr::Word(word) => {

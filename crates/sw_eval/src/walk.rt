@@ -40,7 +40,8 @@ pub(crate) fn does<W: World>(
     asked: &mut Asked,
     world: &mut W,
 ) -> Result<(), Stop>
-    ensures { Did W.gives (does_to depth level site.now statement.now state.old) (stand asked.old) world.old result state.new (stand asked.new) world.new }
+    ensures { Did W.gives (does_to depth level site.now statement.now state.old) (stand asked.old) world.old result
+        state.new (stand asked.new) world.new }
 {
     if depth == 0 {
         return fails(FaultCode::Depth, place_of(statement));
@@ -68,7 +69,8 @@ fn does_one<W: World>(
     asked: &mut Asked,
     world: &mut W,
 ) -> Result<(), Stop>
-    ensures { Did W.gives (does_one (value_to inner) (does_to inner) level site.now statement.now state.old) (stand asked.old) world.old result state.new (stand asked.new) world.new }
+    ensures { Did W.gives (does_one (value_to inner) (does_to inner) level site.now statement.now state.old)
+        (stand asked.old) world.old result state.new (stand asked.new) world.new }
 {
     match statement {
         Statement::Variable { name, value: e, .. } => {
@@ -132,7 +134,8 @@ fn declaration<W: World>(
     asked: &mut Asked,
     world: &mut W,
 ) -> Result<(), Stop>
-    ensures { Did W.gives (declaration (value_to inner) (does_to inner) site.now property.now e.now at.now state.old) (stand asked.old) world.old result state.new (stand asked.new) world.new }
+    ensures { Did W.gives (declaration (value_to inner) (does_to inner) site.now property.now e.now at.now state.old)
+        (stand asked.old) world.old result state.new (stand asked.new) world.new }
 {
     if !state.css.is_open() {
         return fails(FaultCode::BadPlace, at);
@@ -154,7 +157,8 @@ fn rule<W: World>(
     asked: &mut Asked,
     world: &mut W,
 ) -> Result<(), Stop>
-    ensures { Did W.gives (rule (value_to inner) (does_to inner) level site.now selectors.now all.now at.now state.old) (stand asked.old) world.old result state.new (stand asked.new) world.new }
+    ensures { Did W.gives (rule (value_to inner) (does_to inner) level site.now selectors.now all.now at.now state.old)
+        (stand asked.old) world.old result state.new (stand asked.new) world.new }
 {
     match level {
         Level::Block => fails(FaultCode::BadPlace, at),
@@ -179,7 +183,8 @@ fn nested<W: World>(
     asked: &mut Asked,
     world: &mut W,
 ) -> Result<(), Stop>
-    ensures { Did W.gives (nested (value_to inner) (does_to inner) site.now all.now state.old) (stand asked.old) world.old result state.new (stand asked.new) world.new }
+    ensures { Did W.gives (nested (value_to inner) (does_to inner) site.now all.now state.old) (stand asked.old)
+        world.old result state.new (stand asked.new) world.new }
 {
     let outer = state.locals.len();
     block(alloc, inner, site, all, state, asked, world)?;
@@ -197,7 +202,8 @@ fn block<W: World>(
     asked: &mut Asked,
     world: &mut W,
 ) -> Result<(), Stop>
-    ensures { Did W.gives (block (value_to inner) (does_to inner) site.now all.now state.old) (stand asked.old) world.old result state.new (stand asked.new) world.new }
+    ensures { Did W.gives (block (value_to inner) (does_to inner) site.now all.now state.old) (stand asked.old)
+        world.old result state.new (stand asked.new) world.new }
 {
     for one in all {
         does(alloc, inner, Level::Block, site, one, state, asked, world)?;

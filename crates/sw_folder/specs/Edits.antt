@@ -1,4 +1,5 @@
--- What a put and a removal do to a folder, and what each is refused for, in the order in which the faults are looked for. This project's own rule.
+-- What a put and a removal do to a folder, and what each is refused for, in the order in which the faults are looked
+-- for. This project's own rule.
 use Rattle.std.specs.Prelude.{◌≡◌, ℕ, not, ◌&&◌, nat_lt, nat_le, if◌then◌else◌, List, length, Option, None, Some, Result, Ok, Err}
 use Rattle.std.specs.Str.{is_utf8}
 use Rattle.std.specs.FinMap.{contains_key, insert, remove, len}

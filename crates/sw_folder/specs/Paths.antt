@@ -30,7 +30,8 @@ is_path_byte byte =
 
 -- one or more of these bytes, but not `.` or `..`
 abbrev pub is_segment : List ℕ → Bool
-is_segment segment = not (length segment == 0) && list_all is_path_byte segment && not (is_dot segment) && not (is_dot_dot segment)
+is_segment segment =
+    not (length segment == 0) && list_all is_path_byte segment && not (is_dot segment) && not (is_dot_dot segment)
 
 -- at most 255 bytes: segments joined by single slashes
 unfoldable pub is_path : List ℕ → Bool

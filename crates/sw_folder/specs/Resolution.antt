@@ -36,7 +36,9 @@ abbrev pub sheets : List ℕ → List ℕ → List (List ℕ)
 sheets folder name = both folder name (codes ".sass") ++ both folder name (codes ".scss")
 
 abbrev pub has_extension : List ℕ → Bool
-has_extension name = ends_with nat_eq name (codes ".sass") || (ends_with nat_eq name (codes ".scss") || ends_with nat_eq name (codes ".css"))
+has_extension name =
+    ends_with nat_eq name (codes ".sass")
+    || (ends_with nat_eq name (codes ".scss") || ends_with nat_eq name (codes ".css"))
 
 abbrev pub inside : List ℕ → List ℕ → List ℕ
 inside folder name = folder ++ (name ++ codes "/")
@@ -45,7 +47,8 @@ inside folder name = folder ++ (name ++ codes "/")
 abbrev pub name_groups : List ℕ → List ℕ → List (List (List ℕ))
 name_groups folder name = sheets folder name ∷ both folder name (codes ".css") ∷ []
 
--- the groups of files that a name may mean, the one that counts first in front: with an extension that file, else a sheet or plain CSS, beside or as the index of a folder of that name
+-- the groups of files that a name may mean, the one that counts first in front: with an extension that file, else a
+-- sheet or plain CSS, beside or as the index of a folder of that name
 abbrev pub groups : List ℕ → List ℕ → List (List (List ℕ))
 groups folder name =
     if has_extension name then both folder name [] ∷ []
@@ -58,7 +61,8 @@ folder_text segments = flat_map (λ segment. segment ++ codes "/") segments
 abbrev pub groups_at : Option (List (List ℕ)) → List (List (List ℕ))
 groups_at None = []
 groups_at (Some []) = []
-groups_at (Some (first ∷ more)) = groups (folder_text (take (length more) (first ∷ more))) (slice_index_or (first ∷ more) (length more) first)
+groups_at (Some (first ∷ more)) =
+    groups (folder_text (take (length more) (first ∷ more))) (slice_index_or (first ∷ more) (length more) first)
 
 -- the groups of a URL at each base
 abbrev pub groups_from : List ℕ → List (List (List ℕ)) → List (List (List ℕ))
@@ -80,7 +84,8 @@ both_choices None other = Ok other
 both_choices (Some path) None = Ok (Some path)
 both_choices (Some path) (Some other) = Err Ambiguous
 
-abbrev pub or_next : Result (Option (List ℕ)) ResolveFault → Result (Option (List ℕ)) ResolveFault → Result (Option (List ℕ)) ResolveFault
+abbrev pub or_next : Result (Option (List ℕ)) ResolveFault → Result (Option (List ℕ)) ResolveFault
+    → Result (Option (List ℕ)) ResolveFault
 or_next (Ok None) next = next
 or_next (Ok (Some path)) next = Ok (Some path)
 or_next (Err fault) next = Err fault

@@ -60,10 +60,12 @@ impl From<Memory> for EditFault {
 
 const MOST_BYTES: usize = 1_048_576;
 
-/// What a put of so many bytes is refused for whatever the folder holds and the bytes are, so that they need not be kept: the path first, then the length.
+/// What a put of so many bytes is refused for whatever the folder holds and the bytes are, so that they need not be
+/// kept: the path first, then the length.
 pub fn unread_fault(path: &str, count: usize) -> Option<EditFault>
     ensures value { result ≡ unread_fault path.now count }
-    ensures decides { (files : Files) (bytes : List ℕ) → length bytes ≡ count → IfSome result (λ fault. put_fault files path.now bytes ≡ Some fault) }
+    ensures decides { (files : Files) (bytes : List ℕ) → length bytes ≡ count
+        → IfSome result (λ fault. put_fault files path.now bytes ≡ Some fault) }
 {
     if !is_path(path) {
         Some(EditFault::BadPath)

@@ -51,7 +51,9 @@ impl Folder {
         }
     }
 
-    /// Puts a file in the place of the one with this path, or beside the others. Refused, in this order: `BadPath`; `TooLong` over 1,048,576 bytes; `TooManyFiles` for a new path beside 4,096 files; `NotText` where the bytes aren't UTF-8. After a fault or want of memory the folder is as before.
+    /// Puts a file in the place of the one with this path, or beside the others. Refused, in this order: `BadPath`;
+    /// `TooLong` over 1,048,576 bytes; `TooManyFiles` for a new path beside 4,096 files; `NotText` where the bytes
+    /// aren't UTF-8. After a fault or want of memory the folder is as before.
     pub fn put(&mut self, path: &str, bytes: &[u8]) -> Result<(), EditFault>
         ensures ok { OnOk result (after_put path.now bytes.now self.old ≡ Ok self.new) }
         ensures refused { IfErr result (λ fault. IsFaultOf fault (after_put path.now bytes.now self.old)) }
@@ -61,7 +63,8 @@ impl Folder {
         self.insert(path, text)
     }
 
-    /// Takes a file out. Refused with `BadPath`, then `NoSuchFile`; it takes no memory, so `Memory` is never the answer. After a fault the folder is as before.
+    /// Takes a file out. Refused with `BadPath`, then `NoSuchFile`; it takes no memory, so `Memory` is never the
+    /// answer. After a fault the folder is as before.
     #[tactic(auto, unfolding(crate::specs::Edits::removal_fault))]
     pub fn remove(&mut self, path: &str) -> Result<(), EditFault>
         ensures ok { OnOk result (after_removal path.now self.old ≡ Ok self.new) }
@@ -109,7 +112,8 @@ impl Folder {
     #[tactic(auto, unfolding(crate::specs::Edits::put_fault))]
     fn admit<'b>(&self, path: &str, bytes: &'b [u8]) -> Result<&'b str, EditFault>
         ensures ok { IfOk result (λ text. text.now ≡ bytes.now) }
-        ensures fault { MatchResult result (λ _. put_fault self.now path.now bytes.now ≡ None) (λ fault. put_fault self.now path.now bytes.now ≡ Some fault) }
+        ensures fault { MatchResult result (λ _. put_fault self.now path.now bytes.now ≡ None)
+            (λ fault. put_fault self.now path.now bytes.now ≡ Some fault) }
     {
         if let Some(fault) = unread_fault(path, bytes.len()) {
             return Err(fault);
@@ -155,7 +159,8 @@ impl Folder {
 
 fn text_of(bytes: &[u8]) -> Result<&str, EditFault>
     ensures ok { IfOk result (λ text. text.now ≡ bytes.now) }
-    ensures fault { MatchResult result (λ _. is_utf8 bytes.now ≡ true) (λ fault. (fault ≡ EditFault.NotText) × (is_utf8 bytes.now ≡ false)) }
+    ensures fault { MatchResult result (λ _. is_utf8 bytes.now ≡ true)
+        (λ fault. (fault ≡ EditFault.NotText) × (is_utf8 bytes.now ≡ false)) }
 {
     match str::from_utf8(bytes) {
         Ok(text) => Ok(text),

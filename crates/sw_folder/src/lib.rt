@@ -1,4 +1,5 @@
-//! The files of a folder by their paths, the edits that change them, and which file a URL means. Edits flow in, texts and resolved paths flow out.
+//! The files of a folder by their paths, the edits that change them, and which file a URL means. Edits flow in, texts
+//! and resolved paths flow out.
 #![tactic(auto)]
 
 mod edit;

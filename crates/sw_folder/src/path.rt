@@ -6,7 +6,8 @@ ghost use Rattle.sw_folder.specs.Paths.{segments, rest_segments, is_dot, is_dot_
 
 const MOST_PATH: usize = 255;
 
-/// Whether a text is a path of a folder: 1 to 255 bytes, which are segments of letters, digits, `.`, `_`, `-` and `@` joined by single slashes, none of them `.` or `..`.
+/// Whether a text is a path of a folder: 1 to 255 bytes, which are segments of letters, digits, `.`, `_`, `-` and `@`
+/// joined by single slashes, none of them `.` or `..`.
 #[tactic(auto, unfolding(crate::specs::Paths::is_path))]
 pub fn is_path(text: &str) -> bool
     ensures { result ≡ is_path text.now }

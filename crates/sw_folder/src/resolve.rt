@@ -59,7 +59,12 @@ impl From<Memory> for ResolveFault {
 type Place<'a> = SmallVec<&'a str, 16>;
 
 impl Folder {
-    /// The path of the file that a URL means in the sheet `from`: the URL is joined to the folder of that sheet, then to each load path in order, where `.` is the folder itself. Of each, these groups of files are looked for in order, and the first group of which a file exists decides: with the extension `.sass`, `.scss` or `.css` the file, with or without `_` before its name; else `.sass` and `.scss`, then `.css`, then `.sass` and `.scss` of `index`, then `.css` of `index`, each with or without `_`. `Ambiguous` where two files of a group exist, `NotFound` where no group has one.
+    /// The path of the file that a URL means in the sheet `from`: the URL is joined to the folder of that sheet, then
+    /// to each load path in order, where `.` is the folder itself. Of each, these groups of files are looked for in
+    /// order, and the first group of which a file exists decides: with the extension `.sass`, `.scss` or `.css` the
+    /// file, with or without `_` before its name; else `.sass` and `.scss`, then `.css`, then `.sass` and `.scss` of
+    /// `index`, then `.css` of `index`, each with or without `_`. `Ambiguous` where two files of a group exist,
+    /// `NotFound` where no group has one.
     pub fn resolve(&self, from: &str, url: &str, paths: &[Name]) -> Result<Name, ResolveFault>
         ensures { IsResolution result (resolved self.now from.now url.now paths.now) }
     {
@@ -77,7 +82,8 @@ impl Folder {
     }
 
     fn beside(&self, from: &str, url: &str) -> Result<Option<Name>, ResolveFault>
-        ensures { IsResolution result (first_choice self.now (groups_at (walk [] ((segments from.now ++ codes ".." ∷ []) ++ segments url.now)))) }
+        ensures { IsResolution result (first_choice self.now
+            (groups_at (walk [] ((segments from.now ++ codes ".." ∷ []) ++ segments url.now)))) }
     {
         let mut place = Place::new(self.allocator());
         if !walk(&mut place, from)? {
@@ -90,7 +96,8 @@ impl Folder {
     }
 
     fn further<'a>(&self, mut place: Place<'a>, url: &'a str) -> Result<Option<Name>, ResolveFault>
-        ensures { IsResolution result (first_choice self.now (groups_at (walk (map (λ segment. segment.now) place.entry.items) (segments url.now)))) }
+        ensures { IsResolution result (first_choice self.now
+            (groups_at (walk (map (λ segment. segment.now) place.entry.items) (segments url.now)))) }
     {
         if !walk(&mut place, url)? {
             return Ok(None);
@@ -99,7 +106,8 @@ impl Folder {
     }
 
     fn on_path(&self, base: &str, url: &str) -> Result<Option<Name>, ResolveFault>
-        ensures { IsResolution result (first_choice self.now (groups_at (walk [] (segments base.now ++ segments url.now)))) }
+        ensures { IsResolution result (first_choice self.now
+            (groups_at (walk [] (segments base.now ++ segments url.now)))) }
     {
         let mut place = Place::new(self.allocator());
         if !walk(&mut place, base)? {
@@ -122,7 +130,8 @@ impl Folder {
     }
 
     fn at(&self, place: &[&str]) -> Result<Option<Name>, ResolveFault>
-        ensures { IsResolution result (first_choice self.now (groups_at (Some (map (λ segment. segment.now) place.now)))) }
+        ensures { IsResolution result (first_choice self.now
+            (groups_at (Some (map (λ segment. segment.now) place.now)))) }
     {
         match place.split_last() {
             None => Ok(None),
@@ -212,7 +221,8 @@ impl Folder {
         name: &str,
         ending: &str,
     ) -> Result<Option<Name>, ResolveFault>
-        ensures { IsResolution result (choice (present self.now ((folder.now ++ (mark.now ++ (name.now ++ ending.now))) ∷ []))) }
+        ensures { IsResolution result (choice
+            (present self.now ((folder.now ++ (mark.now ++ (name.now ++ ending.now))) ∷ []))) }
     {
         path.clear();
         path.push_str(folder)?;
@@ -260,7 +270,8 @@ fn ends_with(name: &str, ending: &str) -> bool
     name.ends_with(ending)
 }
 
-/// Goes on from a place by the segments of a text. False where that leaves the folder, and then the place isn't used any more.
+/// Goes on from a place by the segments of a text. False where that leaves the folder, and then the place isn't used
+/// any more.
 fn walk<'a>(place: &mut Place<'a>, text: &'a str) -> Result<bool, ResolveFault>
     ensures place { IfOk result (λ within. walk (map (λ segment. segment.now) place.old.items) (segments text.now)
         ≡ (if within then Some (map (λ segment. segment.now) place.new.items) else None)) }
@@ -293,7 +304,8 @@ fn step<'a>(place: &mut Place<'a>, segment: &'a str) -> Result<bool, ResolveFaul
 }
 
 fn go_up(place: &mut Place<'_>) -> bool
-    ensures { up (map (λ segment. segment.now) place.old.items) ≡ (if result then Some (map (λ segment. segment.now) place.new.items) else None) }
+    ensures { up (map (λ segment. segment.now) place.old.items)
+        ≡ (if result then Some (map (λ segment. segment.now) place.new.items) else None) }
 {
     place.pop().is_some()
 }

@@ -3,7 +3,8 @@ use Rattle.std.specs.Prelude.{◌≡◌, ℕ, ◌+◌, ◌-◌, ◌^◌, min, Li
 use Rattle.std.specs.List.{Contains}
 use Rattle.sw_io.specs.Causes.{Rose}
 
--- the bytes that are left, how many a call gives at most, the numbers of the calls that fail, the calls so far and the faults so far
+-- the bytes that are left, how many a call gives at most, the numbers of the calls that fail, the calls so far and the
+-- faults so far
 pub record Giver : Type 0 where
   pub left : List ℕ
   pub most : ℕ
@@ -15,8 +16,8 @@ pub record Giver : Type 0 where
 abbrev pub giver : List ℕ → ℕ → List ℕ → Giver
 giver bytes most fail = record { left = bytes; most = most; fail = fail; calls = 0; faults = 0 }
 
--- the bytes that were written, how many a call takes at most, the numbers of the calls that fail, the calls so far, the faults so far,
--- and the faults for want of memory so far
+-- the bytes that were written, how many a call takes at most, the numbers of the calls that fail, the calls so far, the
+-- faults so far, and the faults for want of memory so far
 pub record Taker : Type 0 where
   pub bytes : List ℕ
   pub most : ℕ
@@ -40,7 +41,8 @@ pub record FailsAsListed {T E : Type 0} (before now : Giver) (result : Result T 
   pub count : now.calls ≡ call_after before.calls
   pub exact : IsErr result ↔ Contains before.fail (call_after before.calls)
 
--- one call more was made of the same kind; it failed where its number is listed, and else only where no memory was found
+-- one call more was made of the same kind; it failed where its number is listed, and else only where no memory was
+-- found
 pub record FailsAsListedOrStarved {T E : Type 0} (before now : Taker) (result : Result T E) : Type 0 where
   pub list : now.fail ≡ before.fail
   pub most : now.most ≡ before.most

@@ -1,5 +1,5 @@
-//! Where a session's bytes come from and go to: sources and sinks, kinds in memory and real ones, and a reader of lines.
-//! Bytes flow from a source through the reader up to the session, and from the session down into a sink.
+//! Where a session's bytes come from and go to: sources and sinks, kinds in memory and real ones, and a reader of
+//! lines. Bytes flow from a source through the reader up to the session, and from the session down into a sink.
 #![tactic(auto)]
 
 mod adapters;

@@ -26,7 +26,14 @@ impl Model for MemSink {
 
     ghost Value = { Taker };
 
-    ghost view = { λ s. record { bytes = s.bytes.items; most = s.most; fail = s.fail; calls = s.calls; faults = s.faults; starved = s.starved } };
+    ghost view = { λ s. record {
+      bytes = s.bytes.items;
+      most = s.most;
+      fail = s.fail;
+      calls = s.calls;
+      faults = s.faults;
+      starved = s.starved;
+    } };
 
     ghost invariant = { λ s. 1 ≤ s.most };
 }

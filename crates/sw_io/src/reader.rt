@@ -18,8 +18,8 @@ const MAX_LINE: usize = 1024;
 
 const LINE_FEED: u8 = b'\n';
 
-/// Takes bytes from a source, at most 4,096 ahead of those that it hands out. Contracts see it as the bytes that it has taken
-/// ahead; where a source fails or ends, none are ahead.
+/// Takes bytes from a source, at most 4,096 ahead of those that it hands out. Contracts see it as the bytes that it has
+/// taken ahead; where a source fails or ends, none are ahead.
 #[derive(Drop)]
 pub struct Reader {
     buffer: Vec<u8>,
@@ -81,9 +81,11 @@ impl Reader {
 
     /// The next byte, and None only where none is left.
     pub fn next<S: Source>(&mut self, source: &mut S) -> Result<Option<u8>, Failed>
-        ensures read { IfOk result (λ next. Reads self.old (S.left source.old) (option_to_list next) self.new (S.left source.new)) }
+        ensures read { IfOk result (λ next. Reads self.old (S.left source.old) (option_to_list next) self.new
+            (S.left source.new)) }
         ensures none { IfOk result (λ next. IfNone next ((self.new ≡ []) × IsAtEnd (S.left source.new))) }
-        ensures err { OnErr result (Reads self.old (S.left source.old) [] self.new (S.left source.new) × (self.new ≡ [])) }
+        ensures err { OnErr result (Reads self.old (S.left source.old) [] self.new (S.left source.new)
+            × (self.new ≡ [])) }
         ensures bound { length self.new ≤ 4096 }
         ensures cause { HasCause (S.faults source.old) (S.faults source.new) result }
     {
@@ -99,9 +101,11 @@ impl Reader {
 
     /// The next line, without its line feed, into `line`: at most 1,024 bytes.
     pub fn line<S: Source>(&mut self, source: &mut S, line: &mut Vec<u8>) -> Result<(), ReadStop>
-        ensures ok { OnOk result (Reads self.old (S.left source.old) (line.new.items ++ 10 ∷ []) self.new (S.left source.new)
+        ensures ok { OnOk result (Reads self.old (S.left source.old) (line.new.items ++ 10 ∷ []) self.new
+            (S.left source.new)
             × ((rest : List ℕ) → split_line 1024 (line.new.items ++ 10 ∷ rest) ≡ Line line.new.items rest)) }
-        ensures err { IfErr result (λ stop. (used : List ℕ) × Reads self.old (S.left source.old) used self.new (S.left source.new)
+        ensures err { IfErr result (λ stop. (used : List ℕ)
+            × Reads self.old (S.left source.old) used self.new (S.left source.new)
             × LineEnds stop used self.new (S.left source.new) (S.faults source.old) (S.faults source.new)) }
         ensures bound { OnOk result (length self.new ≤ 4096) }
         ensures later { S.faults source.old ≤ S.faults source.new }
@@ -126,7 +130,8 @@ impl Reader {
     ) -> Result<(), ReadStop>
         ensures ok { OnOk result (Reads self.old (S.left source.old) out.new.items self.new (S.left source.new)
             × (length out.new.items ≡ count)) }
-        ensures err { IfErr result (λ stop. (used : List ℕ) × Reads self.old (S.left source.old) used self.new (S.left source.new)
+        ensures err { IfErr result (λ stop. (used : List ℕ)
+            × Reads self.old (S.left source.old) used self.new (S.left source.new)
             × RunEnds stop count used self.new (S.left source.new) (S.faults source.old) (S.faults source.new)) }
         ensures later { S.faults source.old ≤ S.faults source.new }
     {
@@ -148,7 +153,8 @@ impl Reader {
     pub fn skip<S: Source>(&mut self, source: &mut S, count: usize) -> Result<(), ReadStop>
         ensures ok { OnOk result ((used : List ℕ) × Reads self.old (S.left source.old) used self.new (S.left source.new)
             × (length used ≡ count)) }
-        ensures err { IfErr result (λ stop. (used : List ℕ) × Reads self.old (S.left source.old) used self.new (S.left source.new)
+        ensures err { IfErr result (λ stop. (used : List ℕ)
+            × Reads self.old (S.left source.old) used self.new (S.left source.new)
             × RunEnds stop count used self.new (S.left source.new) (S.faults source.old) (S.faults source.new)) }
         ensures later { S.faults source.old ≤ S.faults source.new }
     {

@@ -17,7 +17,8 @@ use Rattle.sw_record.specs.declared.reply.Cause.{Cause}
 use Rattle.sw_record.specs.declared.reply.Outcome.{Outcome}
 use Rattle.sw_record.specs.declared.reply.Outcome.TheVariants.{Css, Error}
 
--- a compile: its messages, its CSS or its fault, the runs of its modules in the order in which they ended, and the state of the hosts then
+-- a compile: its messages, its CSS or its fault, the runs of its modules in the order in which they ended, and the
+-- state of the hosts then
 pub record Compile : Type 0 where
   pub says : List Saying
   pub outcome : Outcome
@@ -35,14 +36,16 @@ after_entry c = let s = left_by c.end c.outside.live in
 
 abbrev pub from_entry : Setting → HostState → Enter → State → Compile
 from_entry setting hosts (Refused fault) s = record { says = []; outcome = Error fault; runs = []; hosts = hosts }
-from_entry setting hosts (Open path text) s = after_entry (from_open setting (record { live = s; hosts = hosts }) path text [])
+from_entry setting hosts (Open path text) s =
+    after_entry (from_open setting (record { live = s; hosts = hosts }) path text [])
 
 abbrev pub compile_by : Setting → HostState → Enter × State → Compile
 compile_by setting hosts p = from_entry setting hosts p.0 p.1
 
 -- a compile of an entry of a folder with these load paths, from nothing
 abbrev pub compiled : Setting → Files → List (List ℕ) → List ℕ → HostState → Compile
-compiled setting folder paths entry hosts = compile_by setting hosts (entered entry (entry_text folder entry) (nothing_loaded folder paths))
+compiled setting folder paths entry hosts =
+    compile_by setting hosts (entered entry (entry_text folder entry) (nothing_loaded folder paths))
 
 -- the paths of the modules whose bodies ran, in the order in which these ended
 abbrev pub paths_of : List (List ℕ × Cause) → List (List ℕ)

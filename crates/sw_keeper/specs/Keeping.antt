@@ -1,4 +1,5 @@
--- What a keeper holds (this project's own rule): its folder, and for each entry and path the latest run that ended well.
+-- What a keeper holds (this project's own rule): its folder, and for each entry and path the latest run that ended
+-- well.
 use Rattle.std.specs.Prelude.{◌≡◌, ℕ, List, [], ◌∷◌, bytes_eq, unwrap_or, Some}
 use Rattle.std.specs.Map.{lookup}
 use Rattle.indexmap.specs.IndexMap.{insert_entry}
@@ -32,7 +33,8 @@ with_runs table (run ∷ runs) = with_runs (with_run_by table run run.end) runs
 -- the kept runs after a compile of an entry in which these bodies ended; one without runs keeps nothing
 abbrev pub kept_after : Tables → List ℕ → List Run → Tables
 kept_after tables entry [] = tables
-kept_after tables entry (run ∷ runs) = insert_entry bytes_eq tables entry (with_runs (table_of tables entry) (run ∷ runs))
+kept_after tables entry (run ∷ runs) =
+    insert_entry bytes_eq tables entry (with_runs (table_of tables entry) (run ∷ runs))
 
 -- each run is kept at the path of its module
 abbrev pub EachAtItsPath : Table → Type 0

@@ -13,11 +13,13 @@ is_done (Fault fault) = false
 -- the last of these runs that ended well at the path, else what was there before
 abbrev pub latest : List Run → List ℕ → Option Run → Option Run
 latest [] path before = before
-latest (run ∷ runs) path before = latest runs path (if is_done run.end && bytes_eq path run.path then Some run else before)
+latest (run ∷ runs) path before =
+    latest runs path (if is_done run.end && bytes_eq path run.path then Some run else before)
 
 -- after a compile of an entry each of its paths has the latest run, and the other entries have what they had
 abbrev pub KeepsTheLatest : Type 0
 KeepsTheLatest =
     (tables : Tables) (entry : List ℕ) (runs : List Run) (path : List ℕ) →
-    (kept_at (table_of (kept_after tables entry runs) entry) path ≡ latest runs path (kept_at (table_of tables entry) path))
+    (kept_at (table_of (kept_after tables entry runs) entry) path
+    ≡ latest runs path (kept_at (table_of tables entry) path))
     × ((other : List ℕ) → other ≢ entry → table_of (kept_after tables entry runs) other ≡ table_of tables other)

@@ -1,4 +1,5 @@
--- The outputs of a compile (this project's own rule): those of its runs that ended well, in the order in which they ended.
+-- The outputs of a compile (this project's own rule): those of its runs that ended well, in the order in which they
+-- ended.
 use Rattle.std.specs.Prelude.{◌≡◌, ℕ, List, [], ◌∷◌}
 use Rattle.std.specs.List.{flat_map}
 use Rattle.sw_css_tree.specs.Output.{Output}
@@ -26,7 +27,8 @@ abbrev pub IsCssOf : Outcome → List Run → Type 0
 IsCssOf (Css bytes) runs = bytes ≡ print (outputs_of runs)
 IsCssOf (Error fault) runs = Unit {0}
 
--- so the CSS of modules stands in the order in which their bodies ended, and not in that in which they were loaded first
+-- so the CSS of modules stands in the order in which their bodies ended, and not in that in which they were loaded
+-- first
 abbrev pub CssIsOfRuns : Type 0
 CssIsOfRuns =
     (setting : Setting) (folder : Files) (paths : List (List ℕ)) (entry : List ℕ) (hosts : HostState) →

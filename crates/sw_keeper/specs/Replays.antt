@@ -38,9 +38,11 @@ IsCame seen from (Next to) = (from < to) × (to ≤ length seen)
 IsCame seen from (Upto departure) = IsDeparture seen departure
 
 -- one turn of a replay
-pub record DidTurn (setting : Setting) (table : Table) (kept : Kept) (from : ℕ) (came : Came) (old now : Moment) : Type 0 where
+pub record DidTurn (setting : Setting) (table : Table) (kept : Kept) (from : ℕ) (came : Came) (old now : Moment) :
+    Type 0 where
   pub new : List Run
-  pub advances : Advances setting (job_of kept) (take from kept.run.seen) (reached kept.run.seen came) new old.outside now.outside
+  pub advances : Advances setting (job_of kept) (take from kept.run.seen) (reached kept.run.seen came) new old.outside
+      now.outside
   pub grown : Grown table new old now
   pub place : IsCame kept.run.seen from came
 
@@ -61,7 +63,8 @@ IsBehind seen None = Unit {0}
 IsBehind seen (Some departure) = IsDeparture seen departure
 
 -- a whole replay
-pub record DidReplay (setting : Setting) (table : Table) (kept : Kept) (departure : Option Departure) (old now : Moment) : Type 0 where
+pub record DidReplay (setting : Setting) (table : Table) (kept : Kept) (departure : Option Departure)
+    (old now : Moment) : Type 0 where
   pub new : List Run
   pub advances : Advances setting (job_of kept) [] (behind kept.run.seen departure) new old.outside now.outside
   pub grown : Grown table new old now
@@ -70,10 +73,12 @@ pub record DidReplay (setting : Setting) (table : Table) (kept : Kept) (departur
 
 -- kept questions were asked again from a place on
 abbrev pub AskedTo : Setting → Kept → ℕ → Replayed → Outside → Outside → Type 0
-AskedTo setting kept from Same old now = Advances setting (job_of kept) (take from kept.run.seen) kept.run.seen [] old now
+AskedTo setting kept from Same old now =
+    Advances setting (job_of kept) (take from kept.run.seen) kept.run.seen [] old now
 AskedTo setting kept from (Load at) old now =
     (from ≤ at) × ((pair : Pair) × (slice_get kept.run.seen at ≡ Some pair) × IsLoad pair.0
     × Advances setting (job_of kept) (take from kept.run.seen) (take at kept.run.seen) [] old now)
 AskedTo setting kept from (Differs at answer) old now =
     (pair : Pair) × (slice_get kept.run.seen at ≡ Some pair) × (pair.1 ≡ answer → ⊥) × Fits pair.0 answer
-    × Advances setting (job_of kept) (take from kept.run.seen) (take at kept.run.seen ++ (pair.0, answer) ∷ []) [] old now
+    × Advances setting (job_of kept) (take from kept.run.seen) (take at kept.run.seen ++ (pair.0, answer) ∷ []) [] old
+    now

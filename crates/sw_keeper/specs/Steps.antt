@@ -23,11 +23,14 @@ pub record Moment : Type 0 where
   pub told : List (List ℕ)
 
 -- what an evaluation rests on, by its parts
-abbrev pub setting_of : (HostState → List ℕ → List Plain → Option Plain) → (HostState → List ℕ → List Plain → HostState) → (List ℕ → List ℕ → Result Sheet Fault) → BodyOf → Setting
-setting_of answer after read body = record { functions = record { answer = answer; after = after }; read = read; body = body }
+abbrev pub setting_of : (HostState → List ℕ → List Plain → Option Plain) → (HostState → List ℕ → List Plain → HostState)
+    → (List ℕ → List ℕ → Result Sheet Fault) → BodyOf → Setting
+setting_of answer after read body =
+    record { functions = record { answer = answer; after = after }; read = read; body = body }
 
 abbrev pub moment : State → HostState → Results → List (List ℕ) → Moment
-moment live hosts results told = record { outside = record { live = live; hosts = hosts }; results = results; told = told }
+moment live hosts results told =
+    record { outside = record { live = live; hosts = hosts }; results = results; told = told }
 
 -- a body that ended
 abbrev pub run_of : Job → List ℕ → List Pair → End → Run
@@ -42,8 +45,10 @@ pub record Grown (table : Table) (new : List Run) (old now : Moment) : Type 0 wh
   pub told : now.told ≡ old.told ++ paths_of grown
 
 -- a body that had these pairs behind it has those now, as the evaluation goes
-pub record Advances (setting : Setting) (job : Job) (before after : List Pair) (new : List Run) (old now : Outside) : Type 0 where
-  pub rest : (text : List ℕ) (runs : List Run) → rest_of setting job text before runs old ≡ rest_of setting job text after (runs ++ new) now
+pub record Advances (setting : Setting) (job : Job) (before after : List Pair) (new : List Run) (old now : Outside) :
+    Type 0 where
+  pub rest : (text : List ℕ) (runs : List Run)
+      → rest_of setting job text before runs old ≡ rest_of setting job text after (runs ++ new) now
   pub same_depth : length now.live.opened ≡ length old.live.opened
 
 -- an answered load
@@ -54,15 +59,18 @@ pub record DidLoad (table : Table) (response : Response) (answer : Answer) (old 
   pub grown : Grown table response.runs old now
 
 -- a body that went to its end, from where it had these pairs behind it
-pub record DidEnd (setting : Setting) (table : Table) (job : Job) (text : List ℕ) (known : List Pair) (end : End) (old now : Moment) : Type 0 where
+pub record DidEnd (setting : Setting) (table : Table) (job : Job) (text : List ℕ) (known : List Pair) (end : End)
+    (old now : Moment) : Type 0 where
   pub seen : List Pair
   pub new : List Run
-  pub ends : (runs : List Run) → rest_of setting job text known runs old.outside ≡ ended job text seen (runs ++ new) now.outside end
+  pub ends : (runs : List Run)
+      → rest_of setting job text known runs old.outside ≡ ended job text seen (runs ++ new) now.outside end
   pub same_depth : length now.outside.live.opened ≡ length old.outside.live.opened
   pub grown : Grown table (new ++ run_of job text seen end ∷ []) old now
 
 -- a text that was evaluated at an open path
-pub record DidEvaluate (setting : Setting) (table : Table) (path text : List ℕ) (config : List (List ℕ × Plain)) (end : End) (old now : Moment) : Type 0 where
+pub record DidEvaluate (setting : Setting) (table : Table) (path text : List ℕ) (config : List (List ℕ × Plain))
+    (end : End) (old now : Moment) : Type 0 where
   pub runs : List Run
   pub gives : from_open setting old.outside path text config ≡ record { outside = now.outside; runs = runs; end = end }
   pub same_depth : length now.outside.live.opened ≡ length old.outside.live.opened
@@ -84,22 +92,24 @@ abbrev pub ran_at : Option End → List ℕ → List (List ℕ)
 ran_at None path = []
 ran_at (Some end) path = path ∷ []
 
-pub record Turned (setting : Setting) (table : Table) (p q : Progress) (end : Option End) (old now : Moment) : Type 0 where
-  pub same_job : q.job ≡ p.job
-  pub left : q.left ≡ []
-  pub more : List Pair
-  pub extends : q.seen ≡ (p.seen ++ p.left) ++ more
-  pub new : List Run
-  pub advances : Advances setting p.job (p.seen ++ p.left) q.seen new old.outside now.outside
-  pub runs : now.results.runs ≡ old.results.runs ++ new
-  pub grown : List (List ℕ × Cause)
-  pub is : Ran table new grown
-  pub ran : now.results.ran ≡ old.results.ran ++ grown
-  pub told : now.told ≡ old.told ++ (paths_of grown ++ ran_at end q.job.path)
-  pub place : IsTurned end p q
+pub record Turned (setting : Setting) (table : Table) (p q : Progress) (end : Option End) (old now : Moment) : Type 0
+  where
+    pub same_job : q.job ≡ p.job
+    pub left : q.left ≡ []
+    pub more : List Pair
+    pub extends : q.seen ≡ (p.seen ++ p.left) ++ more
+    pub new : List Run
+    pub advances : Advances setting p.job (p.seen ++ p.left) q.seen new old.outside now.outside
+    pub runs : now.results.runs ≡ old.results.runs ++ new
+    pub grown : List (List ℕ × Cause)
+    pub is : Ran table new grown
+    pub ran : now.results.ran ≡ old.results.ran ++ grown
+    pub told : now.told ≡ old.told ++ (paths_of grown ++ ran_at end q.job.path)
+    pub place : IsTurned end p q
 
 -- a body on its way, from where it had the known pairs behind it
-pub record RunsOn (setting : Setting) (table : Table) (job : Job) (known : List Pair) (p : Progress) (old now : Moment) : Type 0 where
+pub record RunsOn (setting : Setting) (table : Table) (job : Job) (known : List Pair) (p : Progress)
+    (old now : Moment) : Type 0 where
   pub running : p.status ≡ Running
   pub is_body : IsBody setting.body p
   pub same_job : p.job ≡ job
@@ -117,12 +127,15 @@ pub record IsSame (table : Table) (path text : List ℕ) (config : List (List �
   pub config_is : run.config ≡ config
 
 abbrev pub NoneSame : Table → List ℕ → List ℕ → List (List ℕ × Plain) → Type 0
-NoneSame table path text config = (run : Run) → kept_at table path ≡ Some run → run.text ≡ text → run.config ≡ config → ⊥
+NoneSame table path text config =
+    (run : Run) → kept_at table path ≡ Some run → run.text ≡ text → run.config ≡ config → ⊥
 
 -- however the body ends that has these pairs behind it, this is why it ran
 abbrev pub DiffersBy : Table → List ℕ → List ℕ → List (List ℕ × Plain) → List Pair → Cause → Type 0
 DiffersBy table path text config known cause =
-    (more : List Pair) (end : End) → IsCause (kept_at table path) (record { path = path; text = text; config = config; seen = known ++ more; end = end }) cause
+    (more : List Pair) (end : End)
+    → IsCause (kept_at table path) (record
+    { path = path; text = text; config = config; seen = known ++ more; end = end }) cause
 
 -- some bodies ran, whichever they are
 abbrev pub RanMore : List (List ℕ) → List (List ℕ) → Type 0

@@ -9,7 +9,8 @@ use sw_record::Cause;
 use sw_text::{List, Memory};
 use sw_world::{Answer, Op, share_pairs};
 
-/// The kept pairs up to the first question that is answered otherwise, that question with its new answer, and the cause that it is.
+/// The kept pairs up to the first question that is answered otherwise, that question with its new answer, and the cause
+/// that it is.
 #[derive(Drop)]
 pub struct Departure {
     pub known: List<(Op, Answer)>,
@@ -24,8 +25,10 @@ pub(crate) fn departure_of(
     answer: Answer,
 ) -> Result<Departure, Memory>
     requires { (pair : Pair) × (slice_get seen.now place ≡ Some pair) × HasTwoAnswers pair.0 }
-    ensures known { IfOk result (λ departure. (pair : Pair) → slice_get seen.now place ≡ Some pair → departure.known ≡ take place seen.now ++ (pair.0, answer) ∷ []) }
-    ensures cause { IfOk result (λ departure. (pair : Pair) → slice_get seen.now place ≡ Some pair → IsCauseBy pair.0 departure.cause) }
+    ensures known { IfOk result (λ departure. (pair : Pair) → slice_get seen.now place ≡ Some pair
+        → departure.known ≡ take place seen.now ++ (pair.0, answer) ∷ []) }
+    ensures cause { IfOk result (λ departure. (pair : Pair) → slice_get seen.now place ≡ Some pair
+        → IsCauseBy pair.0 departure.cause) }
 {
     let mut known = share_pairs(alloc, &seen[..place])?;
     let op = &seen[place].0;

@@ -45,8 +45,12 @@ fn load<R: Reader, E: Engine, H: Hosts>(
     op: &Op,
 ) -> Result<Answer, Memory>
     requires { IsLoad op.now }
-    ensures did { IfOk result (λ answer. DidLoad kept.now (responds (record { answer = H.answer; after = H.after }) (fresh (setting_of H.answer H.after R.reads E.body) (room live.old)) op.now (record { live = live.old; hosts = H.state hosts.old }))
-        answer (moment live.old (H.state hosts.old) results.old (E.ran engine.old)) (moment live.new (H.state hosts.new) results.new (E.ran engine.new))) }
+    ensures did { IfOk result (λ answer. DidLoad kept.now
+        (responds (record { answer = H.answer; after = H.after })
+        (fresh (setting_of H.answer H.after R.reads E.body) (room live.old)) op.now
+        (record { live = live.old; hosts = H.state hosts.old }))
+        answer (moment live.old (H.state hosts.old) results.old (E.ran engine.old))
+        (moment live.new (H.state hosts.new) results.new (E.ran engine.new))) }
     ensures fits { IfOk result (λ answer. Fits op.now answer) }
     ensures depth { IfOk result (λ _. length live.new.opened ≡ length live.old.opened) }
     ensures grew { OnErr result (RanMore (E.ran engine.old) (E.ran engine.new)) }
@@ -78,8 +82,10 @@ fn turn<R: Reader, E: Engine, H: Hosts>(
     requires runs { (E.progress body.old).status ≡ Running }
     requires is_body { IsBody E.body (E.progress body.old) }
     ensures is_body { IfOk result (λ _. IsBody E.body (E.progress body.new)) }
-    ensures turned { IfOk result (λ end. Turned (setting_of H.answer H.after R.reads E.body) kept.now (E.progress body.old) (E.progress body.new) end
-        (moment live.old (H.state hosts.old) results.old (E.ran engine.old)) (moment live.new (H.state hosts.new) results.new (E.ran engine.new))) }
+    ensures turned { IfOk result (λ end. Turned (setting_of H.answer H.after R.reads E.body) kept.now
+        (E.progress body.old) (E.progress body.new) end
+        (moment live.old (H.state hosts.old) results.old (E.ran engine.old))
+        (moment live.new (H.state hosts.new) results.new (E.ran engine.new))) }
     ensures depth { IfOk result (λ _. length live.new.opened ≡ length live.old.opened) }
     ensures grew { OnErr result (RanMore (E.ran engine.old) (E.ran engine.new)) }
 {
@@ -113,8 +119,10 @@ fn run_body<R: Reader, E: Engine, H: Hosts>(
     requires reads { R.reads path.now text.now ≡ Ok sheet.now }
     requires goes { Goes (E.body (record { sheet = sheet.now; config = config.now; path = path.now })) [] known.now }
     requires differs { DiffersBy kept.now path.now text.now config.now known.now cause }
-    ensures did { IfOk result (λ end. DidEnd (setting_of H.answer H.after R.reads E.body) kept.now (record { sheet = sheet.now; config = config.now; path = path.now }) text.now known.now end
-        (moment live.old (H.state hosts.old) results.old (E.ran engine.old)) (moment live.new (H.state hosts.new) results.new (E.ran engine.new))) }
+    ensures did { IfOk result (λ end. DidEnd (setting_of H.answer H.after R.reads E.body) kept.now
+        (record { sheet = sheet.now; config = config.now; path = path.now }) text.now known.now end
+        (moment live.old (H.state hosts.old) results.old (E.ran engine.old))
+        (moment live.new (H.state hosts.new) results.new (E.ran engine.new))) }
     ensures depth { IfOk result (λ _. length live.new.opened ≡ length live.old.opened) }
     ensures grew { OnErr result (RanMore (E.ran engine.old) (E.ran engine.new)) }
 {
@@ -146,7 +154,8 @@ fn replay_turn<R: Reader, E: Engine, H: Hosts>(
 ) -> Result<Came, Memory>
     requires { from ≤ length run.now.run.seen }
     ensures did { IfOk result (λ came. DidTurn (setting_of H.answer H.after R.reads E.body) kept.now run.now from came
-        (moment live.old (H.state hosts.old) results.old (E.ran engine.old)) (moment live.new (H.state hosts.new) results.new (E.ran engine.new))) }
+        (moment live.old (H.state hosts.old) results.old (E.ran engine.old))
+        (moment live.new (H.state hosts.new) results.new (E.ran engine.new))) }
     ensures depth { IfOk result (λ _. length live.new.opened ≡ length live.old.opened) }
     ensures grew { OnErr result (RanMore (E.ran engine.old) (E.ran engine.new)) }
 {
@@ -182,8 +191,10 @@ fn replay_all<R: Reader, E: Engine, H: Hosts>(
     results: &mut Results<R, E>,
     run: &Run<E>,
 ) -> Result<Option<Departure>, Memory>
-    ensures did { IfOk result (λ departure. DidReplay (setting_of H.answer H.after R.reads E.body) kept.now run.now departure
-        (moment live.old (H.state hosts.old) results.old (E.ran engine.old)) (moment live.new (H.state hosts.new) results.new (E.ran engine.new))) }
+    ensures did { IfOk result (λ departure. DidReplay (setting_of H.answer H.after R.reads E.body) kept.now run.now
+        departure
+        (moment live.old (H.state hosts.old) results.old (E.ran engine.old))
+        (moment live.new (H.state hosts.new) results.new (E.ran engine.new))) }
     ensures depth { IfOk result (λ _. length live.new.opened ≡ length live.old.opened) }
     ensures grew { OnErr result (RanMore (E.ran engine.old) (E.ran engine.new)) }
 {
@@ -198,7 +209,8 @@ fn replay_all<R: Reader, E: Engine, H: Hosts>(
     }
 }
 
-/// Evaluates the text of a module whose path is open: by the kept run as far as its questions are answered as before, and from there on by its body.
+/// Evaluates the text of a module whose path is open: by the kept run as far as its questions are answered as before,
+/// and from there on by its body.
 #[cycle(evaluate)]
 pub(crate) fn evaluate<R: Reader, E: Engine, H: Hosts>(
     alloc: Global,
@@ -213,8 +225,10 @@ pub(crate) fn evaluate<R: Reader, E: Engine, H: Hosts>(
     config: &Config,
 ) -> Result<End, Memory>
     requires { length text.now ≤ most_bytes }
-    ensures did { IfOk result (λ end. DidEvaluate (setting_of H.answer H.after R.reads E.body) kept.now path.now text.now config.now end
-        (moment live.old (H.state hosts.old) results.old (E.ran engine.old)) (moment live.new (H.state hosts.new) results.new (E.ran engine.new))) }
+    ensures did { IfOk result (λ end. DidEvaluate (setting_of H.answer H.after R.reads E.body) kept.now path.now
+        text.now config.now end
+        (moment live.old (H.state hosts.old) results.old (E.ran engine.old))
+        (moment live.new (H.state hosts.new) results.new (E.ran engine.new))) }
     ensures depth { IfOk result (λ _. length live.new.opened ≡ length live.old.opened) }
     ensures grew { OnErr result (RanMore (E.ran engine.old) (E.ran engine.new)) }
 {

@@ -82,7 +82,11 @@ impl<R: Reader, E: Engine> Keeper<R, E> {
         &self.folder
     }
 
-    /// Compiles an entry with these load paths: the messages and the CSS or the fault that the evaluation of the files as they are gives from nothing. Of the bodies of that evaluation those run whose run isn't the kept one, each with its cause, and the engine tells of just these; the runs that ended well are kept from then on. After `Memory` folder and kept runs are as before, the engine has told of some bodies more, and the host's state is the one after the calls that were made.
+    /// Compiles an entry with these load paths: the messages and the CSS or the fault that the evaluation of the files
+    /// as they are gives from nothing. Of the bodies of that evaluation those run whose run isn't the kept one, each
+    /// with its cause, and the engine tells of just these; the runs that ended well are kept from then on. After
+    /// `Memory` folder and kept runs are as before, the engine has told of some bodies more, and the host's state is
+    /// the one after the calls that were made.
     pub fn compile<H: Hosts>(
         &mut self,
         reader: &R,
@@ -91,13 +95,39 @@ impl<R: Reader, E: Engine> Keeper<R, E> {
         engine: &mut E,
         hosts: &mut H,
     ) -> Result<Reply, Memory>
-        ensures says { IfOk result (λ reply. reply.says ≡ (compiled (record { functions = record { answer = H.answer; after = H.after }; read = R.reads; body = E.body }) self.old.folder paths.now entry.now (H.state hosts.old)).says) }
-        ensures outcome { IfOk result (λ reply. reply.outcome ≡ (compiled (record { functions = record { answer = H.answer; after = H.after }; read = R.reads; body = E.body }) self.old.folder paths.now entry.now (H.state hosts.old)).outcome) }
-        ensures hosts { OnOk result (H.state hosts.new ≡ (compiled (record { functions = record { answer = H.answer; after = H.after }; read = R.reads; body = E.body }) self.old.folder paths.now entry.now (H.state hosts.old)).hosts) }
-        ensures ran { IfOk result (λ reply. Ran (table_of self.old.kept entry.now) (compiled (record { functions = record { answer = H.answer; after = H.after }; read = R.reads; body = E.body }) self.old.folder paths.now entry.now (H.state hosts.old)).runs reply.ran) }
+        ensures says { IfOk result (λ reply. reply.says
+            ≡ (compiled (record {
+              functions = record { answer = H.answer; after = H.after };
+              read = R.reads;
+              body = E.body;
+            }) self.old.folder paths.now entry.now (H.state hosts.old)).says) }
+        ensures outcome { IfOk result (λ reply. reply.outcome
+            ≡ (compiled (record {
+              functions = record { answer = H.answer; after = H.after };
+              read = R.reads;
+              body = E.body;
+            }) self.old.folder paths.now entry.now (H.state hosts.old)).outcome) }
+        ensures hosts { OnOk result (H.state hosts.new
+            ≡ (compiled (record {
+              functions = record { answer = H.answer; after = H.after };
+              read = R.reads;
+              body = E.body;
+            }) self.old.folder paths.now entry.now (H.state hosts.old)).hosts) }
+        ensures ran { IfOk result (λ reply. Ran (table_of self.old.kept entry.now)
+            (compiled (record {
+              functions = record { answer = H.answer; after = H.after };
+              read = R.reads;
+              body = E.body;
+            }) self.old.folder paths.now entry.now (H.state hosts.old)).runs reply.ran) }
         ensures told { IfOk result (λ reply. E.ran engine.new ≡ E.ran engine.old ++ paths_of reply.ran) }
         ensures grew { OnErr result (RanMore (E.ran engine.old) (E.ran engine.new)) }
-        ensures kept { OnOk result (self.new.kept ≡ kept_after self.old.kept entry.now (compiled (record { functions = record { answer = H.answer; after = H.after }; read = R.reads; body = E.body }) self.old.folder paths.now entry.now (H.state hosts.old)).runs) }
+        ensures kept { OnOk result (self.new.kept
+            ≡ kept_after self.old.kept entry.now
+            (compiled (record {
+              functions = record { answer = H.answer; after = H.after };
+              read = R.reads;
+              body = E.body;
+            }) self.old.folder paths.now entry.now (H.state hosts.old)).runs) }
         ensures folder { self.new.folder ≡ self.old.folder }
         ensures unchanged { OnErr result (self.new ≡ self.old) }
     {
@@ -118,7 +148,8 @@ impl<R: Reader, E: Engine> Keeper<R, E> {
     }
 }
 
-/// Keeps the runs of a compile of an entry, in which these bodies ran. Where none did, all are kept already. After `Memory` the tables are as before.
+/// Keeps the runs of a compile of an entry, in which these bodies ran. Where none did, all are kept already. After
+/// `Memory` the tables are as before.
 #[tactic(auto, using(crate::proofs::Tables::kept_some))]
 fn keep_runs<R: Reader, E: Engine>(
     alloc: Global,
@@ -186,7 +217,8 @@ fn compile_folder<R: Reader, E: Engine, H: Hosts>(
     engine: &mut E,
     hosts: &mut H,
 ) -> Result<Compiled<R, E>, Memory>
-    ensures did { IfOk result (λ given. IsCompiled (compiled (setting_of H.answer H.after R.reads E.body) folder.now paths.now entry.now (H.state hosts.old))
+    ensures did { IfOk result (λ given. IsCompiled
+        (compiled (setting_of H.answer H.after R.reads E.body) folder.now paths.now entry.now (H.state hosts.old))
         kept.now given.reply given.runs (H.state hosts.new) (E.ran engine.old) (E.ran engine.new)) }
     ensures grew { OnErr result (RanMore (E.ran engine.old) (E.ran engine.new)) }
 {

@@ -105,7 +105,8 @@ impl<R: Reader, E: Engine> KeptRuns<R, E> {
         self.table.get(path)
     }
 
-    /// The kept runs after these, of which those that ended well take the places of the kept ones of their modules. All are shared in constant time.
+    /// The kept runs after these, of which those that ended well take the places of the kept ones of their modules. All
+    /// are shared in constant time.
     pub(crate) fn with(
         &self,
         alloc: Global,
@@ -137,7 +138,8 @@ fn share_entry<R: Reader, E: Engine>(
     old: &Table<KeptRun<R, E>>,
     place: usize,
 ) -> Result<(), Memory>
-    ensures { OnOk result ((entry : List ℕ × bodies.Run) → slice_get old.now place ≡ Some entry → table.new ≡ insert_entry bytes_eq table.old entry.0 entry.1) }
+    ensures { OnOk result ((entry : List ℕ × bodies.Run) → slice_get old.now place ≡ Some entry
+        → table.new ≡ insert_entry bytes_eq table.old entry.0 entry.1) }
 {
     match old.at(place) {
         Some((path, kept)) => {

@@ -1,4 +1,5 @@
-//! A folder and its compiles, with any engine and any host. Edits and requests to compile flow in, messages and CSS or a fault flow out.
+//! A folder and its compiles, with any engine and any host. Edits and requests to compile flow in, messages and CSS or
+//! a fault flow out.
 #![tactic(auto)]
 
 mod departure;

@@ -21,13 +21,17 @@ fn go_asked<R: Reader, E: Engine, H: Hosts>(
 ) -> Result<Turn, Memory>
     requires runs { (E.progress body.old).status ≡ Running }
     requires is_body { IsBody E.body (E.progress body.old) }
-    ensures went { IfOk result (λ _. WentOn (setting_of H.answer H.after R.reads E.body) (E.progress body.old) (E.progress body.new)
-        (record { live = asked.old.live.now; hosts = H.state asked.old.hosts.now }) (record { live = asked.new.live.now; hosts = H.state asked.new.hosts.now })) }
+    ensures went { IfOk result (λ _. WentOn (setting_of H.answer H.after R.reads E.body) (E.progress body.old)
+        (E.progress body.new)
+        (record { live = asked.old.live.now; hosts = H.state asked.old.hosts.now })
+        (record { live = asked.new.live.now; hosts = H.state asked.new.hosts.now })) }
     ensures same_live { IfOk result (λ _. asked.new.live.ghost_name ≡ asked.old.live.ghost_name) }
     ensures same_hosts { IfOk result (λ _. asked.new.hosts.ghost_name ≡ asked.old.hosts.ghost_name) }
     ensures is_body { IsBody E.body (E.progress body.new) }
-    ensures stopped { IfOk result (λ turn. ((E.progress body.new).status ≡ stops turn) × ((E.progress body.new).left ≡ [])) }
-    ensures ran { IfOk result (λ turn. E.ran engine.new ≡ E.ran engine.old ++ ran_by turn (E.progress body.new).job.path) }
+    ensures stopped { IfOk result (λ turn. ((E.progress body.new).status ≡ stops turn)
+        × ((E.progress body.new).left ≡ [])) }
+    ensures ran { IfOk result (λ turn. E.ran engine.new
+        ≡ E.ran engine.old ++ ran_by turn (E.progress body.new).job.path) }
     ensures grew { OnErr result (RanMore (E.ran engine.old) (E.ran engine.new)) }
 {
     let turn = engine.go(alloc, body, asked)?;
@@ -45,12 +49,16 @@ pub(crate) fn go_outside<R: Reader, E: Engine, H: Hosts>(
 ) -> Result<Turn, Memory>
     requires runs { (E.progress body.old).status ≡ Running }
     requires is_body { IsBody E.body (E.progress body.old) }
-    ensures went { IfOk result (λ _. WentOn (setting_of H.answer H.after R.reads E.body) (E.progress body.old) (E.progress body.new)
-        (record { live = live.old; hosts = H.state hosts.old }) (record { live = live.new; hosts = H.state hosts.new })) }
+    ensures went { IfOk result (λ _. WentOn (setting_of H.answer H.after R.reads E.body) (E.progress body.old)
+        (E.progress body.new)
+        (record { live = live.old; hosts = H.state hosts.old })
+        (record { live = live.new; hosts = H.state hosts.new })) }
     ensures depth { IfOk result (λ _. length live.new.opened ≡ length live.old.opened) }
     ensures is_body { IsBody E.body (E.progress body.new) }
-    ensures stopped { IfOk result (λ turn. ((E.progress body.new).status ≡ stops turn) × ((E.progress body.new).left ≡ [])) }
-    ensures ran { IfOk result (λ turn. E.ran engine.new ≡ E.ran engine.old ++ ran_by turn (E.progress body.new).job.path) }
+    ensures stopped { IfOk result (λ turn. ((E.progress body.new).status ≡ stops turn)
+        × ((E.progress body.new).left ≡ [])) }
+    ensures ran { IfOk result (λ turn. E.ran engine.new
+        ≡ E.ran engine.old ++ ran_by turn (E.progress body.new).job.path) }
     ensures grew { OnErr result (RanMore (E.ran engine.old) (E.ran engine.new)) }
 {
     let mut asked = Asked { live, hosts };
@@ -68,7 +76,8 @@ fn replay_asked<R: Reader, E: Engine, H: Hosts>(
 ) -> Result<Replayed, Memory>
     requires { from ≤ length run.now.run.seen }
     ensures to { IfOk result (λ replayed. AskedTo (setting_of H.answer H.after R.reads E.body) run.now from replayed
-        (record { live = asked.old.live.now; hosts = H.state asked.old.hosts.now }) (record { live = asked.new.live.now; hosts = H.state asked.new.hosts.now })) }
+        (record { live = asked.old.live.now; hosts = H.state asked.old.hosts.now })
+        (record { live = asked.new.live.now; hosts = H.state asked.new.hosts.now })) }
     ensures same_live { IfOk result (λ _. asked.new.live.ghost_name ≡ asked.old.live.ghost_name) }
     ensures same_hosts { IfOk result (λ _. asked.new.hosts.ghost_name ≡ asked.old.hosts.ghost_name) }
 {
@@ -88,7 +97,8 @@ pub(crate) fn replay_outside<R: Reader, E: Engine, H: Hosts>(
 ) -> Result<Replayed, Memory>
     requires { from ≤ length run.now.run.seen }
     ensures to { IfOk result (λ replayed. AskedTo (setting_of H.answer H.after R.reads E.body) run.now from replayed
-        (record { live = live.old; hosts = H.state hosts.old }) (record { live = live.new; hosts = H.state hosts.new })) }
+        (record { live = live.old; hosts = H.state hosts.old })
+        (record { live = live.new; hosts = H.state hosts.new })) }
     ensures depth { IfOk result (λ _. length live.new.opened ≡ length live.old.opened) }
 {
     let mut asked = Asked { live, hosts };

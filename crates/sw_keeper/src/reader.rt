@@ -8,7 +8,8 @@ use std::alloc::Global;
 use sw_text::{Fault, Memory, Name, Shared};
 use sw_tree::Sheet;
 
-/// What makes a sheet of a text. `reads` says which sheet or which fault a text at a path gives, the same for all values of the type.
+/// What makes a sheet of a text. `reads` says which sheet or which fault a text at a path gives, the same for all
+/// values of the type.
 pub trait Reader {
     ghost reads: { List ℕ → List ℕ → Result Sheet Fault };
 

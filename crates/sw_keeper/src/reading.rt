@@ -19,7 +19,8 @@ pub(crate) fn same_run<'k, R: Reader, E: Engine>(
     text: &Name,
     config: &Config,
 ) -> Option<&'k KeptRun<R, E>>
-    ensures { MatchOption result (NoneSame kept.now path.now text.now config.now) (λ one. IsSame kept.now path.now text.now config.now one.now) }
+    ensures { MatchOption result (NoneSame kept.now path.now text.now config.now)
+        (λ one. IsSame kept.now path.now text.now config.now one.now) }
 {
     let Some(one) = kept.get(path) else {
         return None;

@@ -22,8 +22,14 @@ pub(crate) fn run_ended<E: Engine>(
     end: End,
 ) -> Result<Run<E>, Memory>
     requires goes { Goes (E.body (record { sheet = sheet.now; config = config.now; path = path.now })) [] seen }
-    requires ends { E.body (record { sheet = sheet.now; config = config.now; path = path.now }) (answers seen) ≡ Ends end }
-    ensures { IfOk result (λ run. run ≡ record { sheet = sheet.now; run = record { path = path.now; text = text.now; config = config.now; seen = seen; end = end } }) }
+    requires ends { E.body (record { sheet = sheet.now; config = config.now; path = path.now }) (answers seen)
+        ≡ Ends end }
+    ensures { IfOk result (λ run. run
+        ≡ record {
+          sheet = sheet.now;
+          run =
+              record { path = path.now; text = text.now; config = config.now; seen = seen; end = end };
+        }) }
 {
     let path = path.share()?;
     let text = text.share()?;
@@ -33,7 +39,8 @@ pub(crate) fn run_ended<E: Engine>(
     Run::new(alloc, path, text, sheet, config, seen, end)
 }
 
-/// The runs that ended in a compile, kept ones and new ones, and the modules whose bodies ran, each with its cause; both in the order in which the bodies ended.
+/// The runs that ended in a compile, kept ones and new ones, and the modules whose bodies ran, each with its cause;
+/// both in the order in which the bodies ended.
 #[derive(Drop)]
 pub(crate) struct Results<R: Reader, E: Engine> {
     runs: List<KeptRun<R, E>>,

@@ -58,7 +58,8 @@ plainly p = record { answer = p.0; outside = p.1; runs = [] }
 
 -- the answer to a question; the modules that a load opens are evaluated by inner
 abbrev pub responds : Functions → Evaluation → Op → Outside → Response
-responds functions inner (Load site url span how config) o = load_response inner (Load site url span how config) (begun (Load site url span how config) o.live) o
+responds functions inner (Load site url span how config) o =
+    load_response inner (Load site url span how config) (begun (Load site url span how config) o.live) o
 responds functions inner (Find site space kind name) o = plainly (plain functions (Find site space kind name) o)
 responds functions inner (Get owner name) o = plainly (plain functions (Get owner name) o)
 responds functions inner (Put owner name value) o = plainly (plain functions (Put owner name value) o)
@@ -68,23 +69,35 @@ responds functions inner (Call name args) o = plainly (plain functions (Call nam
 -- a body has ended, with these pairs and runs behind it
 abbrev pub ended : Job → List ℕ → List Pair → List Run → Outside → End → Outcome
 ended job text pairs runs o end =
-    record { outside = o; runs = runs ++ (record { path = job.path; text = text; config = job.config; seen = pairs; end = end }) ∷ []; end = end }
+    record {
+      outside = o;
+      runs =
+          runs ++ (record { path = job.path; text = text; config = job.config; seen = pairs; end = end }) ∷ [];
+      end = end;
+    }
 
 -- one turn, by what the body does next and by the rest of the evaluation
-abbrev pub turn : Functions → Evaluation → (List Pair → List Run → Outside → Outcome) → Job → List ℕ → List Pair → List Run → Outside → Next → Outcome
+abbrev pub turn : Functions → Evaluation → (List Pair → List Run → Outside → Outcome) → Job → List ℕ → List Pair
+    → List Run → Outside → Next → Outcome
 turn functions inner rest job text pairs runs o (Ends end) = ended job text pairs runs o end
 turn functions inner rest job text pairs runs o (Asks op) =
     let r = responds functions inner op o in rest (pairs ++ (op, r.answer) ∷ []) (runs ++ r.runs) r.outside
 
 -- how a body would end that asks more than every body does
 abbrev pub overrun : List ℕ → End
-overrun path = Fault_end (record { code = Turns; span = record { file = path; from = record { line = 1; column = 1 }; to = record { line = 1; column = 1 } } })
+overrun path =
+    Fault_end (record {
+      code = Turns;
+      span =
+          record { file = path; from = record { line = 1; column = 1 }; to = record { line = 1; column = 1 } };
+    })
 
 -- the rest of an evaluation: a body that has these pairs and runs behind it, and at most so many turns left
 unfoldable pub goes_on : Setting → Evaluation → Job → List ℕ → ℕ → List Pair → List Run → Outside → Outcome
 goes_on setting inner job text zero pairs runs o = ended job text pairs runs o (overrun job.path)
 goes_on setting inner job text (suc more) pairs runs o =
-    turn setting.functions inner (goes_on setting inner job text more) job text pairs runs o (setting.body job (answers pairs))
+    turn setting.functions inner (goes_on setting inner job text more) job text pairs runs o
+    (setting.body job (answers pairs))
 
 -- a text that isn't read ends at once with its fault
 abbrev pub evaluated_by : (Sheet → Outcome) → Outside → Result Sheet Fault → Outcome
@@ -95,7 +108,9 @@ evaluated_by evaluate o (Err fault) = record { outside = o; runs = []; end = Fau
 unfoldable pub fresh : Setting → ℕ → Evaluation
 fresh setting zero = λ o path text config. record { outside = o; runs = []; end = overrun path }
 fresh setting (suc depth) = λ o path text config.
-    evaluated_by (λ sheet. goes_on setting (fresh setting depth) (record { sheet = sheet; config = config; path = path }) text (suc most_asked) [] [] o) o (setting.read path text)
+    evaluated_by (λ sheet. goes_on setting (fresh setting depth)
+    (record { sheet = sheet; config = config; path = path }) text (suc most_asked) [] [] o) o
+    (setting.read path text)
 
 -- how many loads may still be opened
 abbrev pub room : State → ℕ
@@ -103,9 +118,11 @@ room s = 64 - length s.opened
 
 -- the rest of the evaluation of a module whose path is open, where its body has these pairs behind it
 abbrev pub rest_of : Setting → Job → List ℕ → List Pair → List Run → Outside → Outcome
-rest_of setting job text pairs runs o = goes_on setting (fresh setting (room o.live)) job text (suc most_asked - length pairs) pairs runs o
+rest_of setting job text pairs runs o =
+    goes_on setting (fresh setting (room o.live)) job text (suc most_asked - length pairs) pairs runs o
 
 -- the evaluation of a module whose path is open
 abbrev pub from_open : Setting → Outside → List ℕ → List ℕ → List (List ℕ × Plain) → Outcome
 from_open setting o path text config =
-    evaluated_by (λ sheet. rest_of setting (record { sheet = sheet; config = config; path = path }) text [] [] o) o (setting.read path text)
+    evaluated_by (λ sheet. rest_of setting (record { sheet = sheet; config = config; path = path }) text [] [] o) o
+    (setting.read path text)

@@ -1,4 +1,5 @@
--- What a load comes to: the refusals in their order, an answer at once, or a module whose body has to run (the Sass specification's modules; the limit of open loads is this project's own).
+-- What a load comes to: the refusals in their order, an answer at once, or a module whose body has to run (the Sass
+-- specification's modules; the limit of open loads is this project's own).
 use Rattle.std.specs.Prelude.{◌≡◌, ◌<◌, ◌≤◌, ℕ, ◌&&◌, not, nat_le, List, [], length, map, find, bytes_eq, Option, None, Some, Result, Ok, Err, is_some, if◌then◌else◌, Bool}
 use Rattle.std.specs.List.{list_any}
 use Rattle.std.specs.Map.{lookup}
@@ -59,7 +60,8 @@ abbrev pub at_once : Answer × State → Begin × State
 at_once (answer, s) = (Answered answer, s)
 
 abbrev pub begin_module : Option Module → Option (List ℕ) → List ℕ → Span → How → List Given → State → Begin × State
-begin_module (Some held) text path span how config s = if is_explicit config then (Answered (refused AlreadyLoaded span), s) else at_once (used_as how path [] span s)
+begin_module (Some held) text path span how config s =
+    if is_explicit config then (Answered (refused AlreadyLoaded span), s) else at_once (used_as how path [] span s)
 begin_module None None path span how config s = (Answered (refused NotFound span), s)
 begin_module None (Some text) path span how config s = (Open path text (config_of config), open_at path s)
 
@@ -87,7 +89,8 @@ used_unless (Some given) how path taken span s = (refused NotConfigurable given.
 
 -- the answer to the load whose body has ended so, and the next state
 abbrev pub ended_by : Op → List ℕ → End → State → Answer × State
-ended_by (Load site url span how config) path (Done_end finish) s = used_unless (first_untaken config finish.taken) how path finish.taken span (loaded_now finish s)
+ended_by (Load site url span how config) path (Done_end finish) s =
+    used_unless (first_untaken config finish.taken) how path finish.taken span (loaded_now finish s)
 ended_by _ path (Done_end finish) s = (Done, loaded_now finish s)
 ended_by _ path (Fault_end fault) s = (Refused fault, closed s)
 
@@ -101,7 +104,12 @@ abbrev pub entry_text : Files → List ℕ → Option (List ℕ)
 entry_text files entry = if is_path entry && has_extension entry then get files entry else None
 
 abbrev pub entry_fault : List ℕ → Enter
-entry_fault entry = Refused_entry (record { code = NotFound; span = record { file = entry; from = record { line = 1; column = 1 }; to = record { line = 1; column = 1 } } })
+entry_fault entry =
+    Refused_entry (record {
+      code = NotFound;
+      span =
+          record { file = entry; from = record { line = 1; column = 1 }; to = record { line = 1; column = 1 } };
+    })
 
 abbrev pub entered : List ℕ → Option (List ℕ) → State → Enter × State
 entered entry None s = (entry_fault entry, s)
@@ -113,7 +121,8 @@ AnswersLoad (Loaded path taken) = Unit {0}
 AnswersLoad (Refused fault) = Unit {0}
 AnswersLoad _ = ⊥
 
--- an answer leaves as many loads open as there were; a module opens one more, within the limit, and its text is a file's
+-- an answer leaves as many loads open as there were; a module opens one more, within the limit, and its text is a
+-- file's
 abbrev pub IsBegun : Begin → State → State → Type 0
 IsBegun (Answered answer) s t = AnswersLoad answer × (length t.opened ≡ length s.opened)
 IsBegun (Open path text config) s t = (length s.opened < 64) × (t ≡ open_at path s) × (length text ≤ most_bytes)

@@ -1,4 +1,5 @@
--- What a name means in a module (the Sass specification's modules; sheets have variables alone so far, and each use has a namespace).
+-- What a name means in a module (the Sass specification's modules; sheets have variables alone so far, and each use has
+-- a namespace).
 use Rattle.std.specs.Prelude.{ℕ, ◌==◌, ◌||◌, List, [], ◌∷◌, bytes_eq, Option, None, Some, is_some, if◌then◌else◌, Bool, false}
 use Rattle.std.specs.Option.{option_map_or}
 use Rattle.std.specs.Map.{lookup}
@@ -19,7 +20,8 @@ is_private (first ∷ more) = first == 45 || first == 95
 -- the module at a path has this variable
 abbrev pub variable_of : List ℕ → List ℕ → Option Module → Answer
 variable_of path name None = NoMember
-variable_of path name (Some held) = if is_some (lookup (bytes_eq name) held.variables) then Owner path name else NoMember
+variable_of path name (Some held) =
+    if is_some (lookup (bytes_eq name) held.variables) then Owner path name else NoMember
 
 abbrev pub member_of : State → Kind → List ℕ → List ℕ → Answer
 member_of s Variable name path = variable_of path name (lookup (bytes_eq path) s.loaded)
@@ -55,4 +57,5 @@ no_value = Text [] false
 -- the value of a module's variable
 abbrev pub value_of : State → List ℕ → List ℕ → Plain
 value_of s owner name =
-    option_map_or (λ held. option_map_or (λ value. value) (lookup (bytes_eq name) held.variables) no_value) (lookup (bytes_eq owner) s.loaded) no_value
+    option_map_or (λ held. option_map_or (λ value. value) (lookup (bytes_eq name) held.variables) no_value)
+    (lookup (bytes_eq owner) s.loaded) no_value

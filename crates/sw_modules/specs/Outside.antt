@@ -23,7 +23,15 @@ pub record Outside : Type 0 where
 abbrev pub plain : Functions → Op → Outside → Answer × Outside
 plain functions (Find site space kind name) o = (found o.live site space kind name, o)
 plain functions (Get owner name) o = (Value (value_of o.live owner name), o)
-plain functions (Put owner name value) o = (Done, record o { live = record o.live { loaded = with_variable o.live.loaded owner name value } })
-plain functions (Say kind span text) o = (Done, record o { live = record o.live { says = o.live.says ++ (record { kind = kind; span = span; text = text }) ∷ [] } })
-plain functions (Call name args) o = (Hosted (functions.answer o.hosts name args), record o { hosts = functions.after o.hosts name args })
+plain functions (Put owner name value) o =
+    (Done, record o { live = record o.live { loaded = with_variable o.live.loaded owner name value } })
+plain functions (Say kind span text) o = (
+  Done,
+  record o {
+    live =
+        record o.live { says = o.live.says ++ (record { kind = kind; span = span; text = text }) ∷ [] };
+  },
+)
+plain functions (Call name args) o =
+    (Hosted (functions.answer o.hosts name args), record o { hosts = functions.after o.hosts name args })
 plain functions (Load site url span how config) o = (Done, o)

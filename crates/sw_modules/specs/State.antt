@@ -11,8 +11,8 @@ use Rattle.sw_world.specs.declared.end.Finish.{Finish}
 use Rattle.sw_modules.specs.declared.module.Module.{Module}
 use Rattle.sw_modules.specs.declared.module.Opened.{Opened}
 
--- the folder and the load paths; the loaded modules by their paths, in the order in which their bodies ended; the open loads, the innermost one last;
--- the messages; the outputs of the modules whose bodies ended, in that order
+-- the folder and the load paths; the loaded modules by their paths, in the order in which their bodies ended; the open
+-- loads, the innermost one last; the messages; the outputs of the modules whose bodies ended, in that order
 pub record State : Type 0 where
   pub folder : Files
   pub paths : List (List ℕ)
@@ -42,7 +42,8 @@ uses_in opened = option_map_or (λ load. load.uses) (last_open opened) []
 -- the innermost open load uses the module at a path under a namespace
 abbrev pub with_use : List ℕ → List ℕ → List Opened → List Opened
 with_use space path opened =
-    option_map_or (λ load. slice_set opened (length opened - 1) (record load { uses = insert_entry bytes_eq load.uses space path })) (last_open opened) opened
+    option_map_or (λ load. slice_set opened (length opened - 1)
+    (record load { uses = insert_entry bytes_eq load.uses space path })) (last_open opened) opened
 
 -- the innermost load is open no more
 abbrev pub closed : State → State
@@ -63,4 +64,6 @@ loaded_now finish s = record s {
 -- the variable of a module has a value
 abbrev pub with_variable : List (List ℕ × Module) → List ℕ → List ℕ → Plain → List (List ℕ × Module)
 with_variable loaded owner name value =
-    option_map_or (λ held. set_value (bytes_eq owner) loaded (record held { variables = set_value (bytes_eq name) held.variables value })) (lookup (bytes_eq owner) loaded) loaded
+    option_map_or (λ held. set_value (bytes_eq owner) loaded
+    (record held { variables = set_value (bytes_eq name) held.variables value })) (lookup (bytes_eq owner) loaded)
+    loaded

@@ -22,7 +22,8 @@ impl<'a> Live<'a> {
     /// The answer to a question that is no load. After `Memory` the state and the host are as before.
     pub fn answer<H: Hosts>(&mut self, op: &Op, hosts: &mut H) -> Result<Answer, Memory>
         requires { IsLoad op.now → ⊥ }
-        ensures plain { IfOk result (λ answer. plain (record { answer = H.answer; after = H.after }) op.now (record { live = self.old; hosts = H.state hosts.old })
+        ensures plain { IfOk result (λ answer. plain (record { answer = H.answer; after = H.after }) op.now
+            (record { live = self.old; hosts = H.state hosts.old })
             ≡ (answer, record { live = self.new; hosts = H.state hosts.new })) }
         ensures fits { IfOk result (λ answer. Fits op.now answer) }
         ensures err { OnErr result (self.new ≡ self.old) }
@@ -74,7 +75,8 @@ impl<'a> Live<'a> {
     }
 
     fn used_now(&self, space: &Option<Name>, kind: Kind, name: &Name) -> Result<Answer, Memory>
-        ensures { IfOk result (λ answer. answer ≡ used_member self.now (uses_in self.now.opened) space.now kind name.now) }
+        ensures { IfOk result (λ answer. answer
+            ≡ used_member self.now (uses_in self.now.opened) space.now kind name.now) }
     {
         match space {
             None => Ok(Answer::NoMember),
@@ -145,8 +147,10 @@ impl<'b, 'a, H: Hosts> World for Asked<'b, 'a, H> {
     ghost use Rattle.sw_modules.specs.Outside.{plain};
 
     // the same borrows, at what is outside next
-    ghost gives = { λ w op answer t. (plain (record { answer = H.answer; after = H.after }) op (record { live = w.live.now; hosts = H.state w.hosts.now })
-        ≡ (answer, record { live = t.live.now; hosts = H.state t.hosts.now })) × (t.live.ghost_name ≡ w.live.ghost_name) × (t.hosts.ghost_name ≡ w.hosts.ghost_name) };
+    ghost gives = { λ w op answer t. (plain (record { answer = H.answer; after = H.after }) op
+        (record { live = w.live.now; hosts = H.state w.hosts.now })
+        ≡ (answer, record { live = t.live.now; hosts = H.state t.hosts.now })) × (t.live.ghost_name ≡ w.live.ghost_name)
+        × (t.hosts.ghost_name ≡ w.hosts.ghost_name) };
 
     fn ask(&mut self, _alloc: Global, op: &Op) -> Result<Answer, Memory> {
         self.live.answer(op, self.hosts)

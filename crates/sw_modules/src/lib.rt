@@ -1,4 +1,5 @@
-//! What is outside the bodies of one compile: which module a load opens or answers, what a name means, what variables hold. Questions come up from the engine; the folder is read, answers go down.
+//! What is outside the bodies of one compile: which module a load opens or answers, what a name means, what variables
+//! hold. Questions come up from the engine; the folder is read, answers go down.
 #![tactic(auto)]
 
 mod ask;

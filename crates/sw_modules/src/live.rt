@@ -42,7 +42,8 @@ pub enum Enter {
     Open { path: Name, text: Name },
 }
 
-/// What a compile leaves behind: its messages in order, and the outputs of its modules in the order in which their bodies ended.
+/// What a compile leaves behind: its messages in order, and the outputs of its modules in the order in which their
+/// bodies ended.
 #[derive(Drop)]
 pub struct Finished {
     pub says: List<Saying>,
@@ -72,7 +73,14 @@ impl<'a> Model for Live<'a> {
 
     ghost coded = { Prim.hlevel (codes, files_code, statement.the_row.coded, plain.the_row.coded) };
 
-    ghost view = { λ live. record { folder = live.folder.now; paths = live.paths.now; loaded = live.loaded; opened = live.opened.items; says = live.says; outputs = live.outputs } };
+    ghost view = { λ live. record {
+      folder = live.folder.now;
+      paths = live.paths.now;
+      loaded = live.loaded;
+      opened = live.opened.items;
+      says = live.says;
+      outputs = live.outputs;
+    } };
 }
 
 impl<'a> Live<'a> {
@@ -111,10 +119,12 @@ impl<'a> Live<'a> {
         Finished { says, outputs }
     }
 
-    /// Opens the entry, or refuses it at its begin where it is no sheet of the folder. After `Memory` the state is as before.
+    /// Opens the entry, or refuses it at its begin where it is no sheet of the folder. After `Memory` the state is as
+    /// before.
     pub fn enter(&mut self, entry: &Name) -> Result<Enter, Memory>
         ensures opens { IfOk result (λ enter. IsEntered enter self.old self.new) }
-        ensures ok { IfOk result (λ enter. entered entry.now (entry_text self.old.folder entry.now) self.old ≡ (enter, self.new)) }
+        ensures ok { IfOk result (λ enter. entered entry.now (entry_text self.old.folder entry.now) self.old
+            ≡ (enter, self.new)) }
         ensures err { OnErr result (self.new ≡ self.old) }
     {
         match self.entry_text(entry) {
@@ -143,7 +153,9 @@ impl<'a> Live<'a> {
         }
     }
 
-    /// The answer to a load, or the module whose body has to run for it. The refusals come in this order: the URL means no file or several; the module is being loaded; 64 loads are open; the module is loaded and a `with` gives values to it; its namespace stands for another module. After `Memory` the state is as before.
+    /// The answer to a load, or the module whose body has to run for it. The refusals come in this order: the URL means
+    /// no file or several; the module is being loaded; 64 loads are open; the module is loaded and a `with` gives
+    /// values to it; its namespace stands for another module. After `Memory` the state is as before.
     pub fn begin(&mut self, op: &Op) -> Result<Begin, Memory>
         requires { IsLoad op.now }
         ensures ok { IfOk result (λ begin. begun op.now self.old ≡ (begin, self.new)) }
@@ -200,7 +212,9 @@ impl<'a> Live<'a> {
         how: &How,
         config: &[Given],
     ) -> Result<Answer, Memory>
-        ensures ok { IfOk result (λ answer. (if is_explicit config.now then (refused FaultCode.AlreadyLoaded span.now, self.old) else used_as how.now path [] span.now self.old) ≡ (answer, self.new)) }
+        ensures ok { IfOk result (λ answer.
+            (if is_explicit config.now then (refused FaultCode.AlreadyLoaded span.now, self.old)
+            else used_as how.now path [] span.now self.old) ≡ (answer, self.new)) }
         ensures kind { IfOk result AnswersLoad }
         ensures same_depth { length self.new.opened ≡ length self.old.opened }
         ensures err { OnErr result (self.new ≡ self.old) }
@@ -215,7 +229,8 @@ impl<'a> Live<'a> {
     fn begin_new(&mut self, path: Name, span: &Span, config: &[Given]) -> Result<Begin, Memory>
         requires { length self.old.opened < 64 }
         ensures opens { IfOk result (λ begin. IsBegun begin self.old self.new) }
-        ensures ok { IfOk result (λ begin. (how : How) → begin_module None (get self.old.folder path) path span.now how config.now self.old ≡ (begin, self.new)) }
+        ensures ok { IfOk result (λ begin. (how : How)
+            → begin_module None (get self.old.folder path) path span.now how config.now self.old ≡ (begin, self.new)) }
         ensures err { OnErr result (self.new ≡ self.old) }
     {
         match self.folder.text(path.as_str()) {
@@ -259,7 +274,8 @@ impl<'a> Live<'a> {
         taken: Shared<List<Name>>,
         span: &Span,
     ) -> Result<Answer, Memory>
-        ensures ok { IfOk result (λ answer. used_as (How.Use (Some space.now)) path taken span.now self.old ≡ (answer, self.new)) }
+        ensures ok { IfOk result (λ answer. used_as (How.Use (Some space.now)) path taken span.now self.old
+            ≡ (answer, self.new)) }
         ensures kind { IfOk result AnswersLoad }
         ensures same_depth { length self.new.opened ≡ length self.old.opened }
         ensures err { OnErr result (self.new ≡ self.old) }
@@ -275,11 +291,14 @@ impl<'a> Live<'a> {
         Ok(answer)
     }
 
-    /// The answer to the innermost open load, whose body ended so. At its end the module is recorded and used; a name of a `with` that it didn't take, or a namespace that stands for another module, refuses the load. After `Memory` the state is not to be used any more.
+    /// The answer to the innermost open load, whose body ended so. At its end the module is recorded and used; a name
+    /// of a `with` that it didn't take, or a namespace that stands for another module, refuses the load. After `Memory`
+    /// the state is not to be used any more.
     pub fn end(&mut self, op: &Op, end: &End) -> Result<Answer, Memory>
         requires is_load { IsLoad op.now }
         requires is_open { 0 < length self.old.opened }
-        ensures ok { IfOk result (λ answer. ended_by op.now (path_in self.old.opened) end.now self.old ≡ (answer, self.new)) }
+        ensures ok { IfOk result (λ answer. ended_by op.now (path_in self.old.opened) end.now self.old
+            ≡ (answer, self.new)) }
         ensures kind { IfOk result AnswersLoad }
         ensures closes { OnOk result (length self.new.opened + 1 ≡ length self.old.opened) }
     {
@@ -319,7 +338,8 @@ impl<'a> Live<'a> {
         taken: &List<Name>,
         span: &Span,
     ) -> Result<Answer, Memory>
-        ensures ok { IfOk result (λ answer. used_unless (first_untaken config.now taken.now) how.now path taken.now span.now self.old ≡ (answer, self.new)) }
+        ensures ok { IfOk result (λ answer. used_unless (first_untaken config.now taken.now) how.now path taken.now
+            span.now self.old ≡ (answer, self.new)) }
         ensures kind { IfOk result AnswersLoad }
         ensures same_depth { length self.new.opened ≡ length self.old.opened }
     {
@@ -332,7 +352,8 @@ impl<'a> Live<'a> {
         }
     }
 
-    /// Closes the entry, whose body ended so; at its end the module is recorded. After `Memory` the state is not to be used any more.
+    /// Closes the entry, whose body ended so; at its end the module is recorded. After `Memory` the state is not to be
+    /// used any more.
     pub fn leave(&mut self, end: &End) -> Result<(), Memory>
         requires { 0 < length self.old.opened }
         ensures { OnOk result (self.new ≡ left_by end.now self.old) }
@@ -367,7 +388,8 @@ impl<'a> Live<'a> {
 
     /// Gives a module's variable a value. After `Memory` the state is as before.
     pub(crate) fn put(&mut self, owner: &Name, name: &Name, value: &Value) -> Result<(), Memory>
-        ensures ok { OnOk result (self.new ≡ record self.old { loaded = with_variable self.old.loaded owner.now name.now value.now }) }
+        ensures ok { OnOk result (self.new
+            ≡ record self.old { loaded = with_variable self.old.loaded owner.now name.now value.now }) }
         ensures err { OnErr result (self.new ≡ self.old) }
     {
         let value = value.share()?;
@@ -376,7 +398,11 @@ impl<'a> Live<'a> {
 
     /// Adds a message. After `Memory` the state is as before.
     pub(crate) fn say(&mut self, kind: SayKind, span: &Span, text: &Name) -> Result<(), Memory>
-        ensures ok { OnOk result (self.new ≡ record self.old { says = self.old.says ++ (record { kind = kind; span = span.now; text = text.now }) ∷ [] }) }
+        ensures ok { OnOk result (self.new
+            ≡ record self.old {
+              says =
+                  self.old.says ++ (record { kind = kind; span = span.now; text = text.now }) ∷ [];
+            }) }
         ensures err { OnErr result (self.new ≡ self.old) }
     {
         self.says.push(Saying {

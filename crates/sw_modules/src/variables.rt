@@ -9,7 +9,8 @@ use sw_text::{Memory, Name, Shared};
 use sw_values::Value;
 use sw_world::{Finish, Table};
 
-/// The variables of a loaded module: those that its body left behind, shared with its run, until the first of them is given another value. Contracts see the names with their values.
+/// The variables of a loaded module: those that its body left behind, shared with its run, until the first of them is
+/// given another value. Contracts see the names with their values.
 #[derive(Drop)]
 pub struct Variables {
     finish: Shared<Finish>,
@@ -51,7 +52,8 @@ impl Variables {
         }
     }
 
-    /// Gives a name that is there a value; no other changes the variables. The first time it takes a table of its own. After `Memory` the variables are as before.
+    /// Gives a name that is there a value; no other changes the variables. The first time it takes a table of its own.
+    /// After `Memory` the variables are as before.
     pub fn set(&mut self, alloc: Global, name: &Name, value: Value) -> Result<(), Memory>
         ensures ok { OnOk result (self.new ≡ set_value (bytes_eq name.now) self.old value) }
         ensures err { OnErr result (self.new ≡ self.old) }

@@ -1,4 +1,5 @@
--- What operators make of values (the Sass specification on operators; where it leaves a choice, and for the faults, this project's own rules).
+-- What operators make of values (the Sass specification on operators; where it leaves a choice, and for the faults,
+-- this project's own rules).
 use Rattle.std.specs.Prelude.{ℕ, Bool, true, false, not, ◌&&◌, ◌||◌, if◌then◌else◌, List, [], codes, bytes_eq, neg_ℤ, Option, Some, None, is_some, Result, Ok, Err}
 use Rattle.std.specs.declared.cmp.Ordering.{Ordering}
 use Rattle.std.specs.Ordering.{is_lt, is_le, is_gt, is_ge}
@@ -129,7 +130,8 @@ takes_sides two.NotEqual = true
 
 -- the left side is made plain before the right one
 unfoldable pub binary : Op2 → Plain → Plain → Answer
-binary op a b = if takes_sides op then operation op a b else with (plain a) (λ x. with (plain b) (λ y. operation op x y))
+binary op a b =
+    if takes_sides op then operation op a b else with (plain a) (λ x. with (plain b) (λ y. operation op x y))
 
 -- a sign before a value's text
 abbrev pub headed : List ℕ → Plain → Answer

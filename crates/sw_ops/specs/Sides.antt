@@ -68,7 +68,8 @@ is_zero value = unsigned_abs value == 0
 -- a quotient over zero has no plain value
 abbrev pub plain_by : Number → Slash-F Slash Number → Result Number OpFault
 plain_by number Slash-F.Plain = Ok number
-plain_by number (Slash-F.Sides sides) = if is_zero sides.1.value then Err F.DivideByZero else Ok (without_sides number.units number.value)
+plain_by number (Slash-F.Sides sides) =
+    if is_zero sides.1.value then Err F.DivideByZero else Ok (without_sides number.units number.value)
 
 -- the number without the sides that a quotient keeps
 unfoldable pub plain_number : Number → Result Number OpFault
@@ -93,7 +94,8 @@ within value = if is_within value then Ok value else Err F.TooLarge
 
 -- what counts of it for everything but its text, with these sides
 abbrev pub sides_of : Number → Number → Number → Answer
-sides_of left right number = within (P.Number (record { value = number.value; units = number.units; slash = S.Sides (left, right) }))
+sides_of left right number =
+    within (P.Number (record { value = number.value; units = number.units; slash = S.Sides (left, right) }))
 
 abbrev pub zero : Number
 zero = without_sides (record { over = Empty; under = Empty }) (pos 0)
@@ -103,7 +105,8 @@ kept_of left right (Ok number) = sides_of left right number
 kept_of left right (Err fault) = Err (fault_of fault)
 
 abbrev pub kept_by : Number → Number → Result Number OpFault → Answer
-kept_by left right (Ok number) = if is_zero right.value then sides_of left right zero else kept_of left right (quotient number right)
+kept_by left right (Ok number) =
+    if is_zero right.value then sides_of left right zero else kept_of left right (quotient number right)
 kept_by left right (Err fault) = Err fault
 
 -- a quotient that keeps its two sides; over zero it counts as 0

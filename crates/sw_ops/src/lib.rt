@@ -1,4 +1,5 @@
-//! Operators: what `+`, `<`, `not` and the like make of values. The evaluator asks them; they ask values, numbers and colours.
+//! Operators: what `+`, `<`, `not` and the like make of values. The evaluator asks them; they ask values, numbers and
+//! colours.
 #![tactic(auto)]
 
 mod fault;

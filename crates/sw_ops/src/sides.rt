@@ -89,7 +89,8 @@ fn plain_number(number: &Number) -> Result<Number, OpFault>
     }
 }
 
-/// The value without the sides that a quotient keeps, as it is stored, passed to a function, returned or computed with; `DivideByZero` where that is a quotient over zero.
+/// The value without the sides that a quotient keeps, as it is stored, passed to a function, returned or computed with;
+/// `DivideByZero` where that is a quotient over zero.
 #[tactic(auto, unfolding(crate::specs::Sides::plain_number))]
 pub fn plain(value: &Value) -> Result<Value, OpFault>
     ensures { IsAnswer result (plain_value value.now) }
@@ -154,7 +155,8 @@ fn kept_of(alloc: Global, left: &Number, right: &Number, over: &Number) -> Resul
     }
 }
 
-/// The quotient of two literals, or of a chain of them and another, which keeps its two sides. Over zero it is no fault and counts as 0.
+/// The quotient of two literals, or of a chain of them and another, which keeps its two sides. Over zero it is no fault
+/// and counts as 0.
 #[tactic(auto, unfolding(crate::specs::Sides::kept_quotient))]
 pub fn kept_quotient(alloc: Global, left: &Number, right: &Number) -> Result<Value, OpFault>
     ensures { IsAnswer result (kept_value left.now right.now) }

@@ -15,21 +15,27 @@ more_next more Short = Short
 
 -- what a line begins stays as it is, whatever bytes follow, unless it is short
 abbrev pub Grows : {Event : Type 0} → Grammar Event → Type 0
-Grows grammar = (line rest more : List ℕ) → grammar.front line rest ≢ Short → grammar.front line (rest ++ more) ≡ more_next more (grammar.front line rest)
+Grows grammar =
+    (line rest more : List ℕ) → grammar.front line rest ≢ Short
+    → grammar.front line (rest ++ more) ≡ more_next more (grammar.front line rest)
 
--- what no fault and no want of memory breaks off ends exactly as the script of all these bytes calls for, and it has answered that script
+-- what no fault and no want of memory breaks off ends exactly as the script of all these bytes calls for, and it has
+-- answered that script
 abbrev pub EndsExactly : {Event : Type 0} → Grammar Event → ℕ → Stop → List ℕ → List ℕ → Type 0
 EndsExactly grammar most stop bytes taken =
-    IsBrokenOff stop ⊎ ((stop ≡ stop_at (script grammar most bytes).ending) × (script grammar most taken ≡ script grammar most bytes))
+    IsBrokenOff stop ⊎ ((stop ≡ stop_at (script grammar most bytes).ending)
+    × (script grammar most taken ≡ script grammar most bytes))
 
 -- the bytes written grew by the replies of these turns, the bodies that ran are theirs, and what they leave is held
-pub record GrewBy {Held Reply : Type 0} (done : List (Turn Held Reply)) (before now : List ℕ) (ran ran_now : List (List ℕ)) (held held_now : Held) : Type 0 where
+pub record GrewBy {Held Reply : Type 0} (done : List (Turn Held Reply)) (before now : List ℕ)
+    (ran ran_now : List (List ℕ)) (held held_now : Held) : Type 0 where
   pub by_text : now ≡ before ++ text done
   pub by_bodies : ran_now ≡ ran ++ ran_in done
   pub by_turns : held_now ≡ held_after held done
 
 -- the whole transcript of these bytes was carried out: each request has its mark
-pub record AnswersAll {Event Mark Held Reply : Type 0} (p : Protocol Event Mark Held Reply) (most : ℕ) (bytes : List ℕ) (marks : List Mark) (before now : List ℕ)
+pub record AnswersAll {Event Mark Held Reply : Type 0} (p : Protocol Event Mark Held Reply) (most : ℕ) (bytes : List ℕ)
+    (marks : List Mark) (before now : List ℕ)
     (ran ran_now : List (List ℕ)) (held held_now : Held) : Type 0 where
   pub marked : AreMarks p held (script p.grammar most bytes).events marks
   pub each : length marks ≡ length (script p.grammar most bytes).events

@@ -7,7 +7,8 @@ use Rattle.sw_protocol.specs.Script.{Ending, End, Bad, Over, Cut, Grammar, scrip
 use Rattle.sw_protocol.specs.Protocol.{Protocol, Turn}
 use Rattle.sw_protocol.specs.Transcript.{AreMarks, turns, text, ran_in, held_after}
 
--- what is around the answers: the bytes left in the source, those written into the sink, what is held, and the paths of the bodies that ran
+-- what is around the answers: the bytes left in the source, those written into the sink, what is held, and the paths of
+-- the bodies that ran
 pub record Surroundings (Held : Type 0) : Type 0 where
   pub left : Option (List ℕ)
   pub written : Option (List ℕ)
@@ -34,12 +35,14 @@ pub record Did {Held Reply : Type 0} (done : List (Turn Held Reply)) (old new : 
   pub held : new.held ≡ held_after old.held done
 
 -- every request has its mark, so that each was carried out, and their replies were written
-pub record Tells {Event Mark Held Reply : Type 0} (events : List Event) (marks : List Mark) (done : List (Turn Held Reply)) (out : List ℕ) : Type 0 where
+pub record Tells {Event Mark Held Reply : Type 0} (events : List Event) (marks : List Mark)
+    (done : List (Turn Held Reply)) (out : List ℕ) : Type 0 where
   pub each : length marks ≡ length events
   pub written : out ≡ text done
 
 -- the replies of all turns but the last were written, and a front of that one's; little was taken past its request
-pub record BreaksOff {Event Held Reply : Type 0} (grammar : Grammar Event) (done : List (Turn Held Reply)) (taken out : List ℕ) : Type 0 where
+pub record BreaksOff {Event Held Reply : Type 0} (grammar : Grammar Event) (done : List (Turn Held Reply))
+    (taken out : List ℕ) : Type 0 where
   pub whole : List (Turn Held Reply)
   pub broken : Turn Held Reply
   pub front : List ℕ
@@ -49,8 +52,10 @@ pub record BreaksOff {Event Held Reply : Type 0} (grammar : Grammar Event) (done
   pub written : out ≡ text whole ++ front
   pub near : length (behind grammar (length done) taken) ≤ 4096
 
--- the replies of all turns but the last were written; that one's request has a mark with which this stop can come, and nothing of its reply was written
-pub record LeavesOff {Event Mark Held Reply : Type 0} (p : Protocol Event Mark Held Reply) (stop : Stop) (marks : List Mark) (done : List (Turn Held Reply)) (out : List ℕ) : Type 0 where
+-- the replies of all turns but the last were written; that one's request has a mark with which this stop can come, and
+-- nothing of its reply was written
+pub record LeavesOff {Event Mark Held Reply : Type 0} (p : Protocol Event Mark Held Reply) (stop : Stop)
+    (marks : List Mark) (done : List (Turn Held Reply)) (out : List ℕ) : Type 0 where
   pub said : List Mark
   pub mark : Mark
   pub marks_order : marks ≡ said ++ mark ∷ []
@@ -61,7 +66,8 @@ pub record LeavesOff {Event Mark Held Reply : Type 0} (p : Protocol Event Mark H
   pub written : out ≡ text whole
 
 -- which requests were carried out, and what was written of their replies
-abbrev pub TellsBy : {Event Mark Held Reply : Type 0} → Protocol Event Mark Held Reply → Stop → List Event → List Mark → List (Turn Held Reply) → List ℕ → List ℕ → Type 0
+abbrev pub TellsBy : {Event Mark Held Reply : Type 0} → Protocol Event Mark Held Reply → Stop → List Event → List Mark
+    → List (Turn Held Reply) → List ℕ → List ℕ → Type 0
 TellsBy p Ended events marks done taken out = Tells events marks done out
 TellsBy p Wrong events marks done taken out = Tells events marks done out
 TellsBy p CutOff events marks done taken out = Tells events marks done out
@@ -71,8 +77,10 @@ TellsBy p Memory events marks done taken out = (out ≡ text done) ⊎ LeavesOff
 TellsBy p OutsideFailed events marks done taken out = LeavesOff p OutsideFailed marks done out
 TellsBy p Over_stop events marks done taken out = Tells events marks done out
 
--- the source gave some bytes; their script ends as the stop says, and the turns of its requests that have a mark, from what was held, are what was done
-pub record Served {Event Mark Held Reply : Type 0} (p : Protocol Event Mark Held Reply) (most : ℕ) (stop : Stop) (old new : Surroundings Held) : Type 0 where
+-- the source gave some bytes; their script ends as the stop says, and the turns of its requests that have a mark, from
+-- what was held, are what was done
+pub record Served {Event Mark Held Reply : Type 0} (p : Protocol Event Mark Held Reply) (most : ℕ) (stop : Stop)
+    (old new : Surroundings Held) : Type 0 where
   pub taken : List ℕ
   pub marks : List Mark
   pub out : List ℕ
@@ -81,4 +89,5 @@ pub record Served {Event Mark Held Reply : Type 0} (p : Protocol Event Mark Held
   pub ending : EndsIn stop (script p.grammar most taken).ending new.left
   pub marked : AreMarks p old.held (script p.grammar most taken).events marks
   pub did : Did (turns p old.held (script p.grammar most taken).events marks) old new
-  pub tells : TellsBy p stop (script p.grammar most taken).events marks (turns p old.held (script p.grammar most taken).events marks) taken out
+  pub tells : TellsBy p stop (script p.grammar most taken).events marks
+      (turns p old.held (script p.grammar most taken).events marks) taken out

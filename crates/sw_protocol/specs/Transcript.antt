@@ -3,16 +3,20 @@ use Rattle.std.specs.Prelude.{ℕ, List, [], ◌∷◌, ◌++◌, ⊤}
 use Rattle.sw_protocol.specs.Protocol.{Protocol, Turn}
 
 -- these are the marks of the first requests, of as many as there are marks
-unfoldable pub AreMarks : {Event Mark Held Reply : Type 0} → Protocol Event Mark Held Reply → Held → List Event → List Mark → Type 0
+unfoldable pub AreMarks : {Event Mark Held Reply : Type 0} → Protocol Event Mark Held Reply → Held → List Event
+    → List Mark → Type 0
 AreMarks p held events [] = ⊤
 AreMarks p held [] (mark ∷ marks) = ⊥
-AreMarks p held (event ∷ events) (mark ∷ marks) = p.IsMark held event mark × AreMarks p (p.turn_of held event mark).held events marks
+AreMarks p held (event ∷ events) (mark ∷ marks) =
+    p.IsMark held event mark × AreMarks p (p.turn_of held event mark).held events marks
 
 -- what comes of the first requests, those that have a mark
-unfoldable pub turns : {Event Mark Held Reply : Type 0} → Protocol Event Mark Held Reply → Held → List Event → List Mark → List (Turn Held Reply)
+unfoldable pub turns : {Event Mark Held Reply : Type 0} → Protocol Event Mark Held Reply → Held → List Event → List Mark
+    → List (Turn Held Reply)
 turns p held events [] = []
 turns p held [] (mark ∷ marks) = []
-turns p held (event ∷ events) (mark ∷ marks) = let turn = p.turn_of held event mark in turn ∷ turns p turn.held events marks
+turns p held (event ∷ events) (mark ∷ marks) = let turn =
+    p.turn_of held event mark in turn ∷ turns p turn.held events marks
 
 -- the whole text of their replies
 abbrev pub text : {Held Reply : Type 0} → List (Turn Held Reply) → List ℕ

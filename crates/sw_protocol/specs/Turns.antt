@@ -30,19 +30,22 @@ abbrev pub standing : {Held : Type 0} → Held → List (List ℕ) → Standing 
 standing held ran = record { held = held; ran = ran }
 
 -- a request was carried out
-pub record Does {Event Mark Held Reply : Type 0} (p : Protocol Event Mark Held Reply) (event : Event) (before after : Standing Held) : Type 0 where
+pub record Does {Event Mark Held Reply : Type 0} (p : Protocol Event Mark Held Reply) (event : Event)
+    (before after : Standing Held) : Type 0 where
   pub mark : Mark
   pub is_mark : p.IsMark before.held event mark
   pub ran : after.ran ≡ before.ran ++ (p.turn_of before.held event mark).ran
   pub held : after.held ≡ (p.turn_of before.held event mark).held
 
 -- a request was carried out, and its reply was written
-pub record Says {Event Mark Held Reply : Type 0} (p : Protocol Event Mark Held Reply) (event : Event) (before after : Standing Held) (written now : Option (List ℕ)) : Type 0 where
+pub record Says {Event Mark Held Reply : Type 0} (p : Protocol Event Mark Held Reply) (event : Event)
+    (before after : Standing Held) (written now : Option (List ℕ)) : Type 0 where
   pub does : Does p event before after
   pub sends : Appends written now (p.turn_of before.held event does.mark).text
 
 -- a request was carried out, and a front of its reply was written
-pub record SaysSome {Event Mark Held Reply : Type 0} (p : Protocol Event Mark Held Reply) (event : Event) (before after : Standing Held) (written now : Option (List ℕ)) : Type 0 where
+pub record SaysSome {Event Mark Held Reply : Type 0} (p : Protocol Event Mark Held Reply) (event : Event)
+    (before after : Standing Held) (written now : Option (List ℕ)) : Type 0 where
   pub does : Does p event before after
   pub front : List ℕ
   pub back : List ℕ
@@ -50,13 +53,15 @@ pub record SaysSome {Event Mark Held Reply : Type 0} (p : Protocol Event Mark He
   pub sends : Appends written now front
 
 -- a request was carried out, and for this stop nothing of its reply was written
-pub record SaysNothing {Event Mark Held Reply : Type 0} (p : Protocol Event Mark Held Reply) (stop : Stop) (event : Event) (before after : Standing Held) (written now : Option (List ℕ)) : Type 0 where
+pub record SaysNothing {Event Mark Held Reply : Type 0} (p : Protocol Event Mark Held Reply) (stop : Stop)
+    (event : Event) (before after : Standing Held) (written now : Option (List ℕ)) : Type 0 where
   pub does : Does p event before after
   pub left : p.IsLeft stop does.mark
   pub sends : Appends written now []
 
 -- how a request ends that was carried out and whose reply wasn't written whole
-abbrev pub SayStops : {Event Mark Held Reply : Type 0} → Protocol Event Mark Held Reply → Stop → Event → Standing Held → Standing Held → Option (List ℕ) → Option (List ℕ) → Type 0
+abbrev pub SayStops : {Event Mark Held Reply : Type 0} → Protocol Event Mark Held Reply → Stop → Event → Standing Held
+    → Standing Held → Option (List ℕ) → Option (List ℕ) → Type 0
 SayStops p Ended event before after written now = ⊥
 SayStops p Wrong event before after written now = ⊥
 SayStops p CutOff event before after written now = ⊥
@@ -73,20 +78,24 @@ pub record Takes {Event : Type 0} (meaning : List ℕ → Next Event) (event : E
   pub whole : (rest : List ℕ) → meaning (used ++ rest) ≡ Whole event rest
 
 -- a request was read and carried out, and its reply was written
-pub record Answers {Event Mark Held Reply : Type 0} (meaning : List ℕ → Next Event) (p : Protocol Event Mark Held Reply) (old : Place) (before : Standing Held) (new : Place) (after : Standing Held) : Type 0 where
+pub record Answers {Event Mark Held Reply : Type 0} (meaning : List ℕ → Next Event) (p : Protocol Event Mark Held Reply)
+    (old : Place) (before : Standing Held) (new : Place) (after : Standing Held) : Type 0 where
   pub event : Event
   pub takes : Takes meaning event old new
   pub says : Says p event before after old.written new.written
 
 -- a request was read and carried out, and a front of its reply was written; little was taken past it
-pub record Breaks {Event Mark Held Reply : Type 0} (meaning : List ℕ → Next Event) (p : Protocol Event Mark Held Reply) (old : Place) (before : Standing Held) (new : Place) (after : Standing Held) : Type 0 where
+pub record Breaks {Event Mark Held Reply : Type 0} (meaning : List ℕ → Next Event) (p : Protocol Event Mark Held Reply)
+    (old : Place) (before : Standing Held) (new : Place) (after : Standing Held) : Type 0 where
   pub event : Event
   pub takes : Takes meaning event old new
   pub says : SaysSome p event before after old.written new.written
   pub near : length new.ahead ≤ 4096
 
 -- a request was read and carried out, and for this stop nothing was written
-pub record Leaves {Event Mark Held Reply : Type 0} (stop : Stop) (meaning : List ℕ → Next Event) (p : Protocol Event Mark Held Reply) (old : Place) (before : Standing Held) (new : Place) (after : Standing Held) : Type 0 where
+pub record Leaves {Event Mark Held Reply : Type 0} (stop : Stop) (meaning : List ℕ → Next Event)
+    (p : Protocol Event Mark Held Reply) (old : Place) (before : Standing Held) (new : Place) (after : Standing Held) :
+    Type 0 where
   pub event : Event
   pub takes : Takes meaning event old new
   pub says : SaysNothing p stop event before after old.written new.written
@@ -113,13 +122,15 @@ pub record Forgets (old new : Place) : Type 0 where
   pub sends : Appends old.written new.written []
 
 -- how a turn ends that doesn't answer its request whole
-abbrev pub TurnEnds : {Event Mark Held Reply : Type 0} → (List ℕ → Next Event) → Protocol Event Mark Held Reply → Stop → Place → Standing Held → Place → Standing Held → Type 0
+abbrev pub TurnEnds : {Event Mark Held Reply : Type 0} → (List ℕ → Next Event) → Protocol Event Mark Held Reply → Stop
+    → Place → Standing Held → Place → Standing Held → Type 0
 TurnEnds meaning p Ended old before new after = Finds meaning Closing old new × (after ≡ before)
 TurnEnds meaning p Wrong old before new after = Finds meaning NoRequest old new × (after ≡ before)
 TurnEnds meaning p CutOff old before new after = Drains meaning Short old new × IsAtEnd new.left × (after ≡ before)
 TurnEnds meaning p SourceFailed old before new after = Drains meaning Short old new × (after ≡ before)
 TurnEnds meaning p SinkFailed old before new after = Breaks meaning p old before new after
-TurnEnds meaning p Memory old before new after = (Forgets old new × (after ≡ before)) ⊎ Leaves Memory meaning p old before new after
+TurnEnds meaning p Memory old before new after =
+    (Forgets old new × (after ≡ before)) ⊎ Leaves Memory meaning p old before new after
 TurnEnds meaning p OutsideFailed old before new after = Leaves OutsideFailed meaning p old before new after
 TurnEnds meaning p Over_stop old before new after = ⊥
 

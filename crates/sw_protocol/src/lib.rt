@@ -1,5 +1,6 @@
-//! What is common to all commands that answer requests line by line: how bytes are a script, what a transcript is, and the loop that answers.
-//! Lines flow in from a source and go to a protocol, which answers each; its replies flow out into a sink.
+//! What is common to all commands that answer requests line by line: how bytes are a script, what a transcript is, and
+//! the loop that answers. Lines flow in from a source and go to a protocol, which answers each; its replies flow out
+//! into a sink.
 #![tactic(auto)]
 
 mod laws;

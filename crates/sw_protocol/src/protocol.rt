@@ -7,7 +7,8 @@ ghost use Rattle.sw_protocol.specs.Turns.{place, standing, Answers, TurnEnds, Ca
 use crate::{Lines, Stop};
 use sw_io::{Sink, Source};
 
-/// What answers the requests of one command. `E` runs bodies, and `O` is what is asked beside the source, as the functions of a host.
+/// What answers the requests of one command. `E` runs bodies, and `O` is what is asked beside the source, as the
+/// functions of a host.
 pub trait Protocol<E, O> {
     ghost Event: { Type 0 };
 
@@ -39,11 +40,15 @@ pub trait Protocol<E, O> {
     ) -> Result<(), Stop>
         requires { length lines.old.reader ≤ 4096 }
         ensures ok { OnOk result (Answers (rules.grammar.front lines.old.line.items) rules
-            (place lines.old.reader (S.left source.old) (K.written sink.old)) (standing (held self.old outside.old) (ran engine.old))
-            (place lines.new.reader (S.left source.new) (K.written sink.new)) (standing (held self.new outside.new) (ran engine.new))) }
+            (place lines.old.reader (S.left source.old) (K.written sink.old))
+            (standing (held self.old outside.old) (ran engine.old))
+            (place lines.new.reader (S.left source.new) (K.written sink.new))
+            (standing (held self.new outside.new) (ran engine.new))) }
         ensures err { IfErr result (λ stop. TurnEnds (rules.grammar.front lines.old.line.items) rules stop
-            (place lines.old.reader (S.left source.old) (K.written sink.old)) (standing (held self.old outside.old) (ran engine.old))
-            (place lines.new.reader (S.left source.new) (K.written sink.new)) (standing (held self.new outside.new) (ran engine.new))) }
+            (place lines.old.reader (S.left source.old) (K.written sink.old))
+            (standing (held self.old outside.old) (ran engine.old))
+            (place lines.new.reader (S.left source.new) (K.written sink.new))
+            (standing (held self.new outside.new) (ran engine.new))) }
         ensures source_cause { Cause Stop.SourceFailed (S.faults source.old) (S.faults source.new) result }
         ensures sink_cause { Cause Stop.SinkFailed (K.faults sink.old) (K.faults sink.new) result }
         ensures outside_cause { Cause Stop.OutsideFailed (faults outside.old) (faults outside.new) result };

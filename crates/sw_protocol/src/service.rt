@@ -16,7 +16,8 @@ pub struct Service<P> {
 }
 
 impl<P> Service<P> {
-    /// Answers at most so many requests of the source, until the line `end` or until the answers end otherwise, and tells how.
+    /// Answers at most so many requests of the source, until the line `end` or until the answers end otherwise, and
+    /// tells how.
     pub fn answer_all<S: Source, K: Sink, E, O>(
         &mut self,
         most: u32,
@@ -29,8 +30,10 @@ impl<P> Service<P> {
         P: Protocol<E, O>,
         requires { self.old.lines.reader ≡ [] }
         ensures served { Served P.rules most result
-            (surroundings (S.left source.old) (K.written sink.old) (P.held self.old.protocol outside.old) (P.ran engine.old))
-            (surroundings (S.left source.new) (K.written sink.new) (P.held self.new.protocol outside.new) (P.ran engine.new)) }
+            (surroundings (S.left source.old) (K.written sink.old) (P.held self.old.protocol outside.old)
+            (P.ran engine.old))
+            (surroundings (S.left source.new) (K.written sink.new) (P.held self.new.protocol outside.new)
+            (P.ran engine.new)) }
         ensures source_fault { result ≡ Stop.SourceFailed → Rose (S.faults source.old) (S.faults source.new) }
         ensures sink_fault { result ≡ Stop.SinkFailed → Rose (K.faults sink.old) (K.faults sink.new) }
         ensures outside_fault { result ≡ Stop.OutsideFailed → Rose (P.faults outside.old) (P.faults outside.new) }
@@ -54,11 +57,15 @@ impl<P> Service<P> {
     where
         P: Protocol<E, O>,
         ensures ok { OnOk result (Answers (next P.rules.grammar) P.rules
-            (place self.old.lines.reader (S.left source.old) (K.written sink.old)) (standing (P.held self.old.protocol outside.old) (P.ran engine.old))
-            (place self.new.lines.reader (S.left source.new) (K.written sink.new)) (standing (P.held self.new.protocol outside.new) (P.ran engine.new))) }
+            (place self.old.lines.reader (S.left source.old) (K.written sink.old))
+            (standing (P.held self.old.protocol outside.old) (P.ran engine.old))
+            (place self.new.lines.reader (S.left source.new) (K.written sink.new))
+            (standing (P.held self.new.protocol outside.new) (P.ran engine.new))) }
         ensures err { IfErr result (λ stop. TurnEnds (next P.rules.grammar) P.rules stop
-            (place self.old.lines.reader (S.left source.old) (K.written sink.old)) (standing (P.held self.old.protocol outside.old) (P.ran engine.old))
-            (place self.new.lines.reader (S.left source.new) (K.written sink.new)) (standing (P.held self.new.protocol outside.new) (P.ran engine.new))) }
+            (place self.old.lines.reader (S.left source.old) (K.written sink.old))
+            (standing (P.held self.old.protocol outside.old) (P.ran engine.old))
+            (place self.new.lines.reader (S.left source.new) (K.written sink.new))
+            (standing (P.held self.new.protocol outside.new) (P.ran engine.new))) }
         ensures source_cause { Cause Stop.SourceFailed (S.faults source.old) (S.faults source.new) result }
         ensures sink_cause { Cause Stop.SinkFailed (K.faults sink.old) (K.faults sink.new) result }
         ensures outside_cause { Cause Stop.OutsideFailed (P.faults outside.old) (P.faults outside.new) result }
@@ -72,7 +79,9 @@ impl<P> Service<P> {
     fn last<S: Source, E, O>(&mut self, source: &mut S) -> Stop
     where
         P: Protocol<E, O>,
-        ensures ends { (written : Option (List ℕ)) → LastEnds P.rules.grammar result (place self.old.lines.reader (S.left source.old) written) (place self.new.lines.reader (S.left source.new) written) }
+        ensures ends { (written : Option (List ℕ))
+            → LastEnds P.rules.grammar result (place self.old.lines.reader (S.left source.old) written)
+            (place self.new.lines.reader (S.left source.new) written) }
         ensures protocol { self.new.protocol ≡ self.old.protocol }
         ensures later { S.faults source.old ≤ S.faults source.new }
         ensures fault { result ≡ Stop.SourceFailed → Rose (S.faults source.old) (S.faults source.new) }

@@ -62,8 +62,11 @@ abbrev pub Ran : Table → List Run → List (List ℕ × Cause) → Type 0
 Ran table [] ran = ran ≡ []
 Ran table (run ∷ runs) ran =
     ((kept_at table run.path ≡ Some run) × Ran table runs ran)
-    ⊎ ((cause : Cause) × IsCause (kept_at table run.path) run cause × ((rest : List (List ℕ × Cause)) × (ran ≡ (run.path, cause) ∷ rest) × Ran table runs rest))
+    ⊎ ((cause : Cause) × IsCause (kept_at table run.path) run cause
+    × ((rest : List (List ℕ × Cause)) × (ran ≡ (run.path, cause) ∷ rest) × Ran table runs rest))
 
 -- so the kept runs and the runs of a compile give which bodies ran and why
 abbrev pub RanIsOne : Type 0
-RanIsOne = (table : Table) (runs : List Run) (ran other : List (List ℕ × Cause)) → Ran table runs ran → Ran table runs other → ran ≡ other
+RanIsOne =
+    (table : Table) (runs : List Run) (ran other : List (List ℕ × Cause)) → Ran table runs ran → Ran table runs other
+    → ran ≡ other

@@ -9,7 +9,8 @@ use Rattle.sw_record.specs.declared.again.Replayed.TheVariants.{Same, Load, Diff
 
 -- the questions from one place up to another, asked in order, are answered as they were kept; none is a load
 abbrev pub AskedAgain : {W : Type 0} → (W → Op → Answer → W → Type 0) → List Pair → ℕ → ℕ → W → W → Type 0
-AskedAgain gives seen from to w after = (from ≤ to) × (to ≤ length seen) × Leads gives w (slice_range seen from to) after
+AskedAgain gives seen from to w after =
+    (from ≤ to) × (to ≤ length seen) × Leads gives w (slice_range seen from to) after
 
 -- the question at the place is a load
 pub record LoadAt (seen : List Pair) (at : ℕ) : Type 0 where
@@ -18,7 +19,8 @@ pub record LoadAt (seen : List Pair) (at : ℕ) : Type 0 where
   pub load : IsLoad pair.0
 
 -- the question at the place is no load, and was answered otherwise
-pub record DiffersAt {W : Type 0} (gives : W → Op → Answer → W → Type 0) (seen : List Pair) (at : ℕ) (answer : Answer) (w after : W) : Type 0 where
+pub record DiffersAt {W : Type 0} (gives : W → Op → Answer → W → Type 0) (seen : List Pair) (at : ℕ) (answer : Answer)
+    (w after : W) : Type 0 where
   pub pair : Pair
   pub here : slice_get seen at ≡ Some pair
   pub plain : IsLoad pair.0 → ⊥

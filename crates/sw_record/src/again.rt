@@ -18,7 +18,8 @@ pub enum Replayed {
     Differs { at: usize, answer: Answer },
 }
 
-/// Asks the kept questions from a place on, in order, up to the first load or the first answer that isn't the kept one. Takes no memory of its own. After `Memory` some first questions of these were asked, and answered as before.
+/// Asks the kept questions from a place on, in order, up to the first load or the first answer that isn't the kept one.
+/// Takes no memory of its own. After `Memory` some first questions of these were asked, and answered as before.
 pub fn replay<E: Engine, W: World>(
     alloc: Global,
     run: &Run<E>,

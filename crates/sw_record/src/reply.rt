@@ -28,7 +28,8 @@ pub enum Outcome {
     Error(Fault),
 }
 
-/// The answer to a compile: its messages in order, the modules whose bodies ran, in the order in which these ended, each with its cause, and the CSS or the fault.
+/// The answer to a compile: its messages in order, the modules whose bodies ran, in the order in which these ended,
+/// each with its cause, and the CSS or the fault.
 #[derive(Drop)]
 pub struct Reply {
     pub says: List<Saying>,

@@ -11,7 +11,8 @@ use sw_text::{List, Memory, Name, Shared};
 use sw_tree::Sheet;
 use sw_world::{Answer, Config, End, Engine, Op};
 
-/// A body that ran from its start to its end, with the sheet that it ran. Its questions and its end are those of the engine's body; where it ended well, its output is kept as it is printed.
+/// A body that ran from its start to its end, with the sheet that it ran. Its questions and its end are those of the
+/// engine's body; where it ended well, its output is kept as it is printed.
 #[derive(Drop)]
 pub struct Run<E: Engine> {
     path: Name,
@@ -35,9 +36,18 @@ impl<E: Engine> Model for Run<E> {
 
     ghost coded = { Prim.hlevel (codes, statement.the_row.coded, plain.the_row.coded) };
 
-    ghost view = { λ run. record { sheet = run.sheet; run = record { path = run.path; text = run.text; config = run.config; seen = run.seen; end = run.end } } };
+    ghost view = { λ run. record {
+      sheet = run.sheet;
+      run =
+          record { path = run.path; text = run.text; config = run.config; seen = run.seen; end = run.end };
+    } };
 
-    ghost invariant = { λ run. IsKept E.body (record { sheet = run.sheet; run = record { path = run.path; text = run.text; config = run.config; seen = run.seen; end = run.end } }) × (run.printed ≡ printed_of run.end) };
+    ghost invariant = { λ run. IsKept E.body (record {
+      sheet = run.sheet;
+      run =
+          record { path = run.path; text = run.text; config = run.config; seen = run.seen; end = run.end };
+    })
+        × (run.printed ≡ printed_of run.end) };
 }
 
 impl<E: Engine> Run<E> {
@@ -53,7 +63,12 @@ impl<E: Engine> Run<E> {
     ) -> Result<Run<E>, Memory>
         requires goes { Goes (E.body (record { sheet = sheet; config = config; path = path })) [] seen }
         requires ends { E.body (record { sheet = sheet; config = config; path = path }) (answers seen) ≡ Ends end }
-        ensures { IfOk result (λ run. run ≡ record { sheet = sheet; run = record { path = path; text = text; config = config; seen = seen; end = end } }) }
+        ensures { IfOk result (λ run. run
+            ≡ record {
+              sheet = sheet;
+              run =
+                  record { path = path; text = text; config = config; seen = seen; end = end };
+            }) }
     {
         let printed = printed_of(alloc, &end)?;
         Ok(Run {

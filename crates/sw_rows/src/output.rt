@@ -1,4 +1,5 @@
-// Calls on the output of modules: `output rule a | declare b c | close ; import "x.css"` gives the page, `parts` joins it.
+// Calls on the output of modules: `output rule a | declare b c | close ; import "x.css"` gives the page, `parts` joins
+// it.
 use crate::escapes::add_unescaped;
 use crate::refusal::{Refusal, text_of};
 use std::alloc::Global;

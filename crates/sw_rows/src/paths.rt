@@ -1,5 +1,6 @@
-// Calls on paths and files: `path a/b.scss`, `unread a.scss ; 3`, and `resolve main.scss ; lib ; lib.scss a/lib.scss ; a`, which is
-// a sheet, a URL in it, the files of a folder, and load paths.
+// Calls on paths and files: `path a/b.scss`, `unread a.scss ; 3`, and
+// `resolve main.scss ; lib ; lib.scss a/lib.scss ; a`, which is a sheet, a URL in it, the files of a folder, and load
+// paths.
 use crate::refusal::{Refusal, yes_or_no};
 use std::alloc::Global;
 use sw_folder::{EditFault, Folder, ResolveFault, is_path, unread_fault};

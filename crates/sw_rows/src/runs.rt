@@ -1,5 +1,5 @@
-// Calls on how far something reaches in a text, as offsets: `name_end a-b.c`, `white_end  a`, `begins_name -a`, `string_end 'a' b`,
-// `sum_end (a:b)c<d`, `argument_end a;b)`, `trimmed a `, `piece 1 4 ; text`.
+// Calls on how far something reaches in a text, as offsets: `name_end a-b.c`, `white_end a`, `begins_name -a`,
+// `string_end 'a' b`, `sum_end (a:b)c<d`, `argument_end a;b)`, `trimmed a `, `piece 1 4 ; text`.
 use crate::refusal::{Refusal, yes_or_no};
 use std::alloc::Global;
 use sw_scan::{

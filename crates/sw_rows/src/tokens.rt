@@ -1,4 +1,5 @@
-// Calls on the tokens of a text: `tokens a { b: c }` gives them all, `token 0 ; a` the one at a place, `none a` the list without any.
+// Calls on the tokens of a text: `tokens a { b: c }` gives them all, `token 0 ; a` the one at a place, `none a` the
+// list without any.
 use crate::places::{ends, sheet};
 use crate::refusal::Refusal;
 use std::alloc::{AllocError, Global};

@@ -1,5 +1,5 @@
-// Calls on the trees of sheets: `globals $a: b; $c: d` gives the names that a sheet declares, `same $a: b ; $a:  b` whether the
-// sheets of two texts are the same, spans and all.
+// Calls on the trees of sheets: `globals $a: b; $c: d` gives the names that a sheet declares, `same $a: b ; $a: b`
+// whether the sheets of two texts are the same, spans and all.
 use crate::places::sheet;
 use crate::refusal::{Refusal, yes_or_no};
 use std::alloc::Global;

@@ -32,7 +32,8 @@ abbrev pub is_letter : ℕ → Bool
 is_letter b = (nat_le (sign "A") b && nat_le b (sign "Z")) || (nat_le (sign "a") b && nat_le b (sign "z"))
 
 abbrev pub is_hex_digit : ℕ → Bool
-is_hex_digit b = is_digit b || ((nat_le (sign "A") b && nat_le b (sign "F")) || (nat_le (sign "a") b && nat_le b (sign "f")))
+is_hex_digit b =
+    is_digit b || ((nat_le (sign "A") b && nat_le b (sign "F")) || (nat_le (sign "a") b && nat_le b (sign "f")))
 
 -- a byte of a character from U+0080 on
 abbrev pub is_wide : ℕ → Bool

@@ -46,7 +46,8 @@ is_word_byte b = is_letter b || (is_digit b || (b == sign "-"))
 -- begin with
 abbrev pub goes_in_unit : List ℕ → ℕ → Bool
 goes_in_unit bs i =
-    starts_plainly (byte bs i) || (is_digit (byte bs i) || ((byte bs i == sign "-") && starts_plainly (byte bs (i + 1))))
+    starts_plainly (byte bs i)
+    || (is_digit (byte bs i) || ((byte bs i == sign "-") && starts_plainly (byte bs (i + 1))))
 
 -- the character of a url at i, in `#{}` but a `}`
 abbrev pub goes_in_url : List ℕ → ℕ → Bool
@@ -88,4 +89,5 @@ starts_at bs i = starts_plainly (byte bs i) || nat_lt i (escape_end bs i)
 
 -- a name begins at i
 unfoldable pub begins_name : List ℕ → ℕ → Bool
-begins_name bs i = starts_at bs i || ((byte bs i == sign "-") && (starts_at bs (i + 1) || (byte bs (i + 1) == sign "-")))
+begins_name bs i =
+    starts_at bs i || ((byte bs i == sign "-") && (starts_at bs (i + 1) || (byte bs (i + 1) == sign "-")))

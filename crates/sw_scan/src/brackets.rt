@@ -96,7 +96,8 @@ fn stopped(stops: Stops, bytes: &[u8], closers: &[u16], at: usize) -> bool
 /// One step on: the place behind it, with what is open there.
 #[tactic(auto, unfolding(crate::specs::Brackets::scan_step))]
 fn scan_step(bytes: &[u8], closers: &mut Vec<u16>, at: usize) -> Result<Option<usize>, AllocError>
-    ensures { IfOk result (λ to. option_map (at_place closers.new.items) to ≡ scan_step bytes.now closers.old.items at) }
+    ensures { IfOk result (λ to. option_map (at_place closers.new.items) to
+        ≡ scan_step bytes.now closers.old.items at) }
 {
     let byte = byte_at(bytes, at);
     if byte == signs::END {

@@ -1,4 +1,5 @@
-//! How far names, white space, strings, numbers, urls and brackets reach in a text: what the readers of sheets, selectors and media queries share. Places in a text flow in and out; no memory is kept.
+//! How far names, white space, strings, numbers, urls and brackets reach in a text: what the readers of sheets,
+//! selectors and media queries share. Places in a text flow in and out; no memory is kept.
 #![tactic(auto)]
 
 mod brackets;

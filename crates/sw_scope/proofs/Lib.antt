@@ -1,6 +1,5 @@
 pub mod Bindings
 pub mod Cuts
-pub mod Dashes
 pub mod Jumps
 pub mod Nodes
 pub mod Places

@@ -40,7 +40,8 @@ shifted start None below = below
 abbrev pub found : ℕ → List FrameMark → List Variable → Name → Option ℕ
 found n [] vs name = None
 found n (m ∷ ms) vs name =
-    if n == suc (length ms) then shifted m.start (place (drop m.start vs) name) (found m.below ms (take m.start vs) name)
+    if n == suc (length ms)
+    then shifted m.start (place (drop m.start vs) name) (found m.below ms (take m.start vs) name)
     else found n ms (take m.start vs) name
 
 abbrev pub put_at : List Variable → Option ℕ → Variable → List Variable

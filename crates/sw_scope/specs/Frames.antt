@@ -1,4 +1,5 @@
--- Frames that are seen, the innermost first (Sass reference documentation, "Variables: Scope"). Each is of a kind and has variables.
+-- Frames that are seen, the innermost first (Sass reference documentation, "Variables: Scope"). Each is of a kind and
+-- has variables.
 use Rattle.std.specs.Prelude.{ℕ, zero, suc, Bool, true, false, ◌&&◌, if◌then◌else◌, bytes_eq, List, [], ◌∷◌, ◌++◌, Option, Some, None, slice_get, slice_set}
 use Rattle.std.specs.Option.{option_map}
 use Rattle.sw_values.specs.declared.plain.Plain.{Plain}

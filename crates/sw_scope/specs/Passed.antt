@@ -1,7 +1,8 @@
--- The arguments of a call, in the order in which they are written (Sass reference documentation, "Passing Arguments", "Argument Lists", "Keyword Arguments").
+-- The arguments of a call, in the order in which they are written (Sass reference documentation, "Passing Arguments",
+-- "Argument Lists", "Keyword Arguments").
 use Rattle.std.specs.Prelude.{ℕ, Bool, true, false, not, ◌&&◌, ◌||◌, ◌==◌, if◌then◌else◌, List, [], ◌∷◌, ◌++◌, map, Option, Some, None}
 use Rattle.std.specs.Option.{is_some}
-use Rattle.sw_text.specs.Names.{hyphen, underscore}
+use Rattle.sw_text.specs.Names.{dashed}
 use Rattle.sw_values.specs.declared.plain.Plain.{Plain}
 use Rattle.sw_values.specs.declared.value.Node.{Node}
 use Rattle.sw_values.specs.declared.value.Node.TheVariants as N
@@ -21,13 +22,6 @@ abbrev pub pass_named : Passed → Name → Plain → Passed
 pass_named p name v = record p { named = p.named ++ (name, v) ∷ []; by_name = true }
 
 -- ---- the keys of a map
-
--- a name as it is stored, with `-` for each `_`
-abbrev pub dash : ℕ → ℕ
-dash b = if b == underscore then hyphen else b
-
-abbrev pub dashed : Name → Name
-dashed name = map dash name
 
 abbrev pub text_by : Node → Option Name
 text_by (N.Text text quoted) = Some text
@@ -69,6 +63,7 @@ spread_by p v (N.Colour colour) = pass_whole p v
 spread_by p v (N.Bool truth) = pass_whole p v
 spread_by p v N.Null = pass_whole p v
 
--- a list gives its items by place, an argument list also its named ones, a map its pairs by name, and another value itself by place
+-- a list gives its items by place, an argument list also its named ones, a map its pairs by name, and another value
+-- itself by place
 abbrev pub spread : Passed → Plain → Passed
 spread p v = spread_by p v (node_of v)

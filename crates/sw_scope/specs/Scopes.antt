@@ -1,4 +1,5 @@
--- The variables that running code sees (Sass reference documentation, "Variables: Scope"; that code of another module asks for what no frame has is this project's own).
+-- The variables that running code sees (Sass reference documentation, "Variables: Scope"; that code of another module
+-- asks for what no frame has is this project's own).
 use Rattle.std.specs.Prelude.{ℕ, suc, Bool, true, false, ◌&&◌, ◌||◌, bytes_eq, if◌then◌else◌, List, [], ◌∷◌, length, Option, Some, None}
 use Rattle.std.specs.Option.{is_some, is_none}
 use Rattle.std.specs.Map.{lookup}

@@ -1,4 +1,5 @@
--- Frames that stand on one another, the innermost first (this project's own). Each has a number, counted from 1 at the outermost, and stands on the one of a lower number, or on the top where that is 0.
+-- Frames that stand on one another, the innermost first (this project's own). Each has a number, counted from 1 at the
+-- outermost, and stands on the one of a lower number, or on the top where that is 0.
 use Rattle.std.specs.Prelude.{ℕ, suc, ◌==◌, nat_le, if◌then◌else◌, List, [], ◌∷◌, ◌++◌, length, Option, Some, None, slice_set}
 use Rattle.sw_scope.specs.declared.mark.FrameKind.{FrameKind}
 use Rattle.sw_scope.specs.Frames.{Variable, Frame, place}

@@ -16,7 +16,8 @@ use sw_text::{List, Memory, Name, Shared};
 use sw_tree::{Param, Params};
 use sw_values::{Node, Value};
 
-/// Which argument fills which parameter. Names are looked up in tables, so it takes a time in proportion to the parameters and the arguments.
+/// Which argument fills which parameter. Names are looked up in tables, so it takes a time in proportion to the
+/// parameters and the arguments.
 pub fn bind(alloc: Global, params: &Params, passed: &Passed) -> Result<Slots, BindFault>
     ensures { MatchResult result (IsBound params.now passed.now) (IsBindFault params.now passed.now) }
 {

@@ -12,7 +12,8 @@ use std::marker::Model;
 use sw_text::{List, Memory, Name};
 use sw_values::Value;
 
-/// The local variables of running code. Contracts see the frames, each with the number of the one on which it stands, the innermost first.
+/// The local variables of running code. Contracts see the frames, each with the number of the one on which it stands,
+/// the innermost first.
 #[derive(Drop)]
 pub(crate) struct Frames {
     vars: List<(Name, Value)>,

@@ -1,8 +1,10 @@
-//! The variables that running code sees, and the arguments of a call. Local variables stand in one vector, cut into frames by marks, and a frame may stand on another that lies lower and isn't its neighbour; below them all are the variables of the module's top, by name. Names flow in and values out, and the arguments of a call become one slot for each parameter.
+//! The variables that running code sees, and the arguments of a call. Local variables stand in one vector, cut into
+//! frames by marks, and a frame may stand on another that lies lower and isn't its neighbour; below them all are the
+//! variables of the module's top, by name. Names flow in and values out, and the arguments of a call become one slot
+//! for each parameter.
 #![tactic(auto)]
 
 mod binding;
-mod dashed;
 mod fault;
 mod find;
 mod frames;

@@ -10,7 +10,8 @@ pub enum FrameKind {
     Block,
 }
 
-/// Whose the running code is: the body's own module's, which sees the variables of the top, or another module's, which has to ask for what no frame has.
+/// Whose the running code is: the body's own module's, which sees the variables of the top, or another module's, which
+/// has to ask for what no frame has.
 #[derive(Clone, Copy, Debug, PartialEq, Eq)]
 pub enum Origin {
     Own,
@@ -47,7 +48,8 @@ impl Mark {
     }
 }
 
-/// Where the vector of variables is cut: what the frame is of, how many frames lie up to the one on which it stands, and where its variables start.
+/// Where the vector of variables is cut: what the frame is of, how many frames lie up to the one on which it stands,
+/// and where its variables start.
 #[derive(Clone, Copy, Debug)]
 pub(crate) struct FrameMark {
     pub kind: FrameKind,

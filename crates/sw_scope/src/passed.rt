@@ -3,7 +3,6 @@ ghost use Rattle.std.specs.Prelude.{◌≡◌, ◌∷◌, [], ◌++◌, OnOk};
 ghost use Rattle.std.specs.Option.{option_copied};
 ghost use Rattle.sw_scope.specs.Passed.{text_of, text_by, named_of, are_names, named_by};
 
-use crate::dashed::dashed;
 use std::alloc::Global;
 use sw_text::{List, Memory, Name};
 use sw_values::{Node, Value};
@@ -17,7 +16,8 @@ pub struct Passed {
     pub named: List<(Name, Value)>,
     /// One was written with its name.
     pub by_name: bool,
-    /// No parameters take them: one was written with neither name nor `...` behind one that was written with its name, or a key of a map that was written with `...` isn't a string.
+    /// No parameters take them: one was written with neither name nor `...` behind one that was written with its name,
+    /// or a key of a map that was written with `...` isn't a string.
     pub faulty: bool,
 }
 
@@ -36,7 +36,8 @@ impl Passed {
         }
     }
 
-    /// An argument that is written with neither name nor `...`. After `Memory` nothing more may be said of the arguments.
+    /// An argument that is written with neither name nor `...`. After `Memory` nothing more may be said of the
+    /// arguments.
     pub fn pass(&mut self, value: Value) -> Result<(), Memory>
         ensures { OnOk result (self.new ≡ s.pass self.old value) }
     {
@@ -45,7 +46,8 @@ impl Passed {
         Ok(())
     }
 
-    /// An argument that is written with its name, without `$` and with `-` for each `_`. After `Memory` nothing more may be said of the arguments.
+    /// An argument that is written with its name, without `$` and with `-` for each `_`. After `Memory` nothing more
+    /// may be said of the arguments.
     pub fn pass_named(&mut self, name: Name, value: Value) -> Result<(), Memory>
         ensures { OnOk result (self.new ≡ s.pass_named self.old name value) }
     {
@@ -132,7 +134,7 @@ fn pass_key(
     ensures { OnOk result (all.new ≡ all.old ++ named_by (text_of key.now) value.now) }
 {
     match text_of(key) {
-        Some(text) => all.push((dashed(alloc, text.as_str())?, value.share()?)),
+        Some(text) => all.push((Name::dashed(alloc, text.as_str())?, value.share()?)),
         None => Ok(()),
     }
 }

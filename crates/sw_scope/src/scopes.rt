@@ -10,7 +10,8 @@ use std::alloc::Global;
 use sw_text::{Memory, Name};
 use sw_values::Value;
 
-/// The variables that running code sees: those of the module's top, and those of the frames, of which the running code is in the innermost.
+/// The variables that running code sees: those of the module's top, and those of the frames, of which the running code
+/// is in the innermost.
 #[derive(Drop)]
 pub struct Scopes {
     top: Table,
@@ -40,7 +41,8 @@ impl Scopes {
         }
     }
 
-    /// A new frame, which stands on another: on the top where that is `None`, and on the innermost where it isn't there any more. After `Memory` all is as before.
+    /// A new frame, which stands on another: on the top where that is `None`, and on the innermost where it isn't there
+    /// any more. After `Memory` all is as before.
     pub fn on(&mut self, base: Option<Mark>, kind: FrameKind) -> Result<(), Memory>
         ensures ok { OnOk result (self.new ≡ s.on self.old base kind) }
         ensures err { OnErr result (self.new ≡ self.old) }
@@ -91,7 +93,8 @@ impl Scopes {
         self.top.get(name)
     }
 
-    /// Whether what a name has before its default is sought among the variables of the top alone, for a declaration in code of this origin with or without `!global`. Takes no memory.
+    /// Whether what a name has before its default is sought among the variables of the top alone, for a declaration in
+    /// code of this origin with or without `!global`. Takes no memory.
     pub fn top_alone(&self, origin: Origin, global: bool) -> bool
         ensures { result ≡ s.top_alone origin self.now global }
     {
@@ -126,7 +129,8 @@ impl Scopes {
         }
     }
 
-    /// An assignment in code of this origin: to the variable that is seen, or to a new one. After `Memory` all is as before.
+    /// An assignment in code of this origin: to the variable that is seen, or to a new one. After `Memory` all is as
+    /// before.
     #[tactic(auto, unfolding(crate::specs::Scopes::set))]
     pub fn set(&mut self, origin: Origin, name: Name, value: Value) -> Result<(), Memory>
         ensures ok { OnOk result (self.new ≡ s.set origin self.old (name, value)) }
@@ -157,7 +161,8 @@ impl Scopes {
         self.frames.all_flow()
     }
 
-    /// Whether an assignment in code of this origin to a name that no frame has sets a variable of the top. Takes no memory.
+    /// Whether an assignment in code of this origin to a name that no frame has sets a variable of the top. Takes no
+    /// memory.
     #[tactic(auto, unfolding(crate::specs::Scopes::look_top))]
     pub fn sets_top(&self, origin: Origin, name: &Name) -> bool
         ensures { result ≡ s.sets_top origin self.now name.now }

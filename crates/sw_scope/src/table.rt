@@ -51,7 +51,8 @@ impl Table {
         self.entries.contains_key(name)
     }
 
-    // Gives a name a value: a name that is there keeps its place, and a new one comes last. After `Memory` all is as before.
+    // Gives a name a value: a name that is there keeps its place, and a new one comes last. After `Memory` all is as
+    // before.
     pub fn add(&mut self, name: Name, value: Value) -> Result<(), Memory>
         ensures ok { OnOk result (self.new ≡ insert_entry bytes_eq self.old name value) }
         ensures err { OnErr result (self.new ≡ self.old) }

@@ -18,8 +18,9 @@ use sw_tree::Sheet;
 // How many levels of brackets may be open.
 const LEVELS: u8 = 128;
 
-/// The sheet of a text: variables, assignments, loads and rules, each with its span. A fault stands at the first token with which no
-/// sheet can begin, or at the end of the text; a URL that no `as` follows and whose default namespace is no name is such a token.
+/// The sheet of a text: variables, assignments, loads and rules, each with its span. A fault stands at the first token
+/// with which no sheet can begin, or at the end of the text; a URL that no `as` follows and whose default namespace is
+/// no name is such a token.
 pub fn read_sheet(alloc: Global, text: &Shared<SheetText>) -> Result<Shared<Sheet>, ReadEnd>
     ensures result { Returns result (sheet_of text.now) }
     ensures grammar { Obeys text.now result }
@@ -28,9 +29,9 @@ pub fn read_sheet(alloc: Global, text: &Shared<SheetText>) -> Result<Shared<Shee
     read_tokens(alloc, &tokens)
 }
 
-/// A law: what `read_sheet` gives for a text is what the grammar says of it. The tree is what the whole list of tokens derives, and the
-/// only one; a fault stands where no sheet can go on. A fault of depth comes exactly where a token is the first that opens a level more
-/// than may be open.
+/// A law: what `read_sheet` gives for a text is what the grammar says of it. The tree is what the whole list of tokens
+/// derives, and the only one; a fault stands where no sheet can go on. A fault of depth comes exactly where a token is
+/// the first that opens a level more than may be open.
 pub fn sheets_are_of_the_grammar()
     ensures grammar { (sheet : Text) → IsReading sheet (sheet_of sheet) }
     ensures depth { (sheet : Text) → TellsDepth sheet (sheet_of sheet) }

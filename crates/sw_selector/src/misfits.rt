@@ -31,7 +31,8 @@ fn part_misfits(parents: &[Complex], ends: Ends, levels: u8, joined: bool, part:
 
 #[cycle(misfits)]
 fn parts_misfit(parents: &[Complex], ends: Ends, levels: u8, parts: &[Part]) -> bool
-    ensures { result ≡ parts_misfit (list_misfits parents.now ends levels) parents.now ends levels false false parts.now }
+    ensures { result ≡ parts_misfit (list_misfits parents.now ends levels) parents.now ends levels false false
+        parts.now }
 {
     let mut found = false;
     let mut joined = false;

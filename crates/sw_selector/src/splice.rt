@@ -133,7 +133,8 @@ pub fn push_all_spliced(
     parents: &[Complex],
     complex: &[Part],
 ) -> Result<(), Memory>
-    ensures { OnOk result (list.new ≡ list.old ++ map (λ (parent : List Part). spliced parent complex.now) parents.now) }
+    ensures { OnOk result (list.new
+        ≡ list.old ++ map (λ (parent : List Part). spliced parent complex.now) parents.now) }
 {
     'parents: for parent in parents {
         list.push(spliced(alloc, parent.as_slice(), complex)?)?;

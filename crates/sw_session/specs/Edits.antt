@@ -35,7 +35,8 @@ SendEnds Ended reply written now = ⊥
 SendEnds Wrong reply written now = ⊥
 SendEnds CutOff reply written now = ⊥
 SendEnds SourceFailed reply written now = ⊥
-SendEnds SinkFailed reply written now = (front : List ℕ) × (back : List ℕ) × (reply ≡ front ++ back) × Appends written now front
+SendEnds SinkFailed reply written now =
+    (front : List ℕ) × (back : List ℕ) × (reply ≡ front ++ back) × Appends written now front
 SendEnds Memory reply written now = Appends written now []
 SendEnds OutsideFailed reply written now = ⊥
 SendEnds Over reply written now = ⊥
@@ -43,7 +44,8 @@ SendEnds Over reply written now = ⊥
 -- how the reading of a put's bytes ends, without the line feed behind them
 abbrev pub BodyEnds : Stop → ℕ → List ℕ → List ℕ → Option (List ℕ) → Type 0
 BodyEnds Ended count used ahead left = ⊥
-BodyEnds Wrong count used ahead left = (bytes : List ℕ) × (byte : ℕ) × (used ≡ bytes ++ byte ∷ []) × (length bytes ≡ count) × (byte ≢ 10)
+BodyEnds Wrong count used ahead left =
+    (bytes : List ℕ) × (byte : ℕ) × (used ≡ bytes ++ byte ∷ []) × (length bytes ≡ count) × (byte ≢ 10)
 BodyEnds CutOff count used ahead left = (length used ≤ count) × (ahead ≡ []) × IsAtEnd left
 BodyEnds SourceFailed count used ahead left = (length used ≤ count) × (ahead ≡ [])
 BodyEnds SinkFailed count used ahead left = ⊥
@@ -71,7 +73,8 @@ PutEnds stop count ahead left ahead_now left_now =
     (used : List ℕ) × Reads ahead left used ahead_now left_now × BodyEnds stop count used ahead_now left_now
 
 -- a put was carried out, and its reply was written
-pub record PutAnswers (path : List ℕ) (count : ℕ) (old : Place) (before : Keeping) (new : Place) (after : Keeping) : Type 0 where
+pub record PutAnswers (path : List ℕ) (count : ℕ) (old : Place) (before : Keeping) (new : Place) (after : Keeping) :
+    Type 0 where
   pub bytes : List ℕ
   pub uses : Uses old (bytes ++ 10 ∷ []) new
   pub long : length bytes ≡ count
@@ -80,7 +83,8 @@ pub record PutAnswers (path : List ℕ) (count : ℕ) (old : Place) (before : Ke
   pub sends : Appends old.written new.written reply
 
 -- a put was carried out, and a front of its reply was written
-pub record PutBreaks (path : List ℕ) (count : ℕ) (old : Place) (before : Keeping) (new : Place) (after : Keeping) : Type 0 where
+pub record PutBreaks (path : List ℕ) (count : ℕ) (old : Place) (before : Keeping) (new : Place) (after : Keeping) :
+    Type 0 where
   pub bytes : List ℕ
   pub uses : Uses old (bytes ++ 10 ∷ []) new
   pub long : length bytes ≡ count
@@ -93,12 +97,13 @@ pub record PutBreaks (path : List ℕ) (count : ℕ) (old : Place) (before : Kee
   pub near : length new.ahead ≤ 4096
 
 -- a put's bytes didn't come whole, and nothing else changed
-pub record BodyStops (stop : Stop) (count : ℕ) (old : Place) (before : Keeping) (new : Place) (after : Keeping) : Type 0 where
-  pub used : List ℕ
-  pub uses : Uses old used new
-  pub ends : BodyEnds stop count used new.ahead new.left
-  pub sends : Appends old.written new.written []
-  pub same : after ≡ before
+pub record BodyStops (stop : Stop) (count : ℕ) (old : Place) (before : Keeping) (new : Place) (after : Keeping) : Type 0
+  where
+    pub used : List ℕ
+    pub uses : Uses old used new
+    pub ends : BodyEnds stop count used new.ahead new.left
+    pub sends : Appends old.written new.written []
+    pub same : after ≡ before
 
 -- how a put ends that isn't answered whole
 abbrev pub PutStops : Stop → List ℕ → ℕ → Place → Keeping → Place → Keeping → Type 0

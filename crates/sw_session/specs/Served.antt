@@ -11,7 +11,8 @@ use Rattle.sw_protocol.specs.Served as protocol
 use Rattle.sw_session.specs.Script.{grammar}
 use Rattle.sw_session.specs.Transcript.{Held, held, session}
 
--- what is around a session: the bytes left in the source, those written into the sink, the paths of the bodies that ran, and what the host's functions are
+-- what is around a session: the bytes left in the source, those written into the sink, the paths of the bodies that
+-- ran, and what the host's functions are
 pub record Surroundings : Type 0 where
   pub left : Option (List ℕ)
   pub written : Option (List ℕ)
@@ -29,7 +30,8 @@ nothing_held hosts = held empty [] hosts
 abbrev pub around : Surroundings → Held → protocol.Surroundings Held
 around s inside = protocol.surroundings s.left s.written inside s.ran
 
--- from an empty folder and no kept run at most so many requests were answered; of what is held then the host's functions are seen
+-- from an empty folder and no kept run at most so many requests were answered; of what is held then the host's
+-- functions are seen
 pub record Served (setting : Setting) (most : ℕ) (stop : Stop) (old new : Surroundings) : Type 0 where
   pub holds : Held
   pub hosts : new.hosts ≡ holds.hosts
@@ -50,6 +52,9 @@ IsBrokenOff Memory = ⊤
 IsBrokenOff OutsideFailed = ⊥
 IsBrokenOff Over = ⊥
 
--- a session that nothing breaks off ends exactly as the script of all these bytes calls for, and it has answered that script
+-- a session that nothing breaks off ends exactly as the script of all these bytes calls for, and it has answered that
+-- script
 abbrev pub EndsExactly : ℕ → Stop → List ℕ → List ℕ → Type 0
-EndsExactly most stop bytes taken = IsBrokenOff stop ⊎ ((stop ≡ stop_at (script grammar most bytes).ending) × (script grammar most taken ≡ script grammar most bytes))
+EndsExactly most stop bytes taken =
+    IsBrokenOff stop ⊎ ((stop ≡ stop_at (script grammar most bytes).ending)
+    × (script grammar most taken ≡ script grammar most bytes))

@@ -12,7 +12,12 @@ use Rattle.sw_modules.specs.Fresh.{Setting}
 
 -- a fault of syntax at the first place of a file
 abbrev pub unread : List ℕ → Fault
-unread path = record { code = Syntax; span = record { file = path; from = record { line = 1; column = 1 }; to = record { line = 1; column = 1 } } }
+unread path =
+    record {
+      code = Syntax;
+      span =
+          record { file = path; from = record { line = 1; column = 1 }; to = record { line = 1; column = 1 } };
+    }
 
 abbrev pub is_scss : List ℕ → Bool
 is_scss path = ends_with nat_eq path (codes ".scss")
@@ -21,9 +26,12 @@ is_scss path = ends_with nat_eq path (codes ".scss")
 unfoldable pub sheet_at : List ℕ → List ℕ → Result Sheet Fault
 sheet_at path text = if is_scss path then sheet_of (record { path = path; bytes = text }) else Err (unread path)
 
--- what compiles rest on: how files are read, what the bodies of modules do, and what the host's functions answer and are afterwards
-abbrev pub setting_of : BodyOf → (HostState → List ℕ → List Plain → Option Plain) → (HostState → List ℕ → List Plain → HostState) → Setting
-setting_of body answer after = record { functions = record { answer = answer; after = after }; read = sheet_at; body = body }
+-- what compiles rest on: how files are read, what the bodies of modules do, and what the host's functions answer and
+-- are afterwards
+abbrev pub setting_of : BodyOf → (HostState → List ℕ → List Plain → Option Plain)
+    → (HostState → List ℕ → List Plain → HostState) → Setting
+setting_of body answer after =
+    record { functions = record { answer = answer; after = after }; read = sheet_at; body = body }
 
 -- without functions of a host
 abbrev pub hostless : BodyOf → Setting

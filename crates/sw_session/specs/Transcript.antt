@@ -28,8 +28,9 @@ held folder kept hosts = record { folder = folder; kept = kept; hosts = hosts }
 abbrev pub holding : Keeping → HostState → Held
 holding keeper hosts = held keeper.folder keeper.kept hosts
 
--- what follows of a request from no definition. An edit has one mark alone. A compile was answered, and these bodies ran, each for its
--- cause; or it was refused for want of memory: the bodies that ran before, and what the host's functions are then
+-- what follows of a request from no definition. An edit has one mark alone. A compile was answered, and these bodies
+-- ran, each for its cause; or it was refused for want of memory: the bodies that ran before, and what the host's
+-- functions are then
 pub data Mark : Type 0 where
   Edited : Mark
   Answered : (ran : List (List ℕ × Cause)) → Mark
@@ -37,7 +38,8 @@ pub data Mark : Type 0 where
 
 -- an edit runs no body, and the kept runs stay
 abbrev pub edit_turn : Held → Result Files EditFault → Turn Held Reply
-edit_turn h edit = record { text = edit_text edit; told = []; ran = []; held = held (folder_after edit h.folder) h.kept h.hosts }
+edit_turn h edit =
+    record { text = edit_text edit; told = []; ran = []; held = held (folder_after edit h.folder) h.kept h.hosts }
 
 -- the reply tells of the bodies that ran
 abbrev pub reply_of : Compiled → List (List ℕ × Cause) → Reply
@@ -55,8 +57,10 @@ answered_turn h entry c ran = record {
 -- a compile edits nothing; one that is refused leaves the kept runs too
 abbrev pub compile_turn : Setting → Held → List ℕ → List (List ℕ) → Mark → Turn Held Reply
 compile_turn setting h entry paths Edited = record { text = []; told = []; ran = []; held = h }
-compile_turn setting h entry paths (Answered ran) = answered_turn h entry (compiled setting h.folder paths entry h.hosts) ran
-compile_turn setting h entry paths (Refused ran hosts) = record { text = memory_text; told = []; ran = ran; held = held h.folder h.kept hosts }
+compile_turn setting h entry paths (Answered ran) =
+    answered_turn h entry (compiled setting h.folder paths entry h.hosts) ran
+compile_turn setting h entry paths (Refused ran hosts) =
+    record { text = memory_text; told = []; ran = ran; held = held h.folder h.kept hosts }
 
 -- what comes of one request
 unfoldable pub turn_of : Setting → Held → Event → Mark → Turn Held Reply
@@ -69,10 +73,12 @@ IsEditMark Edited = ⊤
 IsEditMark (Answered ran) = ⊥
 IsEditMark (Refused ran hosts) = ⊥
 
--- the bodies that an answered compile's mark tells of are the runs of its evaluation that aren't the kept ones of its entry, in order, each with its cause
+-- the bodies that an answered compile's mark tells of are the runs of its evaluation that aren't the kept ones of its
+-- entry, in order, each with its cause
 abbrev pub IsCompileMark : Setting → Held → List ℕ → List (List ℕ) → Mark → Type 0
 IsCompileMark setting h entry paths Edited = ⊥
-IsCompileMark setting h entry paths (Answered ran) = Ran (table_of h.kept entry) (compiled setting h.folder paths entry h.hosts).runs ran
+IsCompileMark setting h entry paths (Answered ran) =
+    Ran (table_of h.kept entry) (compiled setting h.folder paths entry h.hosts).runs ran
 IsCompileMark setting h entry paths (Refused ran hosts) = ⊤
 
 abbrev pub IsMark : Setting → Held → Event → Mark → Type 0

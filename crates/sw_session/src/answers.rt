@@ -23,7 +23,8 @@ use sw_wire::{memory_reply, write_reply};
 use sw_world::{Engine, Hosts};
 
 impl<E: Engine> Session<E> {
-    /// Compiles a file and sends the reply. A compile that finds no memory is refused; where no memory is found for the reply, the session ends.
+    /// Compiles a file and sends the reply. A compile that finds no memory is refused; where no memory is found for the
+    /// reply, the session ends.
     pub(crate) fn compile<K: Sink, H: Hosts>(
         &mut self,
         entry: &Name,
@@ -34,10 +35,13 @@ impl<E: Engine> Session<E> {
     ) -> Result<(), Stop>
         ensures ok { OnOk result (Says (session (setting_of E.body H.answer H.after)) (Compile entry.now paths.now)
             (standing (holding self.old.keeper (H.state hosts.old)) (E.ran engine.old))
-            (standing (holding self.new.keeper (H.state hosts.new)) (E.ran engine.new)) (K.written sink.old) (K.written sink.new)) }
-        ensures err { IfErr result (λ stop. SayStops (session (setting_of E.body H.answer H.after)) stop (Compile entry.now paths.now)
+            (standing (holding self.new.keeper (H.state hosts.new)) (E.ran engine.new)) (K.written sink.old)
+            (K.written sink.new)) }
+        ensures err { IfErr result (λ stop. SayStops (session (setting_of E.body H.answer H.after)) stop
+            (Compile entry.now paths.now)
             (standing (holding self.old.keeper (H.state hosts.old)) (E.ran engine.old))
-            (standing (holding self.new.keeper (H.state hosts.new)) (E.ran engine.new)) (K.written sink.old) (K.written sink.new)) }
+            (standing (holding self.new.keeper (H.state hosts.new)) (E.ran engine.new)) (K.written sink.old)
+            (K.written sink.new)) }
         ensures cause { Cause Stop.SinkFailed (K.faults sink.old) (K.faults sink.new) result }
     {
         let reader = SheetReader;
@@ -54,10 +58,14 @@ impl<E: Engine> Session<E> {
     }
 
     pub(crate) fn remove<K: Sink>(&mut self, path: &Name, sink: &mut K) -> Result<(), Stop>
-        ensures ok { OnOk result ((setting : Setting) (hosts : HostState) (ran : List (List ℕ)) → Says (session setting) (Remove path.now)
-            (standing (holding self.old.keeper hosts) ran) (standing (holding self.new.keeper hosts) ran) (K.written sink.old) (K.written sink.new)) }
-        ensures err { IfErr result (λ stop. (setting : Setting) (hosts : HostState) (ran : List (List ℕ)) → SayStops (session setting) stop (Remove path.now)
-            (standing (holding self.old.keeper hosts) ran) (standing (holding self.new.keeper hosts) ran) (K.written sink.old) (K.written sink.new)) }
+        ensures ok { OnOk result ((setting : Setting) (hosts : HostState) (ran : List (List ℕ))
+            → Says (session setting) (Remove path.now)
+            (standing (holding self.old.keeper hosts) ran) (standing (holding self.new.keeper hosts) ran)
+            (K.written sink.old) (K.written sink.new)) }
+        ensures err { IfErr result (λ stop. (setting : Setting) (hosts : HostState) (ran : List (List ℕ))
+            → SayStops (session setting) stop (Remove path.now)
+            (standing (holding self.old.keeper hosts) ran) (standing (holding self.new.keeper hosts) ran)
+            (K.written sink.old) (K.written sink.new)) }
         ensures cause { Cause Stop.SinkFailed (K.faults sink.old) (K.faults sink.new) result }
     {
         let reply = edits::remove(&mut self.keeper, path.as_str());
@@ -75,9 +83,11 @@ impl<E: Engine> Session<E> {
         source: &mut S,
         sink: &mut K,
     ) -> Result<(), Stop>
-        ensures ok { OnOk result (PutAnswers path.now count (place reader.old (S.left source.old) (K.written sink.old)) self.old.keeper
+        ensures ok { OnOk result (PutAnswers path.now count (place reader.old (S.left source.old) (K.written sink.old))
+            self.old.keeper
             (place reader.new (S.left source.new) (K.written sink.new)) self.new.keeper) }
-        ensures err { IfErr result (λ stop. PutStops stop path.now count (place reader.old (S.left source.old) (K.written sink.old)) self.old.keeper
+        ensures err { IfErr result (λ stop. PutStops stop path.now count
+            (place reader.old (S.left source.old) (K.written sink.old)) self.old.keeper
             (place reader.new (S.left source.new) (K.written sink.new)) self.new.keeper) }
         ensures source_cause { Cause Stop.SourceFailed (S.faults source.old) (S.faults source.new) result }
         ensures sink_cause { Cause Stop.SinkFailed (K.faults sink.old) (K.faults sink.new) result }
@@ -93,7 +103,8 @@ impl<E: Engine> Session<E> {
 /// Sends the reply to a compile. Where no memory is found for its text, nothing is written.
 fn send_reply<K: Sink>(alloc: Global, reply: &Reply, sink: &mut K) -> Result<(), Stop>
     ensures ok { OnOk result (Appends (K.written sink.old) (K.written sink.new) (reply_text reply.now)) }
-    ensures err { IfErr result (λ stop. SendEnds stop (reply_text reply.now) (K.written sink.old) (K.written sink.new)) }
+    ensures err { IfErr result (λ stop. SendEnds stop (reply_text reply.now) (K.written sink.old)
+        (K.written sink.new)) }
     ensures cause { Cause Stop.SinkFailed (K.faults sink.old) (K.faults sink.new) result }
 {
     let mut text = Vec::new(alloc);

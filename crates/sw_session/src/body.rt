@@ -16,9 +16,11 @@ pub fn read_body<S: Source>(
     keep: bool,
     body: &mut Vec<u8>,
 ) -> Result<(), Stop>
-    ensures ok { OnOk result ((bytes : List ℕ) × Reads reader.old (S.left source.old) (bytes ++ 10 ∷ []) reader.new (S.left source.new)
+    ensures ok { OnOk result ((bytes : List ℕ)
+        × Reads reader.old (S.left source.old) (bytes ++ 10 ∷ []) reader.new (S.left source.new)
         × (length bytes ≡ count) × (IsTrue keep → body.new.items ≡ bytes)) }
-    ensures err { IfErr result (λ stop. (used : List ℕ) × Reads reader.old (S.left source.old) used reader.new (S.left source.new)
+    ensures err { IfErr result (λ stop. (used : List ℕ)
+        × Reads reader.old (S.left source.old) used reader.new (S.left source.new)
         × BodyEnds stop count used reader.new (S.left source.new)) }
     ensures bound { OnOk result (length reader.new ≤ 4096) }
     ensures cause { Cause Stop.SourceFailed (S.faults source.old) (S.faults source.new) result }
@@ -39,9 +41,11 @@ fn read_bytes<S: Source>(
     keep: bool,
     body: &mut Vec<u8>,
 ) -> Result<(), ReadStop>
-    ensures ok { OnOk result ((bytes : List ℕ) × Reads reader.old (S.left source.old) bytes reader.new (S.left source.new)
+    ensures ok { OnOk result ((bytes : List ℕ)
+        × Reads reader.old (S.left source.old) bytes reader.new (S.left source.new)
         × (length bytes ≡ count) × (IsTrue keep → body.new.items ≡ bytes)) }
-    ensures err { IfErr result (λ stop. (used : List ℕ) × Reads reader.old (S.left source.old) used reader.new (S.left source.new)
+    ensures err { IfErr result (λ stop. (used : List ℕ)
+        × Reads reader.old (S.left source.old) used reader.new (S.left source.new)
         × RunEnds stop count used reader.new (S.left source.new) (S.faults source.old) (S.faults source.new)) }
     ensures later { S.faults source.old ≤ S.faults source.new }
 {

@@ -16,8 +16,8 @@ use sw_text::Name;
 use sw_wire::edit_reply;
 use sw_world::Engine;
 
-/// Reads the bytes of a put, judges it and edits the folder; gives the reply. The bytes of a put that is refused for its path or
-/// its length are dropped as they come.
+/// Reads the bytes of a put, judges it and edits the folder; gives the reply. The bytes of a put that is refused for
+/// its path or its length are dropped as they come.
 pub fn put<S: Source, E: Engine>(
     alloc: Global,
     path: &Name,
@@ -28,7 +28,8 @@ pub fn put<S: Source, E: Engine>(
 ) -> Result<&'static [u8], Stop>
     ensures ok { IfOk result (λ reply. Puts path.now count reader.old (S.left source.old) keeper.old
         reader.new (S.left source.new) keeper.new reply.now) }
-    ensures err { IfErr result (λ stop. PutEnds stop count reader.old (S.left source.old) reader.new (S.left source.new)) }
+    ensures err { IfErr result (λ stop. PutEnds stop count reader.old (S.left source.old) reader.new
+        (S.left source.new)) }
     ensures same { OnErr result (keeper.new ≡ keeper.old) }
     ensures bound { OnOk result (length reader.new ≤ 4096) }
     ensures cause { Cause Stop.SourceFailed (S.faults source.old) (S.faults source.new) result }
@@ -53,7 +54,8 @@ fn keep<E: Engine>(
     body: &[u8],
 ) -> Result<&'static [u8], Stop>
     ensures reply { IfOk result (λ reply. reply.now ≡ edit_text (after_put path.now body.now keeper.old.folder)) }
-    ensures folder { OnOk result (keeper.new.folder ≡ folder_after (after_put path.now body.now keeper.old.folder) keeper.old.folder) }
+    ensures folder { OnOk result (keeper.new.folder
+        ≡ folder_after (after_put path.now body.now keeper.old.folder) keeper.old.folder) }
     ensures kept { keeper.new.kept ≡ keeper.old.kept }
     ensures same { OnErr result (keeper.new ≡ keeper.old) }
     ensures err { IfErr result (λ stop. stop ≡ Stop.Memory) }

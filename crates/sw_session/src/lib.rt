@@ -1,5 +1,6 @@
 //! A session: answers the requests of a source over a folder, and writes the replies into a sink.
-//! Lines and bytes flow in and become requests; edits go to the folder, compiles go over it with an engine and the host's functions; replies flow out.
+//! Lines and bytes flow in and become requests; edits go to the folder, compiles go over it with an engine and the
+//! host's functions; replies flow out.
 #![tactic(auto)]
 
 mod answers;

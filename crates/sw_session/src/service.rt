@@ -12,10 +12,10 @@ use sw_world::{Engine, Hosts};
 
 const MOST_REQUESTS: u32 = 1_000_000;
 
-/// Answers the requests of the source until the session ends, and gives the status: 0 after the line `end`; 2 at what is no
-/// request; 3 where the input ends before; 4 and 5 where the source or the sink failed; 6 for want of memory outside a
-/// compile; 9 where a request comes after 1,000,000 that were answered. Compiles go over the folder with this engine and these
-/// functions of a host. The sink is flushed after each reply.
+/// Answers the requests of the source until the session ends, and gives the status: 0 after the line `end`; 2 at what
+/// is no request; 3 where the input ends before; 4 and 5 where the source or the sink failed; 6 for want of memory
+/// outside a compile; 9 where a request comes after 1,000,000 that were answered. Compiles go over the folder with this
+/// engine and these functions of a host. The sink is flushed after each reply.
 pub fn serve<S: Source, K: Sink, E: Engine, H: Hosts>(
     alloc: Global,
     source: &mut S,

@@ -85,12 +85,18 @@ fn turn<S: Source, K: Sink, E: Engine, H: Hosts>(
     hosts: &mut H,
 ) -> Result<(), Stop>
     requires { length lines.old.reader ≤ 4096 }
-    ensures ok { OnOk result (Answers (grammar.front lines.old.line.items) (protocol (setting_of E.body H.answer H.after))
-        (place lines.old.reader (S.left source.old) (K.written sink.old)) (standing (holding session.old.keeper (H.state hosts.old)) (E.ran engine.old))
-        (place lines.new.reader (S.left source.new) (K.written sink.new)) (standing (holding session.new.keeper (H.state hosts.new)) (E.ran engine.new))) }
-    ensures err { IfErr result (λ stop. TurnEnds (grammar.front lines.old.line.items) (protocol (setting_of E.body H.answer H.after)) stop
-        (place lines.old.reader (S.left source.old) (K.written sink.old)) (standing (holding session.old.keeper (H.state hosts.old)) (E.ran engine.old))
-        (place lines.new.reader (S.left source.new) (K.written sink.new)) (standing (holding session.new.keeper (H.state hosts.new)) (E.ran engine.new))) }
+    ensures ok { OnOk result (Answers (grammar.front lines.old.line.items)
+        (protocol (setting_of E.body H.answer H.after))
+        (place lines.old.reader (S.left source.old) (K.written sink.old))
+        (standing (holding session.old.keeper (H.state hosts.old)) (E.ran engine.old))
+        (place lines.new.reader (S.left source.new) (K.written sink.new))
+        (standing (holding session.new.keeper (H.state hosts.new)) (E.ran engine.new))) }
+    ensures err { IfErr result (λ stop. TurnEnds (grammar.front lines.old.line.items)
+        (protocol (setting_of E.body H.answer H.after)) stop
+        (place lines.old.reader (S.left source.old) (K.written sink.old))
+        (standing (holding session.old.keeper (H.state hosts.old)) (E.ran engine.old))
+        (place lines.new.reader (S.left source.new) (K.written sink.new))
+        (standing (holding session.new.keeper (H.state hosts.new)) (E.ran engine.new))) }
     ensures source_cause { Cause Stop.SourceFailed (S.faults source.old) (S.faults source.new) result }
     ensures sink_cause { Cause Stop.SinkFailed (K.faults sink.old) (K.faults sink.new) result }
 {

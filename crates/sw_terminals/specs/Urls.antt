@@ -1,5 +1,5 @@
--- The addresses of loads, and the namespaces that they give (Sass specification, `@use`): the last component of the URL up to its
--- first `.`, without one leading `_`, where that is a name; of `sass:math` it is `math`.
+-- The addresses of loads, and the namespaces that they give (Sass specification, `@use`): the last component of the URL
+-- up to its first `.`, without one leading `_`, where that is a name; of `sass:math` it is `math`.
 use Rattle.std.specs.Prelude.{ℕ, ◌+◌, Bool, false, ◌&&◌, ◌||◌, ◌==◌, nat_le, if◌then◌else◌, List, [], ◌∷◌, length, codes, nat_eq, slice_range}
 use Rattle.std.specs.List.{list_all, starts_with}
 
@@ -47,7 +47,8 @@ abbrev pub is_name_behind : List ℕ → Bool
 is_name_behind [] = false
 is_name_behind (b ∷ bytes) = (starts_name b || (b == 45)) && list_all is_name_byte bytes
 
--- all of it is a name: `--` and any name characters, or an optional `-` and a name that begins with neither a digit nor a `-`
+-- all of it is a name: `--` and any name characters, or an optional `-` and a name that begins with neither a digit nor
+-- a `-`
 abbrev pub is_name : List ℕ → Bool
 is_name [] = false
 is_name (b ∷ bytes) = if b == 45 then is_name_behind bytes else starts_name b && list_all is_name_byte bytes

@@ -1,4 +1,5 @@
-//! What a token is to the grammar of sheets: its terminal, and where it stands. `sw_lexemes` makes lexemes of tokens, the table of `sw_syntax` speaks of terminals, and the readers read lexemes.
+//! What a token is to the grammar of sheets: its terminal, and where it stands. `sw_lexemes` makes lexemes of tokens,
+//! the table of `sw_syntax` speaks of terminals, and the readers read lexemes.
 #![tactic(auto)]
 
 mod lexeme;

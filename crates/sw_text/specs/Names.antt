@@ -1,5 +1,5 @@
--- Which names are private to their module (Sass reference documentation, "Private Members").
-use Rattle.std.specs.Prelude.{List, [], ◌∷◌, ℕ, Bool, false, ◌||◌, ◌==◌}
+-- The names of members (Sass reference documentation, "Variables", "Private Members").
+use Rattle.std.specs.Prelude.{List, [], ◌∷◌, map, ℕ, Bool, false, ◌||◌, ◌==◌, if◌then◌else◌}
 
 abbrev pub hyphen : ℕ
 hyphen = 45
@@ -7,6 +7,14 @@ hyphen = 45
 abbrev pub underscore : ℕ
 underscore = 95
 
+-- private to its module
 abbrev pub is_private : List ℕ → Bool
 is_private [] = false
 is_private (first ∷ rest) = (first == hyphen) || (first == underscore)
+
+abbrev pub dash : ℕ → ℕ
+dash b = if b == underscore then hyphen else b
+
+-- as it is stored: with `-` for each `_`
+abbrev pub dashed : List ℕ → List ℕ
+dashed name = map dash name

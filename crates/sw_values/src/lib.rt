@@ -1,4 +1,5 @@
-//! The values of the language: what they are, when two are the same, and how they are written in CSS. Expressions make values; declarations and messages write them.
+//! The values of the language: what they are, when two are the same, and how they are written in CSS. Expressions make
+//! values; declarations and messages write them.
 #![tactic(auto)]
 
 mod amounts;

@@ -56,7 +56,8 @@ pub enum Node {
     },
 }
 
-/// The pairs of a map. No two keys are equal. Beside the pairs as they were written stand the canons of the keys, so that a key is found in constant time.
+/// The pairs of a map. No two keys are equal. Beside the pairs as they were written stand the canons of the keys, so
+/// that a key is found in constant time.
 #[cycle(value)]
 #[derive(Drop)]
 pub struct Pairs {
@@ -130,9 +131,11 @@ impl Pairs {
 }
 
 impl Value {
-    /// The value of a node, or `TooLarge` where it would weigh or nest too much. Looks at each item of a list once, and at nothing inside it. Takes no memory.
+    /// The value of a node, or `TooLarge` where it would weigh or nest too much. Looks at each item of a list once, and
+    /// at nothing inside it. Takes no memory.
     pub fn of(node: Node) -> Result<Value, ValueFault>
-        ensures { MatchResult result (λ value. (value ≡ plain_of node) × (is_within (plain_of node) ≡ true)) (λ fault. (fault ≡ F.TooLarge) × IsTooLarge (plain_of node)) }
+        ensures { MatchResult result (λ value. (value ≡ plain_of node) × (is_within (plain_of node) ≡ true))
+            (λ fault. (fault ≡ F.TooLarge) × IsTooLarge (plain_of node)) }
     {
         let weight = weight_of(&node);
         if weight > 1_048_576 {

@@ -30,7 +30,9 @@ kind_word Fatal = codes "fatal"
 
 -- what the message is, where it was said and how many bytes it has
 abbrev pub saying_head : Saying → List ℕ
-saying_head saying = kind_word saying.kind ++ codes " " ++ span_text saying.span ++ codes " " ++ decimal (length saying.text) ++ codes "\n"
+saying_head saying =
+    kind_word saying.kind ++ codes " " ++ span_text saying.span ++ codes " " ++ decimal (length saying.text)
+    ++ codes "\n"
 
 abbrev pub saying_text : Saying → List ℕ
 saying_text saying = saying_head saying ++ saying.text ++ codes "\n"

@@ -33,7 +33,8 @@ pub fn read_bases(alloc: Global, left: Option<&[u8]>) -> Result<List<Name>, Line
 
 // the word as text, where it is a load path
 fn base_text(word: &[u8]) -> Option<&str>
-    ensures { MatchOption result (is_base word.now ≡ false) (λ text. (is_base word.now ≡ true) × (text.now ≡ word.now)) }
+    ensures { MatchOption result (is_base word.now ≡ false)
+        (λ text. (is_base word.now ≡ true) × (text.now ≡ word.now)) }
 {
     match word_text(word) {
         Some(text) => { if is_base(text) { Some(text) } else { None } }

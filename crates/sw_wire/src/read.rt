@@ -10,9 +10,9 @@ use crate::{LineFault, Request};
 use std::alloc::Global;
 use sw_text::Name;
 
-/// The request that a line asks for: words of the bytes 0x21 to 0x7E with one space between them, which are `put PATH N`
-/// with one to seven digits without a needless leading zero, `remove PATH`, `compile PATH DIR..` with at most eight load
-/// paths, or `end`. `NotARequest` comes exactly where the line is none of these.
+/// The request that a line asks for: words of the bytes 0x21 to 0x7E with one space between them, which are
+/// `put PATH N` with one to seven digits without a needless leading zero, `remove PATH`, `compile PATH DIR..` with at
+/// most eight load paths, or `end`. `NotARequest` comes exactly where the line is none of these.
 pub fn read_request(alloc: Global, line: &[u8]) -> Result<Request, LineFault>
     ensures { IsRead result (request_of line.now) }
 {

@@ -8,9 +8,10 @@ use sw_record::{Cause, Outcome, Reply};
 use sw_text::{Fault, Memory, Name, Pos, Span};
 use sw_world::{SayKind, Saying};
 
-/// Writes the reply to a compile behind what stands in `out`: for each message the line `warn PATH L:C L:C N`, `debug PATH L:C L:C N`
-/// or `fatal PATH L:C L:C N`, the N bytes of its text and a line feed; for each module whose body ran the line `ran PATH CAUSE`; then
-/// `css N`, a line feed, the N bytes and a line feed, or the line `error CODE PATH L:C L:C`. After `Memory`, `out` is as before.
+/// Writes the reply to a compile behind what stands in `out`: for each message the line `warn PATH L:C L:C N`,
+/// `debug PATH L:C L:C N` or `fatal PATH L:C L:C N`, the N bytes of its text and a line feed; for each module whose
+/// body ran the line `ran PATH CAUSE`; then `css N`, a line feed, the N bytes and a line feed, or the line
+/// `error CODE PATH L:C L:C`. After `Memory`, `out` is as before.
 pub fn write_reply(alloc: Global, reply: &Reply, out: &mut Vec<u8>) -> Result<(), Memory>
     ensures ok { OnOk result (out.new.items ≡ out.old.items ++ reply_text reply.now) }
     ensures err { OnErr result (out.new.items ≡ out.old.items) }
@@ -189,8 +190,8 @@ fn pos_text(alloc: Global, pos: Pos) -> Result<Vec<u8>, Memory>
     Ok(text)
 }
 
-/// The reply to a put or a removal: the line `ok`, or `refused` with the code of the fault. An edit that found no memory has no
-/// reply of its own; its text is that of `memory_reply`. Takes no memory.
+/// The reply to a put or a removal: the line `ok`, or `refused` with the code of the fault. An edit that found no
+/// memory has no reply of its own; its text is that of `memory_reply`. Takes no memory.
 pub fn edit_reply(outcome: Result<(), EditFault>) -> &'static [u8]
     ensures { result.now ≡ edit_text outcome }
 {

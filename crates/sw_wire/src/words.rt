@@ -20,7 +20,8 @@ pub fn cut_word(text: &[u8]) -> (&[u8], Option<&[u8]>)
 
 /// The word as text, where it is one.
 pub fn word_text(word: &[u8]) -> Option<&str>
-    ensures { MatchOption result (is_word word.now ≡ false) (λ text. (is_word word.now ≡ true) × (text.now ≡ word.now)) }
+    ensures { MatchOption result (is_word word.now ≡ false)
+        (λ text. (is_word word.now ≡ true) × (text.now ≡ word.now)) }
 {
     if !is_word(word) {
         return None;

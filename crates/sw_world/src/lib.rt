@@ -1,4 +1,5 @@
-//! What a module's body asks of the outside, what it is answered, and how it ends; what answers questions (`World`, `Hosts`) and what runs bodies (`Engine`). Questions go up from the evaluator, answers come down.
+//! What a module's body asks of the outside, what it is answered, and how it ends; what answers questions (`World`,
+//! `Hosts`) and what runs bodies (`Engine`). Questions go up from the evaluator, answers come down.
 #![tactic(auto)]
 
 mod answer;

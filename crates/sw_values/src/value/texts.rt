@@ -393,7 +393,9 @@ fn write_list(
     bracketed: bool,
     items: &[Value],
 ) -> Result<(), Memory>
-    ensures { OnOk result (string_bytes out.new ≡ string_bytes out.old ++ in_brackets bracketed (pieces (glue_of separator) true (map (shown quotes) items.now))) }
+    ensures { OnOk result (string_bytes out.new
+        ≡ string_bytes out.old
+        ++ in_brackets bracketed (pieces (glue_of separator) true (map (shown quotes) items.now))) }
 {
     if bracketed {
         out.push_str("[")?;
@@ -413,7 +415,8 @@ fn write_items(
     glue: &str,
     items: &[Value],
 ) -> Result<(), Memory>
-    ensures { OnOk result (string_bytes out.new ≡ string_bytes out.old ++ pieces glue.now true (map (shown quotes) items.now)) }
+    ensures { OnOk result (string_bytes out.new
+        ≡ string_bytes out.old ++ pieces glue.now true (map (shown quotes) items.now)) }
 {
     let mut first = true;
     'items: for i in 0..items.len() {
@@ -432,7 +435,9 @@ fn write_item(
     first: bool,
     item: &Value,
 ) -> Result<bool, Memory>
-    ensures { IfOk result (λ after. (rest : List Shown) → string_bytes out.new ++ pieces glue.now after rest ≡ string_bytes out.old ++ pieces glue.now first (shown quotes item.now ∷ rest)) }
+    ensures { IfOk result (λ after. (rest : List Shown)
+        → string_bytes out.new ++ pieces glue.now after rest
+        ≡ string_bytes out.old ++ pieces glue.now first (shown quotes item.now ∷ rest)) }
 {
     if is_blank(quotes, item) {
         return Ok(first);

@@ -3,7 +3,7 @@ use Rattle.std.proofs.Common.{◌≡◌, ℕ, ◌+◌, ◌<◌, List, ◌∷◌,
 use Rattle.std.proofs.lemmas.List.{drop_all, take_more, map-append, length-take}
 use Rattle.std.proofs.lemmas.Str.{IsCharBoundary-after_ascii, IsCharBoundary-start}
 use Rattle.std.specs.Str.{IsCharBoundary, IsUtf8}
-use Rattle.sw_scope.specs.Passed.{dash, dashed}
+use Rattle.sw_text.specs.Names.{dash, dashed}
 
 -- behind a byte of ASCII a character begins
 pub boundary_behind : (bytes : List ℕ) (i : ℕ) → IsUtf8 bytes → i < length bytes → (b : ℕ) → get_or bytes i 0 ≡ b → b < 128 → IsCharBoundary bytes (i + 1)

@@ -1,7 +1,7 @@
 use Rattle.std.proofs.Common.{◌≡◌, ◌≤◌, ◌++◌, take, drop, string_bytes}
 use Rattle.std.specs.Str.{IsCharBoundary}
-use Rattle.sw_scope.specs.Passed.{dashed}
-use Rattle.sw_scope.proofs.dashed.dashed.Given as goal
+use Rattle.sw_text.specs.Names.{dashed}
+use Rattle.sw_text.proofs.name.Name.dashed.Given as goal
 
 abbrev pub invariant-bytes : goal.invariant-bytes
 invariant-bytes l = record {
