@@ -1,4 +1,6 @@
--- When two values are equal (`==`; Sass reference documentation, "Equality Operators"): numbers as quantities, strings by their text, colours by channels and alpha, lists by items, separator and brackets, maps by their pairs in any order. An argument list counts as a comma list, and a list without items and brackets is equal to the empty map.
+-- When two values are equal (`==`; Sass reference documentation, "Equality Operators"): numbers as quantities, strings by
+-- their text, colours by channels and alpha, lists by items, separator and brackets, maps by their pairs in any order. An
+-- argument list counts as a comma list, and a list without items and brackets is equal to the empty map.
 use Rattle.std.specs.Prelude.{◌≡◌, Bool, true, false, not, ◌&&◌, ◌==◌, if◌then◌else◌, List, [], ◌∷◌, map, is_some, bytes_eq, Option, Some, None}
 use Rattle.std.specs.Cmp.Lexicographic.{pointwise}
 use Rattle.sw_units.specs.Numbers.{are_equal}
@@ -26,7 +28,8 @@ same_truth one other = truth_word one == truth_word other
 abbrev pub is_nothing : Bool → List Plain → Bool
 is_nothing bracketed items = is_empty items && not bracketed
 
-abbrev pub lists_alike : (Plain → Plain → Bool) → Separator → Bool → List Plain → Separator → Bool → List Plain → Bool
+abbrev pub lists_alike : (Plain → Plain → Bool)
+    → Separator → Bool → List Plain → Separator → Bool → List Plain → Bool
 lists_alike same separator bracketed items other other_bracketed others =
     if is_nothing bracketed items then is_nothing other_bracketed others
     else same_separator separator other && same_truth bracketed other_bracketed && pointwise same items others

@@ -45,7 +45,8 @@ impl Pairs {
     // The value of the key that another map has at a place.
     fn value_at_key(&self, other: &Pairs, place: usize) -> Option<&Value>
         requires { place < length other.now }
-        ensures { (pair : Plain × Plain) → slice_get other.now place ≡ Some pair → option_copied result ≡ value_for is_equal pair.0 self.now }
+        ensures { (pair : Plain × Plain) → slice_get other.now place ≡ Some pair
+            → option_copied result ≡ value_for is_equal pair.0 self.now }
     {
         let keys = other.keys.get().as_slice();
         self.get(&keys[place])
@@ -54,7 +55,8 @@ impl Pairs {
     // Whether there is the key that another map has at a place.
     fn has_key_at(&self, other: &Pairs, place: usize) -> bool
         requires { place < length other.now }
-        ensures { keys_within is_equal (drop place other.now) self.now ≡ (result && keys_within is_equal (drop (place + 1) other.now) self.now) }
+        ensures { keys_within is_equal (drop place other.now) self.now
+            ≡ (result && keys_within is_equal (drop (place + 1) other.now) self.now) }
     {
         match self.value_at_key(other, place) {
             None => false,
@@ -226,7 +228,8 @@ fn equal_items(xs: &[Value], ys: &[Value]) -> bool
 #[cycle(equality)]
 fn equal_maps(pairs: &Pairs, others: &Pairs) -> bool
     ensures rule { result ≡ maps_alike is_equal pairs.now others.now }
-    ensures words { maps_alike is_equal pairs.now others.now ≡ bytes_eq (map_words (map canon_pair pairs.now)) (map_words (map canon_pair others.now)) }
+    ensures words { maps_alike is_equal pairs.now others.now
+        ≡ bytes_eq (map_words (map canon_pair pairs.now)) (map_words (map canon_pair others.now)) }
 {
     if pairs.len() != others.len() {
         return false;
@@ -260,7 +263,8 @@ fn pairs_within(pairs: &Pairs, others: &Pairs) -> bool
 #[cycle(equality)]
 fn is_pair_within(pairs: &Pairs, place: usize, others: &Pairs) -> bool
     requires { place < length pairs.now }
-    ensures { pairs_within is_equal (drop place pairs.now) others.now ≡ (result && pairs_within is_equal (drop (place + 1) pairs.now) others.now) }
+    ensures { pairs_within is_equal (drop place pairs.now) others.now
+        ≡ (result && pairs_within is_equal (drop (place + 1) pairs.now) others.now) }
 {
     let list = pairs.as_slice();
     let pair = &list[place];
