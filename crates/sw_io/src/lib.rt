@@ -5,6 +5,7 @@
 
 mod adapters;
 mod disk;
+mod folder_disk;
 mod give;
 mod listed;
 mod mem_disk;
@@ -19,6 +20,7 @@ mod traits;
 
 pub use adapters::{StdSink, StdSource};
 pub use disk::{Disk, DiskEnd};
+pub use folder_disk::FolderDisk;
 pub use mem_disk::MemDisk;
 pub use mem_sink::MemSink;
 pub use mem_source::MemSource;
