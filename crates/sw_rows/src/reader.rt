@@ -1,4 +1,6 @@
-// Values as rows write them: `1px/s`, `1/2` with its sides, `"a"`, `#fff`, `red`, `a`, `null`, `(a, b)`, `(a b)`, `(a / b)`, `(a,)`, `[a b]`, `()`, `(k: v)`, `args(a, $n: b)`; and `text*9`, `nested*9` and `nulls*9` for what is too long to be written.
+// Values as rows write them: `1px/s`, `1/2` with its sides, `"a"`, `#fff`, `red`, `a`, `null`, `(a, b)`, `(a b)`,
+// `(a / b)`, `(a,)`, `[a b]`, `()`, `(k: v)`, `args(a, $n: b)`; and `text*9`, `nested*9` and `nulls*9` for what is too
+// long to be written.
 use crate::escapes::add_unescaped;
 use crate::numbers::names;
 use crate::refusal::{Refusal, text_of};

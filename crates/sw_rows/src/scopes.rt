@@ -1,4 +1,5 @@
-// Calls on scopes and arguments: `bind $a, $b: default, $rest... ; 1, $b: 2, (x y)...`, and scripts as `scope block | declare x 1 | look x`.
+// Calls on scopes and arguments: `bind $a, $b: default, $rest... ; 1, $b: 2, (x y)...`, and scripts as
+// `scope block | declare x 1 | look x`.
 use crate::reader::Reader;
 use crate::refusal::Refusal;
 use crate::values::{DEPTH, inspected};

@@ -1,4 +1,5 @@
-// Calls on values: `css 1/2`, `plain_css "a"`, `inspect (a: b)`, `equal 1in ; 96px`, `same a ; "a"`, `truth null`, `weight (a b)`, `nesting (a b)`, `get (a: b) ; a`, `put (a: b) ; a ; c`, `append (a b) ; c`.
+// Calls on values: `css 1/2`, `plain_css "a"`, `inspect (a: b)`, `equal 1in ; 96px`, `same a ; "a"`, `truth null`,
+// `weight (a b)`, `nesting (a b)`, `get (a: b) ; a`, `put (a: b) ; a ; c`.
 use crate::reader::Reader;
 use crate::refusal::Refusal;
 use std::alloc::Global;
@@ -53,7 +54,7 @@ fn one_call(alloc: Global, name: &str, value: &Value) -> Result<String, Refusal>
 
 fn two_call(alloc: Global, name: &str, one: &Value, other: &Value) -> Result<String, Refusal> {
     match name {
-        "equal" => Ok(format!(in alloc; "{}", one.canon(alloc)? == other.canon(alloc)?)?),
+        "equal" => Ok(format!(in alloc; "{}", one.equals(other))?),
         "same" => Ok(format!(in alloc; "{}", one.same(other))?),
         "get" => match pairs_of(one)?.get(&other.canon(alloc)?) {
             Some(value) => inspected(alloc, value),
