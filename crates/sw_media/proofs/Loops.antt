@@ -1,24 +1,17 @@
 -- One turn of each loop of the reader.
-use Rattle.std.proofs.Common.{◌≡◌, ◌≢◌, ℕ, zero, suc, ◌+◌, ◌-◌, ◌<◌, Bool, true, false, List, [], ◌∷◌, ◌++◌, refl, ◌∙◌, ap, arith, Option, Some, None, Result, Err}
+use Rattle.std.proofs.Common.{◌≡◌, ◌≢◌, ℕ, zero, suc, ◌+◌, ◌-◌, ◌<◌, true, false, List, [], ◌∷◌, ◌++◌, refl, ◌∙◌, ap, arith, Option, Some, None, Result, Err}
 use Rattle.std.specs.Prelude.{◌==◌, codes, if◌then◌else◌}
 use Rattle.std.specs.Result.{IsErrAnd}
 use Rattle.std.proofs.lemmas.Result.{err_from_is_err_and}
 use Rattle.std.proofs.lemmas.Bool.Decides.{nat_tests}
 use Rattle.sw_scan.specs.declared.signs.TheConstants.{END}
 use Rattle.sw_scan.specs.Bytes.{sign, byte}
+use Rattle.sw_scan.proofs.Bounds.{if_true, if_false}
 use Rattle.sw_media.specs.declared.fault.MediaFault.{MediaFault}
 use Rattle.sw_media.specs.declared.fault.MediaFault.TheVariants.{BadQuery, MediaJoin, TooLarge, Memory}
 use Rattle.sw_media.specs.declared.query.Query.{Query}
 use Rattle.sw_media.specs.Words.{IsRead, white, name_end, is_at}
 use Rattle.sw_media.specs.Reading.{Conditions, feature_at, joined_by, condition_at, all_by, typed_condition, more_by, more_from, query_at, list_by, list_from}
-
-pub if_true : {A : Type 0} (b : Bool) (x y : A) → b ≡ true → (if b then x else y) ≡ x
-if_true true x y e = refl
-if_true false x y e = absurd (cc)
-
-pub if_false : {A : Type 0} (b : Bool) (x y : A) → b ≡ false → (if b then x else y) ≡ y
-if_false true x y e = absurd (cc)
-if_false false x y e = refl
 
 fails_by : {T U : Type 0} (e : MediaFault) (said : Option T) (other : Option U) → IsRead {T = T} (Err e) said → (said ≡ None → other ≡ None) → IsRead {T = U} (Err e) other
 fails_by BadQuery said other h f = f h

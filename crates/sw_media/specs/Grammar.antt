@@ -6,7 +6,6 @@ use Rattle.sw_scan.specs.declared.signs.TheConstants.{END}
 use Rattle.sw_scan.specs.Bytes.{sign, byte}
 use Rattle.sw_scan.specs.Pieces.{piece}
 use Rattle.sw_scan.specs.Brackets.{stop_at}
-use Rattle.sw_media.specs.declared.query.Modifier.{Modifier}
 use Rattle.sw_media.specs.declared.query.Modifier.TheVariants as modifiers
 use Rattle.sw_media.specs.declared.query.Condition.{Condition}
 use Rattle.sw_media.specs.declared.query.Condition.TheVariants as conditions

@@ -147,7 +147,7 @@ queries_of bs = limited (queries_in bs LEVELS)
 
 -- these are the queries, or this is why there are none; or no memory was found
 abbrev pub IsAnswer : Result Queries MediaFault → Result (List Query) MediaFault → Type 0
-IsAnswer (Ok queries) said = said ≡ Ok queries.list
+IsAnswer (Ok queries) said = said ≡ Ok queries
 IsAnswer (Err Memory) said = Unit {0}
 IsAnswer (Err BadQuery) said = said ≡ Err BadQuery
 IsAnswer (Err MediaJoin) said = said ≡ Err MediaJoin

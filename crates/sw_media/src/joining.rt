@@ -25,9 +25,9 @@ pub struct Kind {
 /// of any other two types is dropped. `MediaJoin` comes exactly where a query has `not` before its type; else
 /// `TooLarge` exactly where more than 10,000 queries would come.
 pub fn join(alloc: Global, outer: &Queries, inner: &Queries) -> Result<Queries, MediaFault>
-    ensures { IsAnswer result (join_by outer.now.list inner.now.list) }
+    ensures { IsAnswer result (join_by outer.now inner.now) }
 {
-    joined(alloc, outer.list.as_slice(), inner.list.as_slice())
+    joined(alloc, outer.as_slice(), inner.as_slice())
 }
 
 fn joined(alloc: Global, outers: &[Query], inners: &[Query]) -> Result<Queries, MediaFault>
@@ -39,9 +39,8 @@ fn joined(alloc: Global, outers: &[Query], inners: &[Query]) -> Result<Queries, 
     if too_many(outers, inners) {
         return Err(MediaFault::TooLarge);
     }
-    Ok(Queries {
-        list: outer_joined(alloc, inners, outers)?,
-    })
+    let list = outer_joined(alloc, inners, outers)?;
+    Ok(Queries::new(list))
 }
 
 fn is_not(modifier: Modifier) -> bool

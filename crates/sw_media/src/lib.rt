@@ -14,5 +14,6 @@ mod write;
 pub use fault::MediaFault;
 pub use joining::join;
 pub use laws::{joins_in_order, reads_the_grammar};
-pub use query::{Condition, Modifier, Queries, Query};
+pub use query::Queries;
+use query::{Condition, Modifier, Query};
 pub use reader::{LEVELS, MOST_QUERIES, read};

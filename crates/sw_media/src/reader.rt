@@ -34,7 +34,7 @@ fn within_limit(list: List<Query>) -> Result<Queries, MediaFault>
     if list.len() > MOST_QUERIES {
         return Err(MediaFault::TooLarge);
     }
-    Ok(Queries { list })
+    Ok(Queries::new(list))
 }
 
 #[tactic(auto, unfolding(crate::specs::Reading::queries_in))]

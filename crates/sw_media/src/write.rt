@@ -10,9 +10,9 @@ use sw_text::{Memory, Name};
 impl Queries {
     /// The queries as CSS has them: ` and ` and ` or ` between features, `, ` between queries.
     pub fn write(&self, alloc: Global) -> Result<Name, Memory>
-        ensures { IfOk result (λ text. text ≡ queries_text self.now.list) }
+        ensures { IfOk result (λ text. text ≡ queries_text self.now) }
     {
-        let text = queries_text(alloc, self.list.as_slice())?;
+        let text = queries_text(alloc, self.as_slice())?;
         Name::new(alloc, text.as_str())
     }
 }

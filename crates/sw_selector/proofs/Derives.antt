@@ -1,10 +1,9 @@
 -- The reader finds what the grammar derives, and derives what it finds.
-use Rattle.std.proofs.Common.{◌≡◌, ℕ, zero, suc, ◌+◌, ◌-◌, ◌≤◌, ◌<◌, Bool, true, false, not, ◌&&◌, ◌||◌, ◌⊎◌, inl, inr, List, [], ◌∷◌, ◌++◌, length, refl, sym, ◌∙◌, ap, subst, arith, Option, Some, None, append_assoc, append-nil}
+use Rattle.std.proofs.Common.{◌≡◌, ℕ, ◌+◌, ◌-◌, ◌≤◌, ◌<◌, Bool, true, false, not, ◌&&◌, ◌||◌, List, [], ◌∷◌, ◌++◌, length, refl, sym, ◌∙◌, ap, subst, arith, Option, Some, None, append_assoc, append-nil}
 use Rattle.std.specs.Prelude.{◌==◌, nat_lt, if◌then◌else◌, unwrap_or}
 use Rattle.std.proofs.lemmas.Bool.Decides.{nat_tests}
 use Rattle.sw_scan.specs.declared.brackets.Stops.TheVariants as stops
-use Rattle.sw_scan.specs.declared.signs.TheConstants.{END}
-use Rattle.sw_scan.specs.Bytes.{sign, byte, is_white}
+use Rattle.sw_scan.specs.Bytes.{sign, byte}
 use Rattle.sw_scan.specs.Runs.{begins_name}
 use Rattle.sw_scan.specs.Pieces.{piece}
 use Rattle.sw_scan.specs.Brackets.{stop_at}
@@ -15,11 +14,10 @@ use Rattle.sw_selector.specs.declared.selector.Combinator.{Combinator}
 use Rattle.sw_selector.specs.declared.selector.Combinator.TheVariants as combinators
 use Rattle.sw_selector.specs.declared.turn.Before.{Before}
 use Rattle.sw_selector.specs.declared.turn.Before.TheVariants as befores
-use Rattle.sw_selector.specs.declared.turn.Turn.{Turn}
 use Rattle.sw_selector.specs.declared.turn.Turn.TheVariants as turns
 use Rattle.sw_selector.specs.Attributes.{white, name_end, prefix_end, attribute_end}
 use Rattle.sw_selector.specs.Simples.{text_at, as_part, class_at, placeholder_at, type_behind, type_at, attribute_by, attribute_at, parent_at, takes_selectors, with_argument, argument_text, raw_by, raw_at, colons_end}
-use Rattle.sw_selector.specs.Reading.{Lists, closed_by, argument_at, pseudo_behind, pseudo_at, is_simple, is_joined, head_at, simple_at, combinator_of, ends_complex, simple_turn, plain_turn, combinator_turn, joined_turn, last_turn, spaced_turn, turn_at, complex_by, complex_from, complex_at}
+use Rattle.sw_selector.specs.Reading.{Lists, closed_by, argument_at, pseudo_behind, pseudo_at, is_simple, is_joined, head_at, simple_at, combinator_of, ends_complex, simple_turn, plain_turn, joined_turn, spaced_turn, turn_at, complex_from, complex_at}
 use Rattle.sw_selector.specs.Grammar as g
 use Rattle.sw_selector.specs.Grammar.{Inner, Name, Simple, Head, Simples, Compound, Joint, Compounds, Ends, IsComplex}
 use Rattle.sw_selector.proofs.Loops.{complex_takes, complex_stops}

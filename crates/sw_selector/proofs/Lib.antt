@@ -5,3 +5,6 @@ pub mod Lexical
 pub mod Derives
 pub mod Lists
 pub mod Whole
+pub mod Unrolled
+pub mod Deep
+pub mod Others

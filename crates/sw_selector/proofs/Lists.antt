@@ -1,11 +1,10 @@
 -- What the reader finds in lists of selectors, the grammar derives, and the other way round.
-use Rattle.std.proofs.Common.{◌≡◌, ℕ, zero, suc, ◌+◌, ◌-◌, ◌≤◌, ◌<◌, Bool, true, false, not, ◌&&◌, ◌||◌, List, [], ◌∷◌, ◌++◌, length, refl, sym, ◌∙◌, ap, subst, arith, Option, Some, None, append_assoc, append-nil}
+use Rattle.std.proofs.Common.{◌≡◌, ℕ, zero, suc, ◌+◌, ◌-◌, ◌≤◌, ◌<◌, Bool, true, false, ◌&&◌, ◌||◌, List, [], ◌∷◌, ◌++◌, length, refl, sym, ◌∙◌, ap, subst, arith, Option, Some, None, append_assoc, append-nil}
 use Rattle.std.specs.Prelude.{◌==◌, nat_lt, if◌then◌else◌}
 use Rattle.std.proofs.lemmas.Bool.Decides.{nat_tests}
 use Rattle.sw_scan.specs.declared.runs.Class.TheVariants as classes
 use Rattle.sw_scan.specs.declared.signs.TheConstants.{END}
 use Rattle.sw_scan.specs.Bytes.{sign, byte, is_white}
-use Rattle.sw_scan.proofs.Bounds.{if_true, if_false, next_from, run_forward}
 use Rattle.sw_scan.proofs.Progress.{run_on}
 use Rattle.sw_selector.specs.declared.selector.Part.{Part}
 use Rattle.sw_selector.specs.declared.selector.Part.TheVariants as parts
@@ -16,12 +15,12 @@ use Rattle.sw_selector.specs.declared.turn.Before.TheVariants as befores
 use Rattle.sw_selector.specs.declared.turn.Turn.{Turn}
 use Rattle.sw_selector.specs.declared.turn.Turn.TheVariants as turns
 use Rattle.sw_selector.specs.Attributes.{white}
-use Rattle.sw_selector.specs.Reading.{Lists, is_simple, is_joined, simple_at, combinator_of, ends_complex, simple_turn, plain_turn, combinator_turn, joined_turn, last_turn, spaced_turn, turn_at, complex_by, complex_from, complex_at, list_by, list_from, list_at, selectors_in, commas_end, whole_by, whole_from, complexes_of}
+use Rattle.sw_selector.specs.Reading.{Lists, is_simple, is_joined, simple_at, combinator_of, ends_complex, simple_turn, plain_turn, joined_turn, last_turn, spaced_turn, turn_at, complex_by, complex_from, complex_at, list_by, list_from, list_at, selectors_in, commas_end, whole_by, whole_from, complexes_of}
 use Rattle.sw_selector.specs.Grammar as g
 use Rattle.sw_selector.specs.Grammar.{Inner, Simple, Head, Simples, Compound, Joint, Compounds, Ends, IsComplex, Argument, Listed, Arguments, IsSelectorList}
 use Rattle.sw_selector.proofs.Loops.{list_ends, list_goes, whole_ends, whole_goes}
-use Rattle.sw_selector.proofs.Lexical.{equal, split, begins_part, not_end, stands, white_forward, white_none, white_twice}
-use Rattle.sw_selector.proofs.Derives.{Fits, Found, found_simple, found_head, same_first, same_second, part_told, compounds_begin, sign_stands, simple_further, head_further, complex_found}
+use Rattle.sw_selector.proofs.Lexical.{equal, split, begins_part, stands, white_forward, white_none, white_twice}
+use Rattle.sw_selector.proofs.Derives.{Fits, Found, found_simple, found_head, same_first, same_second, part_told, compounds_begin, simple_further, head_further, complex_found}
 
 module _ (bs : List ℕ) (deeper : Lists) (inner : Inner) (fits : Fits bs deeper inner) where
   -- a turn of the reader

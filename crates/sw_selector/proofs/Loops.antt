@@ -1,10 +1,11 @@
 -- One turn of each loop of the reader.
-use Rattle.std.proofs.Common.{◌≡◌, ◌≢◌, ℕ, zero, suc, ◌+◌, ◌-◌, ◌<◌, Bool, true, false, List, [], ◌∷◌, ◌++◌, refl, ◌∙◌, ap, arith, Option, Some, None, Result, Err}
+use Rattle.std.proofs.Common.{◌≡◌, ◌≢◌, ℕ, zero, suc, ◌+◌, ◌-◌, ◌<◌, true, false, List, [], ◌∷◌, ◌++◌, refl, ◌∙◌, ap, arith, Option, Some, None, Result, Err}
 use Rattle.std.specs.Prelude.{◌==◌, if◌then◌else◌}
 use Rattle.std.specs.Result.{IsErrAnd}
 use Rattle.std.proofs.lemmas.Result.{err_from_is_err_and}
 use Rattle.sw_scan.specs.declared.signs.TheConstants.{END}
 use Rattle.sw_scan.specs.Bytes.{sign, byte}
+use Rattle.sw_scan.proofs.Bounds.{if_true, if_false}
 use Rattle.sw_selector.specs.declared.fault.SelectorFault.{SelectorFault}
 use Rattle.sw_selector.specs.declared.fault.SelectorFault.TheVariants.{BadSelector, NoParent, TooLarge, Memory}
 use Rattle.sw_selector.specs.declared.selector.Part.{Part}
@@ -13,14 +14,6 @@ use Rattle.sw_selector.specs.declared.turn.Turn.TheVariants as turns
 use Rattle.std.proofs.lemmas.Bool.Decides.{nat_tests}
 use Rattle.sw_selector.specs.Simples.{IsRead, takes_selectors}
 use Rattle.sw_selector.specs.Reading.{Lists, turn_at, closed_by, argument_at, complex_by, complex_from, complex_at, list_by, list_from, commas_end, whole_by, whole_from}
-
-pub if_true : {A : Type 0} (b : Bool) (x y : A) → b ≡ true → (if b then x else y) ≡ x
-if_true true x y e = refl
-if_true false x y e = absurd (cc)
-
-pub if_false : {A : Type 0} (b : Bool) (x y : A) → b ≡ false → (if b then x else y) ≡ y
-if_false true x y e = absurd (cc)
-if_false false x y e = refl
 
 fails_by : {T U : Type 0} (e : SelectorFault) (said : Option T) (other : Option U) → IsRead {T = T} (Err e) said → (said ≡ None → other ≡ None) → IsRead {T = U} (Err e) other
 fails_by BadSelector said other h f = f h

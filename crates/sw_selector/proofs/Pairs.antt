@@ -1,11 +1,9 @@
 -- Nesting by pairs.
-use Rattle.std.proofs.Common.{◌≡◌, ℕ, suc, ◌+◌, ◌*◌, Bool, List, [], ◌∷◌, ◌++◌, length, map, refl, ◌∙◌, ap, append_assoc, arith, length-append}
+use Rattle.std.proofs.Common.{◌≡◌, ℕ, suc, ◌+◌, ◌*◌, Bool, List, [], ◌∷◌, length, map, refl, ◌∙◌, ap, arith, length-append}
 use Rattle.std.specs.List.{flat_map}
 use Rattle.std.proofs.lemmas.List.{length-map}
 use Rattle.std.proofs.lemmas.List.Concat.{flat_map-cons}
-use Rattle.sw_selector.specs.declared.reader.TheConstants.{LEVELS}
 use Rattle.sw_selector.specs.declared.selector.Part.{Part}
-use Rattle.sw_selector.specs.declared.prepare.Prepared.{Prepared}
 use Rattle.sw_selector.specs.Nesting.{prepared, nested, all_nested}
 use Rattle.sw_selector.specs.Laws.{NestsInOrder, NestsEachPair}
 
@@ -29,5 +27,5 @@ in_order at_root parents child = refl
 pub each_pair : (at_root : Bool) (parents child : List (List Part)) → NestsEachPair at_root parents child
 each_pair at_root parents child =
     ap length (in_order at_root parents child)
-    ∙ count (λ (parent : List Part). map (nested at_root parent) (map (prepared parents LEVELS) child)) (length child)
-    (λ parent. length-map (map (prepared parents LEVELS) child) (nested at_root parent) ∙ length-map child (prepared parents LEVELS)) parents
+    ∙ count (λ (parent : List Part). map (nested at_root parent) (map (prepared parents) child)) (length child)
+    (λ parent. length-map (map (prepared parents) child) (nested at_root parent) ∙ length-map child (prepared parents)) parents

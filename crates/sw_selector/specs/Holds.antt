@@ -1,52 +1,46 @@
 -- What stands in selectors, also inside pseudos.
-use Rattle.std.specs.Prelude.{ℕ, zero, suc, List, [], ◌∷◌, Bool, true, false, ◌||◌}
+use Rattle.std.specs.Prelude.{ℕ, ◌==◌, length, List, Bool, true, false, not}
+use Rattle.std.specs.List.{list_any}
 use Rattle.sw_selector.specs.declared.holds.Sought.{Sought}
 use Rattle.sw_selector.specs.declared.holds.Sought.TheVariants as soughts
-use Rattle.sw_selector.specs.declared.selector.Part.{Part, out-Part}
+use Rattle.sw_selector.specs.declared.selector.Part.{Part, out-Part, fold-Part}
 use Rattle.sw_selector.specs.declared.selector.Part.TheOpen.{Part-F}
 
--- where no further pseudo is looked into
-abbrev pub exhausted : Sought → Bool
-exhausted soughts.Deeper = true
-exhausted _ = false
-
-abbrev pub is_parent : Sought → Bool
-is_parent soughts.Parent = true
-is_parent _ = false
+-- an `&` with this suffix
+abbrev pub is_parent : Sought → List ℕ → Bool
+is_parent soughts.Parent suffix = true
+is_parent soughts.Suffix suffix = not (length suffix == 0)
+is_parent soughts.Placeholder suffix = false
 
 abbrev pub is_placeholder : Sought → Bool
 is_placeholder soughts.Placeholder = true
 is_placeholder _ = false
 
-abbrev pub part_by : (List (List Part) → Bool) → Sought → Part-F Part → Bool
-part_by deeper sought (Part-F.Parent suffix) = is_parent sought
-part_by deeper sought (Part-F.Placeholder name) = is_placeholder sought
-part_by deeper sought (Part-F.Pseudo name selectors) = deeper selectors
-part_by deeper sought _ = false
+abbrev pub has_step : Sought → Part-F Bool → Bool
+has_step sought (Part-F.Parent suffix) = is_parent sought suffix
+has_step sought (Part-F.Placeholder name) = is_placeholder sought
+has_step sought (Part-F.Pseudo name selectors) = list_any (list_any (λ has. has)) selectors
+has_step sought _ = false
 
-unfoldable pub part_has : (List (List Part) → Bool) → Sought → Part → Bool
-part_has deeper sought part = part_by deeper sought (out-Part part)
+unfoldable pub part_has : Sought → Part → Bool
+part_has sought = fold-Part Bool (has_step sought)
 
--- in a complex selector, or before
-abbrev pub parts_have : (List (List Part) → Bool) → Sought → Bool → List Part → Bool
-parts_have deeper sought found [] = found
-parts_have deeper sought found (part ∷ parts) = parts_have deeper sought (found || part_has deeper sought part) parts
-
--- in a list of complex selectors, or before
-abbrev pub lists_have : (List (List Part) → Bool) → Sought → Bool → List (List Part) → Bool
-lists_have deeper sought found [] = found
-lists_have deeper sought found (complex ∷ list) =
-    lists_have deeper sought (found || parts_have deeper sought false complex) list
-
--- in the argument of a pseudo, looking into so many pseudos in each other, this one counted
-abbrev pub list_has : Sought → ℕ → List (List Part) → Bool
-list_has sought zero list = exhausted sought
-list_has sought (suc levels) list = lists_have (list_has sought levels) sought false list
-
--- in a complex selector, looking into so many pseudos in each other
-unfoldable pub complex_holds : Sought → ℕ → List Part → Bool
-complex_holds sought levels complex = parts_have (list_has sought levels) sought false complex
+-- in a complex selector
+abbrev pub complex_holds : Sought → List Part → Bool
+complex_holds sought = list_any (part_has sought)
 
 -- in one of these
-unfoldable pub some_holds : Sought → ℕ → List (List Part) → Bool
-some_holds sought levels list = lists_have (list_has sought levels) sought false list
+abbrev pub some_holds : Sought → List (List Part) → Bool
+some_holds sought = list_any (complex_holds sought)
+
+abbrev pub is_reference_by : Part-F Part → Bool
+is_reference_by (Part-F.Parent suffix) = true
+is_reference_by _ = false
+
+-- an `&`
+unfoldable pub is_reference : Part → Bool
+is_reference part = is_reference_by (out-Part part)
+
+-- `&` stands in a complex selector outside pseudos
+abbrev pub refers : List Part → Bool
+refers = list_any is_reference

@@ -1,12 +1,15 @@
--- What reading and nesting are as a whole.
-use Rattle.std.specs.Prelude.{◌≡◌, ◌*◌, ◌<◌, ◌≤◌, ◌↔◌, ℕ, List, map, length, Bool, Ok, Err}
-use Rattle.std.specs.List.{flat_map}
+-- What reading, nesting and writing are as a whole.
+use Rattle.std.specs.Prelude.{◌≡◌, ◌*◌, ◌<◌, ◌≤◌, ◌↔◌, ℕ, List, map, length, Bool, true, not, Ok, Err}
+use Rattle.std.specs.List.{flat_map, filter}
 use Rattle.sw_selector.specs.declared.fault.SelectorFault.TheVariants.{BadSelector, TooLarge}
+use Rattle.sw_selector.specs.declared.holds.Sought.TheVariants as soughts
 use Rattle.sw_selector.specs.declared.reader.TheConstants.{LEVELS, MOST_SELECTORS}
 use Rattle.sw_selector.specs.declared.selector.Part.{Part}
 use Rattle.sw_selector.specs.Grammar.{IsSelectorList}
 use Rattle.sw_selector.specs.Reading.{selectors_of}
+use Rattle.sw_selector.specs.Holds.{complex_holds}
 use Rattle.sw_selector.specs.Nesting.{prepared, nested, all_nested}
+use Rattle.sw_selector.specs.Writing.{list_text, text_of}
 
 -- a text is one list of selectors at most
 abbrev pub IsOneList : List ℕ → Type 0
@@ -26,8 +29,16 @@ pub record ReadsLists (text : List ℕ) : Type 0 where
 abbrev pub NestsInOrder : Bool → List (List Part) → List (List Part) → Type 0
 NestsInOrder at_root parents child =
     all_nested at_root parents child
-    ≡ flat_map (λ (parent : List Part). map (nested at_root parent) (map (prepared parents LEVELS) child)) parents
+    ≡ flat_map (λ (parent : List Part). map (nested at_root parent) (map (prepared parents) child)) parents
 
 -- as many as there are pairs of a parent and a child
 abbrev pub NestsEachPair : Bool → List (List Part) → List (List Part) → Type 0
 NestsEachPair at_root parents child = length (all_nested at_root parents child) ≡ length parents * length child
+
+-- no placeholder stands in it
+abbrev pub is_shown : List Part → Bool
+is_shown complex = not (complex_holds soughts.Placeholder complex)
+
+-- what is written is all complex selectors in order but those in which a placeholder stands
+abbrev pub WritesOthers : List (List Part) → Type 0
+WritesOthers list = text_of list ≡ list_text true (filter is_shown list)

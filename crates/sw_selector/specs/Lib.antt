@@ -1,4 +1,5 @@
 pub mod Attributes
+pub mod Depth
 pub mod Holds
 pub mod Laws
 pub mod Nesting

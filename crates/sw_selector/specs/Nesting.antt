@@ -1,8 +1,8 @@
 -- Selectors nested in each other (Sass): for each parent, each child. A child without `&` stands behind its parent and
 -- white space, or by itself at the root; in any other each `&` is the parent, and in a pseudo's argument a selector
 -- with `&` stands once for each parent.
-use Rattle.std.specs.Prelude.{ℕ, zero, suc, ◌-◌, ◌*◌, List, [], ◌∷◌, ◌++◌, map, length, take, slice_get, Option, Some, None, Result, Ok, Err, Bool, true, false, not, ◌&&◌, ◌||◌, ◌==◌, nat_lt, if◌then◌else◌}
-use Rattle.std.specs.List.{flat_map}
+use Rattle.std.specs.Prelude.{ℕ, ◌-◌, ◌*◌, List, [], ◌∷◌, ◌++◌, map, length, take, slice_get, Option, Some, None, Result, Ok, Err, Bool, true, false, not, ◌&&◌, ◌||◌, ◌==◌, nat_lt, if◌then◌else◌}
+use Rattle.std.specs.List.{flat_map, list_any}
 use denote.Bor.{Bor}
 use Rattle.sw_selector.specs.declared.reader.TheConstants.{LEVELS, MOST_SELECTORS}
 use Rattle.sw_selector.specs.declared.fault.SelectorFault.{SelectorFault}
@@ -10,13 +10,13 @@ use Rattle.sw_selector.specs.declared.fault.SelectorFault.TheVariants.{BadSelect
 use Rattle.sw_selector.specs.declared.holds.Sought.TheVariants as soughts
 use Rattle.sw_selector.specs.declared.selector.Combinator.{Combinator}
 use Rattle.sw_selector.specs.declared.selector.Combinator.TheVariants as combinators
-use Rattle.sw_selector.specs.declared.selector.Part.{Part, out-Part}
+use Rattle.sw_selector.specs.declared.selector.Part.{Part, out-Part, roll-Part, fold-Part, para-Part}
 use Rattle.sw_selector.specs.declared.selector.Part.TheVariants as parts
 use Rattle.sw_selector.specs.declared.selector.Part.TheOpen.{Part-F}
-use Rattle.sw_selector.specs.declared.selector.Selectors.{Selectors}
 use Rattle.sw_selector.specs.declared.parents.Ends.{Ends}
 use Rattle.sw_selector.specs.declared.prepare.Prepared.{Prepared}
-use Rattle.sw_selector.specs.Holds.{complex_holds, some_holds}
+use Rattle.sw_selector.specs.Depth.{list_depth}
+use Rattle.sw_selector.specs.Holds.{complex_holds, some_holds, is_reference, refers}
 use Rattle.sw_selector.specs.Reading.{within_limit}
 
 -- a combinator that is written with a sign
@@ -73,41 +73,39 @@ ends_from ends (complex ∷ list) = ends_from (ends_with ends complex) list
 unfoldable pub ends_of : List (List Part) → Ends
 ends_of list = ends_from (record { named = true; led = false }) list
 
--- an `&` with this suffix, where so many pseudos may still open, has a suffix that a parent can't take, or a combinator
--- on both sides, or parents that bring too many pseudos in each other
-abbrev pub misfits : List (List Part) → Ends → ℕ → Bool → List ℕ → Bool
-misfits parents ends levels joined suffix =
-    (not (length suffix == 0) && not ends.named) || ((joined && ends.led) || some_holds soughts.Deeper levels parents)
+-- a combinator's sign stands before an `&`, where one stands before these parts or not; with what is in each part
+abbrev pub parts_joined : Bool → List (Part × Bool) → Bool
+parts_joined before [] = false
+parts_joined before (x ∷ xs) = ((before && is_reference x.0) || x.1) || parts_joined (is_sign_part x.0) xs
 
-abbrev pub part_misfits_by : (List (List Part) → Bool) → List (List Part) → Ends → ℕ → Bool → Part-F Part → Bool
-part_misfits_by deeper parents ends levels joined (Part-F.Parent suffix) = misfits parents ends levels joined suffix
-part_misfits_by deeper parents ends levels joined (Part-F.Pseudo name selectors) = deeper selectors
-part_misfits_by deeper parents ends levels joined _ = false
+abbrev pub joined_step : Part-F (Part × Bool) → Bool
+joined_step (Part-F.Pseudo name selectors) = list_any (parts_joined false) selectors
+joined_step _ = false
 
-unfoldable pub part_misfits : (List (List Part) → Bool) → List (List Part) → Ends → ℕ → Bool → Part → Bool
-part_misfits deeper parents ends levels joined part = part_misfits_by deeper parents ends levels joined (out-Part part)
+-- a combinator's sign stands before an `&` in a part
+unfoldable pub part_joined : Part → Bool
+part_joined = para-Part Bool joined_step
 
--- in a complex selector, or before; where a combinator's sign stands before or not
-abbrev pub parts_misfit : (List (List Part) → Bool) → List (List Part) → Ends → ℕ → Bool → Bool → List Part → Bool
-parts_misfit deeper parents ends levels found joined [] = found
-parts_misfit deeper parents ends levels found joined (part ∷ parts) =
-    parts_misfit deeper parents ends levels (found || part_misfits deeper parents ends levels joined part)
-    (is_sign_part part) parts
+-- the part is an `&` behind a combinator's sign, or has one in it
+abbrev pub joined_behind : Bool → Part → Bool
+joined_behind before part = (before && is_reference part) || part_joined part
 
-abbrev pub lists_misfit : (List (List Part) → Bool) → List (List Part) → Ends → ℕ → Bool → List (List Part) → Bool
-lists_misfit deeper parents ends levels found [] = found
-lists_misfit deeper parents ends levels found (complex ∷ list) =
-    lists_misfit deeper parents ends levels (found || parts_misfit deeper parents ends levels false false complex) list
+-- in a complex selector, before which a combinator's sign stands or not
+abbrev pub complex_joined : Bool → List Part → Bool
+complex_joined before [] = false
+complex_joined before (part ∷ parts) = joined_behind before part || complex_joined (is_sign_part part) parts
 
-abbrev pub list_misfits : List (List Part) → Ends → ℕ → List (List Part) → Bool
-list_misfits parents ends zero list = false
-list_misfits parents ends (suc levels) list =
-    lists_misfit (list_misfits parents ends levels) parents ends levels false list
+abbrev pub some_joined : List (List Part) → Bool
+some_joined = list_any (complex_joined false)
 
--- some child can't be nested in these parents, where so many pseudos may stand in each other
-unfoldable pub some_misfits : List (List Part) → ℕ → List (List Part) → Bool
-some_misfits parents levels list =
-    lists_misfit (list_misfits parents (ends_of parents) levels) parents (ends_of parents) levels false list
+-- a child has a suffix that a parent can't take, or a combinator would stand beside another
+abbrev pub misfits : List (List Part) → List (List Part) → Bool
+misfits parents child =
+    (not (ends_of parents).named && some_holds soughts.Suffix child) || ((ends_of parents).led && some_joined child)
+
+-- more pseudos would stand in each other than may
+abbrev pub too_deep : List (List Part) → List (List Part) → Bool
+too_deep parents child = nat_lt LEVELS (list_depth (list_depth 0 parents) child)
 
 abbrev pub suffixed_by : Part → List ℕ → Part-F Part → Part
 suffixed_by part suffix (Part-F.Named name) = parts.Named (name ++ suffix)
@@ -146,35 +144,33 @@ parts_spliced parent before (part ∷ parts) = parts_spliced parent (part_splice
 unfoldable pub spliced : List Part → List Part → List Part
 spliced parent complex = parts_spliced parent [] complex
 
-abbrev pub prepared_by : (List (List Part) → List (List Part)) → Part → Part-F Part → Part
-prepared_by deeper part (Part-F.Pseudo name selectors) = parts.Pseudo name (deeper selectors)
-prepared_by deeper part _ = part
-
-unfoldable pub part_prepared : (List (List Part) → List (List Part)) → Part → Part
-part_prepared deeper part = prepared_by deeper part (out-Part part)
-
--- each pseudo's argument is nested
-abbrev pub parts_prepared : (List (List Part) → List (List Part)) → List Part → List Part
-parts_prepared deeper parts = map (part_prepared deeper) parts
-
 -- a selector of an argument: once for each parent where `&` stands in it, outside further pseudos
 unfoldable pub inner_by : List (List Part) → Bool → List Part → List (List Part)
 inner_by parents refers complex =
     if refers then map (λ (parent : List Part). spliced parent complex) parents else complex ∷ []
 
-abbrev pub inner_of : (List (List Part) → List (List Part)) → List (List Part) → List Part → List (List Part)
-inner_of deeper parents complex =
-    inner_by parents (complex_holds soughts.Parent 0 complex) (parts_prepared deeper complex)
+abbrev pub inner_of : List (List Part) → List Part → List (List Part)
+inner_of parents complex = inner_by parents (refers complex) complex
 
--- the argument of a pseudo, with so many pseudos in each other, this one counted
-abbrev pub inner_nested : List (List Part) → ℕ → List (List Part) → List (List Part)
-inner_nested parents zero list = []
-inner_nested parents (suc levels) list = flat_map (inner_of (inner_nested parents levels) parents) list
+-- each pseudo's argument is nested, the innermost first
+abbrev pub prepare_step : List (List Part) → Part-F Part → Part
+prepare_step parents (Part-F.Pseudo name selectors) = parts.Pseudo name (flat_map (inner_of parents) selectors)
+prepare_step parents part = roll-Part part
 
-unfoldable pub prepared : List (List Part) → ℕ → List Part → Prepared
-prepared parents levels complex = record {
-  refers = complex_holds soughts.Parent levels complex;
-  parts = parts_prepared (inner_nested parents levels) complex;
+unfoldable pub part_prepared : List (List Part) → Part → Part
+part_prepared parents = fold-Part Part (prepare_step parents)
+
+abbrev pub parts_prepared : List (List Part) → List Part → List Part
+parts_prepared parents = map (part_prepared parents)
+
+-- the selectors of an argument
+abbrev pub inner_nested : List (List Part) → List (List Part) → List (List Part)
+inner_nested parents = flat_map (λ (complex : List Part). inner_of parents (parts_prepared parents complex))
+
+unfoldable pub prepared : List (List Part) → List Part → Prepared
+prepared parents complex = record {
+  refers = complex_holds soughts.Parent complex;
+  parts = parts_prepared parents complex;
 }
 
 -- the child behind its parent
@@ -191,7 +187,7 @@ nested at_root parent child =
 -- for each parent, each child
 unfoldable pub all_nested : Bool → List (List Part) → List (List Part) → List (List Part)
 all_nested at_root parents child =
-    flat_map (λ (parent : List Part). map (nested at_root parent) (map (prepared parents LEVELS) child)) parents
+    flat_map (λ (parent : List Part). map (nested at_root parent) (map (prepared parents) child)) parents
 
 -- more than 10,000 complex selectors would come
 abbrev pub too_many : List (List Part) → List (List Part) → Bool
@@ -199,13 +195,13 @@ too_many parents child = nat_lt MOST_SELECTORS (length parents * length child)
 
 abbrev pub under_by : Bool → List (List Part) → List (List Part) → Result (List (List Part)) SelectorFault
 under_by at_root parents child =
-    if some_misfits parents LEVELS child then Err BadSelector
+    if misfits parents child || too_deep parents child then Err BadSelector
     else (if too_many parents child then Err TooLarge
     else Ok (all_nested at_root parents child))
 
 abbrev pub alone_by : List (List Part) → Result (List (List Part)) SelectorFault
-alone_by child = if some_holds soughts.Parent LEVELS child then Err NoParent else within_limit child
+alone_by child = if some_holds soughts.Parent child then Err NoParent else within_limit child
 
-abbrev pub nest_by : Bool → Option (Bor Selectors) → List (List Part) → Result (List (List Part)) SelectorFault
+abbrev pub nest_by : Bool → Option (Bor (List (List Part))) → List (List Part) → Result (List (List Part)) SelectorFault
 nest_by at_root None child = alone_by child
-nest_by at_root (Some parents) child = under_by at_root parents.now.list child
+nest_by at_root (Some parents) child = under_by at_root parents.now child

@@ -175,7 +175,7 @@ selectors_of bs = limited (complexes_of bs LEVELS)
 
 -- these are the selectors, or this is why there are none; or no memory was found
 abbrev pub IsAnswer : Result Selectors SelectorFault → Result (List (List Part)) SelectorFault → Type 0
-IsAnswer (Ok selectors) said = said ≡ Ok selectors.list
+IsAnswer (Ok selectors) said = said ≡ Ok selectors
 IsAnswer (Err Memory) said = Unit {0}
 IsAnswer (Err BadSelector) said = said ≡ Err BadSelector
 IsAnswer (Err NoParent) said = said ≡ Err NoParent

@@ -1,11 +1,10 @@
 -- How selectors are written: `, ` between complex selectors, combinators with spaces. One with a placeholder, also in a
 -- pseudo, isn't written.
-use Rattle.std.specs.Prelude.{ℕ, zero, suc, List, [], ◌∷◌, ◌++◌, length, Bool, true, false, ◌==◌, codes, if◌then◌else◌}
-use Rattle.sw_selector.specs.declared.reader.TheConstants.{LEVELS}
+use Rattle.std.specs.Prelude.{ℕ, List, [], ◌∷◌, ◌++◌, length, Bool, true, false, ◌==◌, codes, if◌then◌else◌}
 use Rattle.sw_selector.specs.declared.holds.Sought.TheVariants as soughts
 use Rattle.sw_selector.specs.declared.selector.Combinator.{Combinator}
 use Rattle.sw_selector.specs.declared.selector.Combinator.TheVariants as combinators
-use Rattle.sw_selector.specs.declared.selector.Part.{Part, out-Part}
+use Rattle.sw_selector.specs.declared.selector.Part.{Part, out-Part, fold-Part}
 use Rattle.sw_selector.specs.declared.selector.Part.TheOpen.{Part-F}
 use Rattle.sw_selector.specs.Holds.{complex_holds}
 
@@ -20,46 +19,50 @@ unfoldable pub combinator_text : Bool → Combinator → List ℕ
 combinator_text first combinators.Descendant = codes " "
 combinator_text first combinator = (if first then [] else codes " ") ++ sign_text combinator ++ codes " "
 
-abbrev pub part_text_by : (List (List Part) → List ℕ) → Bool → Part-F Part → List ℕ
-part_text_by deeper first (Part-F.Combinator combinator) = combinator_text first combinator
-part_text_by deeper first (Part-F.Parent suffix) = codes "&" ++ suffix
-part_text_by deeper first (Part-F.Named name) = name
-part_text_by deeper first (Part-F.Placeholder name) = name
-part_text_by deeper first (Part-F.Closed text) = text
-part_text_by deeper first (Part-F.Pseudo name selectors) = name ++ codes "(" ++ deeper selectors ++ codes ")"
+-- texts that say how they stand in front or behind another, one behind the other
+abbrev pub run_text : Bool → List (Bool → List ℕ) → List ℕ
+run_text first [] = []
+run_text first (text ∷ texts) = text first ++ run_text false texts
 
-unfoldable pub part_text : (List (List Part) → List ℕ) → Bool → Part → List ℕ
-part_text deeper first part = part_text_by deeper first (out-Part part)
+abbrev pub separator : Bool → List ℕ
+separator first = if first then [] else codes ", "
 
--- a complex selector, behind what is written
-abbrev pub parts_text : (List (List Part) → List ℕ) → List ℕ → Bool → List Part → List ℕ
-parts_text deeper out first [] = out
-parts_text deeper out first (part ∷ parts) = parts_text deeper (out ++ part_text deeper first part) false parts
+-- the same for each complex selector, with `, ` between
+abbrev pub list_by : Bool → List (List (Bool → List ℕ)) → List ℕ
+list_by first [] = []
+list_by first (texts ∷ list) = (separator first ++ run_text true texts) ++ list_by false list
 
-abbrev pub separated : List ℕ → List ℕ
-separated out = if length out == 0 then out else out ++ codes ", "
+abbrev pub text_step : Part-F (Bool → List ℕ) → Bool → List ℕ
+text_step (Part-F.Combinator combinator) first = combinator_text first combinator
+text_step (Part-F.Parent suffix) first = codes "&" ++ suffix
+text_step (Part-F.Named name) first = name
+text_step (Part-F.Placeholder name) first = name
+text_step (Part-F.Closed text) first = text
+text_step (Part-F.Pseudo name selectors) first = name ++ codes "(" ++ list_by true selectors ++ codes ")"
 
-abbrev pub lists_text : (List (List Part) → List ℕ) → List ℕ → List (List Part) → List ℕ
-lists_text deeper out [] = out
-lists_text deeper out (complex ∷ list) = lists_text deeper (parts_text deeper (separated out) true complex) list
+-- a part in front, or behind another
+unfoldable pub part_text : Part → Bool → List ℕ
+part_text = fold-Part (Bool → List ℕ) text_step
 
--- the argument of a pseudo, with so many pseudos in each other, this one counted
-abbrev pub list_text : ℕ → List (List Part) → List ℕ
-list_text zero list = []
-list_text (suc levels) list = lists_text (list_text levels) [] list
+abbrev pub parts_text : Bool → List Part → List ℕ
+parts_text first [] = []
+parts_text first (part ∷ parts) = part_text part first ++ parts_text false parts
 
-unfoldable pub written_behind : List ℕ → List Part → List ℕ
-written_behind out complex =
-    if complex_holds soughts.Placeholder LEVELS complex
-    then out else parts_text (list_text LEVELS) (separated out) true complex
+-- complex selectors, behind others or not
+abbrev pub list_text : Bool → List (List Part) → List ℕ
+list_text first [] = []
+list_text first (complex ∷ list) = (separator first ++ parts_text true complex) ++ list_text false list
 
-abbrev pub written_from : List ℕ → List (List Part) → List ℕ
-written_from out [] = out
-written_from out (complex ∷ list) = written_from (written_behind out complex) list
+-- the same without those in which a placeholder stands
+abbrev pub written : Bool → List (List Part) → List ℕ
+written first [] = []
+written first (complex ∷ list) =
+    if complex_holds soughts.Placeholder complex then written first list
+    else (separator first ++ parts_text true complex) ++ written false list
 
 -- the text of selectors, and the empty text where all have a placeholder
-unfoldable pub text_of : List (List Part) → List ℕ
-text_of list = written_from [] list
+abbrev pub text_of : List (List Part) → List ℕ
+text_of list = written true list
 
 -- the texts of a complex selector's compounds and combinators so far, and of the compound at hand
 pub record Units : Type 0 where
@@ -80,7 +83,7 @@ unit_by list compound text (Part-F.Combinator combinator) =
 unit_by list compound text _ = record { list = list; compound = compound ++ text }
 
 unfoldable pub unit_step : List (List ℕ) → List ℕ → Part → Units
-unit_step list compound part = unit_by list compound (part_text (list_text LEVELS) false part) (out-Part part)
+unit_step list compound part = unit_by list compound (part_text part false) (out-Part part)
 
 abbrev pub units_from : List (List ℕ) → List ℕ → List Part → List (List ℕ)
 units_from list compound [] = closed list compound

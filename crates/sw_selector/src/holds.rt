@@ -1,6 +1,7 @@
 // What stands in selectors, also inside pseudos.
-ghost use Rattle.std.specs.Prelude.{◌≡◌, false};
-ghost use Rattle.sw_selector.specs.Holds.{exhausted, is_parent, is_placeholder, part_has, parts_have, lists_have, list_has, complex_holds, some_holds};
+ghost use Rattle.std.specs.Prelude.{◌≡◌};
+ghost use Rattle.std.specs.List.{list_any};
+ghost use Rattle.sw_selector.specs.Holds.{is_parent, is_placeholder, part_has, complex_holds, some_holds, is_reference, refers};
 
 use crate::{Complex, Part};
 
@@ -9,26 +10,18 @@ use crate::{Complex, Part};
 pub enum Sought {
     /// `&`
     Parent,
+    /// `&` with name characters directly behind it.
+    Suffix,
     Placeholder,
-    /// More pseudos with selectors in each other than are looked into.
-    Deeper,
 }
 
-fn exhausted(sought: Sought) -> bool
-    ensures { result ≡ exhausted sought }
-{
-    match sought {
-        Sought::Deeper => true,
-        _ => false,
-    }
-}
-
-fn is_parent(sought: Sought) -> bool
-    ensures { result ≡ is_parent sought }
+fn is_parent(sought: Sought, suffix: &str) -> bool
+    ensures { result ≡ is_parent sought suffix.now }
 {
     match sought {
         Sought::Parent => true,
-        _ => false,
+        Sought::Suffix => !suffix.is_empty(),
+        Sought::Placeholder => false,
     }
 }
 
@@ -42,62 +35,65 @@ fn is_placeholder(sought: Sought) -> bool
 }
 
 #[cycle(holds)]
-#[tactic(auto, unfolding(crate::specs::Holds::part_has))]
-fn part_has(sought: Sought, levels: u8, part: &Part) -> bool
-    ensures { result ≡ part_has (list_has sought levels) sought part.now }
+#[tactic(auto, using(crate::proofs::Unrolled::has_parent, crate::proofs::Unrolled::has_placeholder, crate::proofs::Unrolled::has_pseudo, crate::proofs::Unrolled::has_combinator, crate::proofs::Unrolled::has_named, crate::proofs::Unrolled::has_closed))]
+fn part_has(sought: Sought, part: &Part) -> bool
+    ensures { result ≡ part_has sought part.now }
 {
     match part {
-        Part::Parent(_) => is_parent(sought),
+        Part::Parent(suffix) => is_parent(sought, suffix.as_str()),
         Part::Placeholder(_) => is_placeholder(sought),
-        Part::Pseudo { selectors, .. } => list_has(sought, levels, selectors.get().as_slice()),
+        Part::Pseudo { selectors, .. } => some_holds(sought, selectors.get().as_slice()),
+        Part::Combinator(_) => false,
+        Part::Named(_) => false,
+        Part::Closed(_) => false,
+    }
+}
+
+/// Whether it stands in a complex selector.
+#[cycle(holds)]
+#[tactic(auto, using(crate::proofs::Turns::any_turn))]
+pub fn complex_holds(sought: Sought, complex: &[Part]) -> bool
+    ensures { result ≡ complex_holds sought complex.now }
+{
+    let mut found = false;
+    'parts: for part in complex {
+        found = found || part_has(sought, part);
+    }
+    found
+}
+
+/// Whether it stands in one of these complex selectors.
+#[cycle(holds)]
+#[tactic(auto, using(crate::proofs::Turns::any_turn))]
+pub fn some_holds(sought: Sought, list: &[Complex]) -> bool
+    ensures { result ≡ some_holds sought list.now }
+{
+    let mut found = false;
+    'list: for complex in list {
+        found = found || complex_holds(sought, complex.as_slice());
+    }
+    found
+}
+
+/// Whether a part is an `&`.
+#[tactic(auto, unfolding(crate::specs::Holds::is_reference))]
+pub fn is_reference(part: &Part) -> bool
+    ensures { result ≡ is_reference part.now }
+{
+    match part {
+        Part::Parent(_) => true,
         _ => false,
     }
 }
 
-#[cycle(holds)]
-fn parts_have(sought: Sought, levels: u8, parts: &[Part]) -> bool
-    ensures { result ≡ parts_have (list_has sought levels) sought false parts.now }
+/// Whether `&` stands in a complex selector outside pseudos.
+#[tactic(auto, using(crate::proofs::Turns::any_turn))]
+pub fn refers(complex: &[Part]) -> bool
+    ensures { result ≡ refers complex.now }
 {
     let mut found = false;
-    'parts: for part in parts {
-        found = found || part_has(sought, levels, part);
+    'parts: for part in complex {
+        found = found || is_reference(part);
     }
     found
-}
-
-#[cycle(holds)]
-fn lists_have(sought: Sought, levels: u8, list: &[Complex]) -> bool
-    ensures { result ≡ lists_have (list_has sought levels) sought false list.now }
-{
-    let mut found = false;
-    'list: for complex in list {
-        found = found || parts_have(sought, levels, complex.as_slice());
-    }
-    found
-}
-
-#[cycle(holds)]
-fn list_has(sought: Sought, levels: u8, list: &[Complex]) -> bool
-    ensures { result ≡ list_has sought levels list.now }
-{
-    if levels == 0 {
-        return exhausted(sought);
-    }
-    lists_have(sought, levels - 1, list)
-}
-
-/// Whether it stands in a complex selector, where so many pseudos in each other are looked into.
-#[tactic(auto, unfolding(crate::specs::Holds::complex_holds))]
-pub fn complex_holds(sought: Sought, levels: u8, complex: &[Part]) -> bool
-    ensures { result ≡ complex_holds sought levels complex.now }
-{
-    parts_have(sought, levels, complex)
-}
-
-/// Whether it stands in one of these complex selectors.
-#[tactic(auto, unfolding(crate::specs::Holds::some_holds))]
-pub fn some_holds(sought: Sought, levels: u8, list: &[Complex]) -> bool
-    ensures { result ≡ some_holds sought levels list.now }
-{
-    lists_have(sought, levels, list)
 }

@@ -1,7 +1,11 @@
-// What reading and nesting are as a whole.
-ghost use Rattle.std.specs.Prelude.{List, Bool, ℕ};
+// What reading, nesting and writing are as a whole.
+ghost use Rattle.std.specs.Prelude.{◌≤◌, List, Bool, ℕ};
 ghost use Rattle.sw_selector.specs.declared.selector.Part.{Part};
-ghost use Rattle.sw_selector.specs.Laws.{IsOneList, ReadsLists, NestsInOrder, NestsEachPair};
+ghost use Rattle.sw_selector.specs.Depth.{list_depth};
+ghost use Rattle.sw_selector.specs.Laws.{IsOneList, ReadsLists, NestsInOrder, NestsEachPair, WritesOthers};
+
+use crate::Selectors;
+use crate::reader::LEVELS;
 
 /// A law: a text is one list of selectors at most, as the grammar of selectors has it row by row; `read` answers with
 /// this list, and with a fault exactly where there is none or where it is too long.
@@ -14,4 +18,16 @@ pub fn reads_the_grammar()
 pub fn nests_in_order()
     ensures order { (at_root : Bool) (parents child : List (List Part)) → NestsInOrder at_root parents child }
     ensures count { (at_root : Bool) (parents child : List (List Part)) → NestsEachPair at_root parents child }
+{}
+
+/// A law: in no selectors do more than 128 pseudos with selectors stand in each other.
+pub fn never_too_deep(selectors: &Selectors)
+    ensures { list_depth 0 selectors.now ≤ LEVELS }
+{
+    let _ = selectors.as_slice();
+}
+
+/// A law: `write` leaves out the complex selectors in which a placeholder stands, and no others.
+pub fn writes_all_others()
+    ensures { (list : List (List Part)) → WritesOthers list }
 {}

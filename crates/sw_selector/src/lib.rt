@@ -3,6 +3,7 @@
 #![tactic(auto)]
 
 mod attribute;
+mod depth;
 mod fault;
 mod holds;
 mod laws;
@@ -19,7 +20,8 @@ mod units;
 mod write;
 
 pub use fault::SelectorFault;
-pub use laws::{nests_in_order, reads_the_grammar};
+pub use laws::{nests_in_order, never_too_deep, reads_the_grammar, writes_all_others};
 pub use nesting::nest;
 pub use reader::{LEVELS, MOST_SELECTORS, read};
-pub use selector::{Combinator, Complex, Part, Selectors};
+pub use selector::Selectors;
+use selector::{Combinator, Complex, Part};

@@ -1,75 +1,77 @@
 // Children that can't be nested.
-ghost use Rattle.std.specs.Prelude.{◌≡◌, ◌≤◌, ◌<◌, false};
-ghost use Rattle.sw_selector.specs.declared.parents.Ends.{Ends};
-ghost use Rattle.sw_selector.specs.Nesting.{misfits, part_misfits, parts_misfit, lists_misfit, list_misfits, some_misfits, is_sign_part};
+ghost use Rattle.std.specs.Prelude.{◌≡◌, ◌≤◌, false};
+ghost use Rattle.sw_selector.specs.Depth.{list_depth};
+ghost use Rattle.sw_selector.specs.Nesting.{is_sign_part, part_joined, joined_behind, complex_joined, some_joined, misfits, too_deep};
 
-use crate::holds::{Sought, some_holds};
-use crate::parents::{Ends, ends_of, is_sign_part};
+use crate::depth::list_depth;
+use crate::holds::{Sought, is_reference, some_holds};
+use crate::parents::{ends_of, is_sign_part};
+use crate::reader::LEVELS;
 use crate::{Complex, Part};
 
-fn misfits(parents: &[Complex], ends: Ends, levels: u8, joined: bool, suffix: &str) -> bool
-    ensures { result ≡ misfits parents.now ends levels joined suffix.now }
-{
-    (!suffix.is_empty() && !ends.named)
-        || (joined && ends.led)
-        || some_holds(Sought::Deeper, levels, parents)
-}
-
-#[cycle(misfits)]
-#[tactic(auto, unfolding(crate::specs::Nesting::part_misfits))]
-fn part_misfits(parents: &[Complex], ends: Ends, levels: u8, joined: bool, part: &Part) -> bool
-    ensures { result ≡ part_misfits (list_misfits parents.now ends levels) parents.now ends levels joined part.now }
+#[cycle(joined)]
+#[tactic(auto, using(crate::proofs::Unrolled::joined_pseudo, crate::proofs::Unrolled::joined_parent, crate::proofs::Unrolled::joined_placeholder, crate::proofs::Unrolled::joined_combinator, crate::proofs::Unrolled::joined_named, crate::proofs::Unrolled::joined_closed))]
+fn part_joined(part: &Part) -> bool
+    ensures { result ≡ part_joined part.now }
 {
     match part {
-        Part::Parent(suffix) => misfits(parents, ends, levels, joined, suffix.as_str()),
-        Part::Pseudo { selectors, .. } => {
-            list_misfits(parents, ends, levels, selectors.get().as_slice())
-        }
-        _ => false,
+        Part::Pseudo { selectors, .. } => some_joined(selectors.get().as_slice()),
+        Part::Combinator(_) => false,
+        Part::Parent(_) => false,
+        Part::Named(_) => false,
+        Part::Placeholder(_) => false,
+        Part::Closed(_) => false,
     }
 }
 
-#[cycle(misfits)]
-fn parts_misfit(parents: &[Complex], ends: Ends, levels: u8, parts: &[Part]) -> bool
-    ensures { result ≡ parts_misfit (list_misfits parents.now ends levels) parents.now ends levels false false
-        parts.now }
+// Whether a part is an `&` behind a combinator's sign, or has one in it.
+#[cycle(joined)]
+fn joined_behind(before: bool, part: &Part) -> bool
+    ensures { result ≡ joined_behind before part.now }
+{
+    (before && is_reference(part)) || part_joined(part)
+}
+
+#[cycle(joined)]
+#[tactic(auto, using(crate::proofs::Turns::joined_turn))]
+fn complex_joined(complex: &[Part]) -> bool
+    ensures { result ≡ complex_joined false complex.now }
 {
     let mut found = false;
-    let mut joined = false;
-    'parts: for part in parts {
-        found = found || part_misfits(parents, ends, levels, joined, part);
-        joined = is_sign_part(part);
+    let mut before = false;
+    'parts: for part in complex {
+        found = found || joined_behind(before, part);
+        before = is_sign_part(part);
     }
     found
 }
 
-#[cycle(misfits)]
-fn lists_misfit(parents: &[Complex], ends: Ends, levels: u8, list: &[Complex]) -> bool
-    ensures { result ≡ lists_misfit (list_misfits parents.now ends levels) parents.now ends levels false list.now }
+// Whether a combinator's sign stands before an `&` in one of these.
+#[cycle(joined)]
+#[tactic(auto, using(crate::proofs::Turns::any_turn))]
+fn some_joined(list: &[Complex]) -> bool
+    ensures { result ≡ some_joined list.now }
 {
     let mut found = false;
     'list: for complex in list {
-        found = found || parts_misfit(parents, ends, levels, complex.as_slice());
+        found = found || complex_joined(complex.as_slice());
     }
     found
 }
 
-#[cycle(misfits)]
-fn list_misfits(parents: &[Complex], ends: Ends, levels: u8, list: &[Complex]) -> bool
-    ensures { result ≡ list_misfits parents.now ends levels list.now }
+/// Whether a child can't be nested in these parents: it has a suffix and a parent doesn't end in a name, or a
+/// combinator would stand beside another.
+pub fn misfits(parents: &[Complex], child: &[Complex]) -> bool
+    ensures { result ≡ misfits parents.now child.now }
 {
-    if levels == 0 {
-        return false;
-    }
-    lists_misfit(parents, ends, levels - 1, list)
+    let ends = ends_of(parents);
+    (!ends.named && some_holds(Sought::Suffix, child)) || (ends.led && some_joined(child))
 }
 
-/// Whether a child can't be nested in these parents, where so many pseudos may stand in each other: it has a suffix and
-/// a parent doesn't end in a name, or a combinator would stand beside another, or too many pseudos would stand in each
-/// other.
-#[tactic(auto, unfolding(crate::specs::Nesting::some_misfits))]
-pub fn some_misfits(parents: &[Complex], levels: u8, list: &[Complex]) -> bool
-    ensures { result ≡ some_misfits parents.now levels list.now }
+/// Whether too many pseudos would stand in each other.
+pub fn too_deep(parents: &[Complex], child: &[Complex]) -> bool
+    requires { list_depth 0 parents.now ≤ LEVELS }
+    ensures { result ≡ too_deep parents.now child.now }
 {
-    lists_misfit(parents, ends_of(parents), levels, list)
+    list_depth(list_depth(0, parents), child) > LEVELS
 }

@@ -1,12 +1,13 @@
 // Selectors nested in each other.
-ghost use Rattle.std.specs.Prelude.{◌≡◌, ◌∷◌, ◌++◌, [], List, map, IfOk, OnOk, Ok};
+ghost use Rattle.std.specs.Prelude.{◌≡◌, ◌≤◌, ◌∷◌, ◌++◌, [], List, map, IfOk, OnOk, Ok};
 ghost use Rattle.std.specs.List.{flat_map};
 ghost use Rattle.sw_selector.specs.declared.selector.Part.{Part};
+ghost use Rattle.sw_selector.specs.Depth.{list_depth};
 ghost use Rattle.sw_selector.specs.Reading.{IsAnswer};
 ghost use Rattle.sw_selector.specs.Nesting.{descended, nested, all_nested, too_many, under_by, alone_by, nest_by};
 
 use crate::holds::{Sought, some_holds};
-use crate::misfits::some_misfits;
+use crate::misfits::{misfits, too_deep};
 use crate::parents::is_led;
 use crate::prepare::{Prepared, all_prepared};
 use crate::reader::{LEVELS, MOST_SELECTORS};
@@ -26,31 +27,26 @@ pub fn nest(
     child: &Selectors,
     at_root: bool,
 ) -> Result<Selectors, SelectorFault>
-    ensures { IsAnswer result (nest_by at_root parent.entry child.now.list) }
+    ensures { IsAnswer result (nest_by at_root parent.entry child.now) }
 {
     match parent {
-        None => nested_alone(alloc, child.list.as_slice()),
-        Some(parent) => nested_under(
-            alloc,
-            parent.list.as_slice(),
-            child.list.as_slice(),
-            at_root,
-        ),
+        None => nested_alone(alloc, child.as_slice()),
+        Some(parent) => nested_under(alloc, parent.as_slice(), child.as_slice(), at_root),
     }
 }
 
 fn nested_alone(alloc: Global, child: &[Complex]) -> Result<Selectors, SelectorFault>
+    requires { list_depth 0 child.now ≤ LEVELS }
     ensures { IsAnswer result (alone_by child.now) }
 {
-    if some_holds(Sought::Parent, LEVELS, child) {
+    if some_holds(Sought::Parent, child) {
         return Err(SelectorFault::NoParent);
     }
     if child.len() > MOST_SELECTORS {
         return Err(SelectorFault::TooLarge);
     }
-    Ok(Selectors {
-        list: shared(alloc, child)?,
-    })
+    let list = shared(alloc, child)?;
+    Ok(Selectors::new(list))
 }
 
 fn shared(alloc: Global, list: &[Complex]) -> Result<List<Complex>, Memory>
@@ -77,17 +73,17 @@ fn nested_under(
     child: &[Complex],
     at_root: bool,
 ) -> Result<Selectors, SelectorFault>
+    requires { list_depth 0 parents.now ≤ LEVELS }
     ensures { IsAnswer result (under_by at_root parents.now child.now) }
 {
-    if some_misfits(parents, LEVELS, child) {
+    if misfits(parents, child) || too_deep(parents, child) {
         return Err(SelectorFault::BadSelector);
     }
     if too_many(parents, child) {
         return Err(SelectorFault::TooLarge);
     }
-    Ok(Selectors {
-        list: all_nested(alloc, at_root, parents, child)?,
-    })
+    let list = all_nested(alloc, at_root, parents, child)?;
+    Ok(Selectors::new(list))
 }
 
 fn too_many(parents: &[Complex], child: &[Complex]) -> bool
@@ -108,7 +104,7 @@ fn all_nested(
 ) -> Result<List<Complex>, Memory>
     ensures { IfOk result (λ whole. whole ≡ all_nested at_root parents.now child.now) }
 {
-    let children = all_prepared(alloc, parents, LEVELS, child)?;
+    let children = all_prepared(alloc, parents, child)?;
     let mut out = List::new(alloc);
     push_parents(alloc, &mut out, at_root, parents, children.as_slice())?;
     Ok(out)

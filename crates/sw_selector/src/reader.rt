@@ -1,5 +1,6 @@
 // What selectors a text is.
-ghost use Rattle.std.specs.Prelude.{◌≡◌, ◌<◌, ◌^◌, length, Some};
+ghost use Rattle.std.specs.Prelude.{◌≡◌, ◌<◌, ◌≤◌, ◌^◌, length, Some};
+ghost use Rattle.sw_selector.specs.Depth.{list_depth};
 ghost use Rattle.sw_selector.specs.Simples.{IsRead};
 ghost use Rattle.sw_selector.specs.Reading.{closed_by, argument_at, pseudo_behind, pseudo_at, head_at, simple_at, simple_turn, plain_turn, combinator_turn, spaced_turn, turn_at, last_turn, complex_at, list_at, selectors_in, commas_end, complexes_of, selectors_of, within_limit, IsAnswer};
 
@@ -32,12 +33,13 @@ pub fn read(alloc: Global, text: &str) -> Result<Selectors, SelectorFault>
 }
 
 fn within_limit(list: List<Complex>) -> Result<Selectors, SelectorFault>
+    requires { list_depth 0 list ≤ LEVELS }
     ensures { IsAnswer result (within_limit list) }
 {
     if list.len() > MOST_SELECTORS {
         return Err(SelectorFault::TooLarge);
     }
-    Ok(Selectors { list })
+    Ok(Selectors::new(list))
 }
 
 #[tactic(auto, unfolding(crate::specs::Reading::complexes_of))]

@@ -3,7 +3,6 @@ ghost use Rattle.std.specs.Prelude.{◌≡◌, ◌∷◌, ◌++◌, [], IfOk, On
 ghost use Rattle.std.specs.String.{string_bytes};
 ghost use Rattle.sw_selector.specs.Writing.{closed, signed, unit_step, units_of, all_units};
 
-use crate::reader::LEVELS;
 use crate::write::write_part;
 use crate::{Combinator, Complex, Part, Selectors};
 use std::alloc::Global;
@@ -13,9 +12,9 @@ impl Selectors {
     /// The texts of the compounds and combinators of each complex selector in order. White space between compounds has
     /// none.
     pub fn parts(&self, alloc: Global) -> Result<List<List<Name>>, Memory>
-        ensures { IfOk result (λ texts. texts ≡ all_units [] self.now.list) }
+        ensures { IfOk result (λ texts. texts ≡ all_units [] self.now) }
     {
-        all_units(alloc, self.list.as_slice())
+        all_units(alloc, self.as_slice())
     }
 }
 
@@ -89,6 +88,6 @@ fn push_unit(
             compound.clear();
             Ok(())
         }
-        _ => write_part(alloc, LEVELS, compound, false, part),
+        _ => write_part(alloc, compound, false, part),
     }
 }

@@ -1,10 +1,10 @@
 // How selectors are written.
-ghost use Rattle.std.specs.Prelude.{◌≡◌, ◌++◌, [], IfOk, OnOk, true, codes, if◌then◌else◌};
+ghost use Rattle.std.specs.Prelude.{◌≡◌, ◌++◌, ◌∷◌, [], List, IfOk, OnOk, true, codes, if◌then◌else◌};
 ghost use Rattle.std.specs.String.{string_bytes};
-ghost use Rattle.sw_selector.specs.Writing.{combinator_text, part_text, parts_text, separated, list_text, written_behind, text_of};
+ghost use Rattle.sw_selector.specs.declared.selector.Part.{Part};
+ghost use Rattle.sw_selector.specs.Writing.{combinator_text, part_text, parts_text, separator, list_text, written, text_of};
 
 use crate::holds::{Sought, complex_holds};
-use crate::reader::LEVELS;
 use crate::{Combinator, Complex, Part, Selectors};
 use std::alloc::Global;
 use sw_text::{Memory, Name};
@@ -13,39 +13,46 @@ impl Selectors {
     /// The selectors as CSS has them, without the complex selectors in which a placeholder stands, also in a pseudo: `,
     /// ` between them, combinators with spaces. The text is empty where all have a placeholder.
     pub fn write(&self, alloc: Global) -> Result<Name, Memory>
-        ensures { IfOk result (λ text. text ≡ text_of self.now.list) }
+        ensures { IfOk result (λ text. text ≡ text_of self.now) }
     {
-        let text = text_of(alloc, self.list.as_slice())?;
+        let text = text_of(alloc, self.as_slice())?;
         Name::new(alloc, text.as_str())
     }
 }
 
-#[tactic(auto, unfolding(crate::specs::Writing::text_of))]
 fn text_of(alloc: Global, list: &[Complex]) -> Result<String, Memory>
     ensures { IfOk result (λ text. string_bytes text ≡ text_of list.now) }
 {
     let mut out = String::new(alloc);
+    let mut first = true;
     'list: for complex in list {
-        write_behind(alloc, &mut out, complex.as_slice())?;
+        first = write_shown(alloc, &mut out, first, complex.as_slice())?;
     }
     Ok(out)
 }
 
-#[tactic(auto, unfolding(crate::specs::Writing::written_behind))]
-fn write_behind(alloc: Global, out: &mut String, complex: &[Part]) -> Result<(), Memory>
-    ensures { OnOk result (string_bytes out.new ≡ written_behind (string_bytes out.old) complex.now) }
+// Writes a complex selector without a placeholder; whether the next one that is written is the first.
+fn write_shown(
+    alloc: Global,
+    out: &mut String,
+    first: bool,
+    complex: &[Part],
+) -> Result<bool, Memory>
+    ensures { IfOk result (λ after. (rest : List (List Part))
+        → string_bytes out.new ++ written after rest ≡ string_bytes out.old ++ written first (complex.now ∷ rest)) }
 {
-    if complex_holds(Sought::Placeholder, LEVELS, complex) {
-        return Ok(());
+    if complex_holds(Sought::Placeholder, complex) {
+        return Ok(first);
     }
-    separate(out)?;
-    write_parts(alloc, LEVELS, out, complex)
+    separate(out, first)?;
+    write_parts(alloc, out, complex)?;
+    Ok(false)
 }
 
-fn separate(out: &mut String) -> Result<(), Memory>
-    ensures { OnOk result (string_bytes out.new ≡ separated (string_bytes out.old)) }
+fn separate(out: &mut String, first: bool) -> Result<(), Memory>
+    ensures { OnOk result (string_bytes out.new ≡ string_bytes out.old ++ separator first) }
 {
-    if !out.is_empty() {
+    if !first {
         out.push_str(", ")?;
     }
     Ok(())
@@ -79,31 +86,29 @@ fn write_sign(out: &mut String, first: bool, sign: &str) -> Result<(), Memory>
 }
 
 #[cycle(write)]
-#[tactic(auto, unfolding(crate::specs::Writing::part_text))]
-pub fn write_part(
-    alloc: Global,
-    levels: u8,
-    out: &mut String,
-    first: bool,
-    part: &Part,
-) -> Result<(), Memory>
-    ensures { OnOk result (string_bytes out.new ≡ string_bytes out.old ++ part_text (list_text levels) first part.now) }
+#[tactic(auto, using(crate::proofs::Unrolled::text_pseudo, crate::proofs::Unrolled::text_parent, crate::proofs::Unrolled::text_placeholder, crate::proofs::Unrolled::text_combinator, crate::proofs::Unrolled::text_named, crate::proofs::Unrolled::text_closed))]
+pub fn write_part(alloc: Global, out: &mut String, first: bool, part: &Part) -> Result<(), Memory>
+    ensures { OnOk result (string_bytes out.new ≡ string_bytes out.old ++ part_text part.now first) }
 {
     match part {
         Part::Combinator(combinator) => write_combinator(out, first, *combinator),
-        Part::Parent(suffix) => {
-            out.push_str("&")?;
-            out.push_str(suffix.as_str())?;
-            Ok(())
-        }
+        Part::Parent(suffix) => write_reference(out, suffix),
         Part::Named(name) => push_name(out, name),
         Part::Placeholder(name) => push_name(out, name),
         Part::Closed(text) => push_name(out, text),
         Part::Pseudo { name, selectors } => {
-            let argument = list_text(alloc, levels, selectors.get().as_slice())?;
+            let argument = list_text(alloc, selectors.get().as_slice())?;
             write_pseudo(out, name, argument.as_str())
         }
     }
+}
+
+fn write_reference(out: &mut String, suffix: &Name) -> Result<(), Memory>
+    ensures { OnOk result (string_bytes out.new ≡ string_bytes out.old ++ (codes "&" ++ suffix.now)) }
+{
+    out.push_str("&")?;
+    out.push_str(suffix.as_str())?;
+    Ok(())
 }
 
 fn push_name(out: &mut String, name: &Name) -> Result<(), Memory>
@@ -125,28 +130,27 @@ fn write_pseudo(out: &mut String, name: &Name, argument: &str) -> Result<(), Mem
 }
 
 #[cycle(write)]
-fn write_parts(alloc: Global, levels: u8, out: &mut String, parts: &[Part]) -> Result<(), Memory>
-    ensures { OnOk result (string_bytes out.new ≡ parts_text (list_text levels) (string_bytes out.old) true parts.now) }
+fn write_parts(alloc: Global, out: &mut String, parts: &[Part]) -> Result<(), Memory>
+    ensures { OnOk result (string_bytes out.new ≡ string_bytes out.old ++ parts_text true parts.now) }
 {
     let mut first = true;
     'parts: for part in parts {
-        write_part(alloc, levels, out, first, part)?;
+        write_part(alloc, out, first, part)?;
         first = false;
     }
     Ok(())
 }
 
 #[cycle(write)]
-fn list_text(alloc: Global, levels: u8, list: &[Complex]) -> Result<String, Memory>
-    ensures { IfOk result (λ text. string_bytes text ≡ list_text levels list.now) }
+fn list_text(alloc: Global, list: &[Complex]) -> Result<String, Memory>
+    ensures { IfOk result (λ text. string_bytes text ≡ list_text true list.now) }
 {
     let mut out = String::new(alloc);
-    if levels == 0 {
-        return Ok(out);
-    }
+    let mut first = true;
     'list: for complex in list {
-        separate(&mut out)?;
-        write_parts(alloc, levels - 1, &mut out, complex.as_slice())?;
+        separate(&mut out, first)?;
+        write_parts(alloc, &mut out, complex.as_slice())?;
+        first = false;
     }
     Ok(out)
 }

@@ -1,23 +1,20 @@
-use Rattle.std.proofs.Common.{◌≡◌, ◌+◌, ◌*◌, drop, false}
-use Rattle.sw_selector.specs.Holds.{parts_have, lists_have, list_has}
+use Rattle.std.proofs.Common.{◌≡◌, ◌+◌, ◌*◌, ◌||◌, drop}
+use Rattle.std.specs.List.{list_any}
+use Rattle.sw_selector.specs.Depth.{part_depth, complex_depth, list_depth}
+use Rattle.sw_selector.specs.Holds.{part_has, complex_holds}
 use Rattle.sw_selector.proofs.holds.+holds.Given as goal
 
-abbrev pub invariant-parts_have-parts : goal.invariant-parts_have-parts
-invariant-parts_have-parts l =
-    parts_have (list_has l.sought l.levels) l.sought l.found (drop l.part-index l.parts) ≡ parts_have (list_has l.sought l.levels) l.sought false l.parts
+abbrev pub invariant-complex_holds-parts : goal.invariant-complex_holds-parts
+invariant-complex_holds-parts l = (l.found || list_any (part_has l.sought) (drop l.part-index l.complex)) ≡ list_any (part_has l.sought) l.complex
 
-abbrev pub invariant-lists_have-list : goal.invariant-lists_have-list
-invariant-lists_have-list l =
-    lists_have (list_has l.sought l.levels) l.sought l.found (drop l.complex-index l.list) ≡ lists_have (list_has l.sought l.levels) l.sought false l.list
-
-abbrev pub decreases-list_has : goal.decreases-list_has
-decreases-list_has l = 4 * l.levels
+abbrev pub invariant-some_holds-list : goal.invariant-some_holds-list
+invariant-some_holds-list l = (l.found || list_any (complex_holds l.sought) (drop l.complex-index l.list)) ≡ list_any (complex_holds l.sought) l.list
 
 abbrev pub decreases-part_has : goal.decreases-part_has
-decreases-part_has l = 4 * l.levels + 1
+decreases-part_has l = 3 * part_depth 0 l.part.now
 
-abbrev pub decreases-parts_have : goal.decreases-parts_have
-decreases-parts_have l = 4 * l.levels + 2
+abbrev pub decreases-complex_holds : goal.decreases-complex_holds
+decreases-complex_holds l = 3 * complex_depth 0 l.complex.now + 1
 
-abbrev pub decreases-lists_have : goal.decreases-lists_have
-decreases-lists_have l = 4 * l.levels + 3
+abbrev pub decreases-some_holds : goal.decreases-some_holds
+decreases-some_holds l = 3 * list_depth 0 l.list.now + 2

@@ -3,4 +3,4 @@ use Rattle.sw_selector.specs.Nesting.{prepared}
 use Rattle.sw_selector.proofs.prepare.all_prepared.Given as goal
 
 abbrev pub invariant-list : goal.invariant-list
-invariant-list l = l.out ++ map (prepared l.parents l.levels) (drop l.complex-index l.list) ≡ map (prepared l.parents l.levels) l.list
+invariant-list l = l.out ++ map (prepared l.parents) (drop l.complex-index l.list) ≡ map (prepared l.parents) l.list
