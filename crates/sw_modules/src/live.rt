@@ -155,7 +155,7 @@ impl<'a> Live<'a> {
 
     /// The answer to a load, or the module whose body has to run for it. The refusals come in this order: the URL means
     /// no file or several; the module is being loaded; 64 loads are open; the module is loaded and a `with` gives
-    /// values to it; its namespace stands for another module. After `Memory` the state is as before.
+    /// values to it; its namespace stands for a module already. After `Memory` the state is as before.
     pub fn begin(&mut self, op: &Op) -> Result<Begin, Memory>
         requires { IsLoad op.now }
         ensures ok { IfOk result (λ begin. begun op.now self.old ≡ (begin, self.new)) }
@@ -292,8 +292,8 @@ impl<'a> Live<'a> {
     }
 
     /// The answer to the innermost open load, whose body ended so. At its end the module is recorded and used; a name
-    /// of a `with` that it didn't take, or a namespace that stands for another module, refuses the load. After `Memory`
-    /// the state is not to be used any more.
+    /// of a `with` that it didn't take, or a namespace that stands for a module already, refuses the load. After
+    /// `Memory` the state is not to be used any more.
     pub fn end(&mut self, op: &Op, end: &End) -> Result<Answer, Memory>
         requires is_load { IsLoad op.now }
         requires is_open { 0 < length self.old.opened }
