@@ -12,6 +12,7 @@ use Rattle.sw_world.specs.declared.end.End.TheVariants.{Fault as Fault_end}
 use Rattle.sw_world.specs.Body.{Job}
 use Rattle.sw_world.specs.Questions.{IsLoad, Fits}
 use Rattle.sw_modules.specs.declared.live.Begin.TheVariants.{Answered, Open}
+use Rattle.sw_modules.specs.Uses.{no_uses}
 use Rattle.sw_modules.specs.State.{State, open_at, path_in}
 use Rattle.sw_modules.specs.Loads.{begun, ended_by, AnswersLoad}
 use Rattle.sw_modules.specs.Outside.{Functions, Outside}
@@ -54,7 +55,7 @@ pub did_opened : (setting : Setting) (table : Table) (op : Op) (path text : List
 did_opened setting table op path text config end a m u o t is begins few opens did ends closes =
     let inner = fresh setting (room o.outside.live) in
     let v : Moment = moment u t.outside.hosts t.results t.told in
-    let one_more : length m.opened ≡ suc (length o.outside.live.opened) = ap (λ (s : State). length s.opened) opens ∙ length-append o.outside.live.opened (record { path = path; uses = [] } ∷ []) ∙ omega arith in
+    let one_more : length m.opened ≡ suc (length o.outside.live.opened) = ap (λ (s : State). length s.opened) opens ∙ length-append o.outside.live.opened (record { path = path; uses = no_uses } ∷ []) ∙ omega arith in
     let evaluated : inner (record { live = m; hosts = o.outside.hosts }) path text config ≡ record { outside = t.outside; runs = did.runs; end = end } =
     fresh_opens setting o.outside.live (record { live = m; hosts = o.outside.hosts }) path text config few one_more ∙ did.gives in
     let same : responds setting.functions inner op o.outside ≡ record { answer = a; outside = v.outside; runs = did.runs } =

@@ -18,7 +18,6 @@ use Rattle.sw_world.specs.Hosts.{HostState}
 use Rattle.sw_world.specs.declared.op.Op.{Op}
 use Rattle.sw_world.specs.declared.op.Op.TheVariants.{Load, Find, Get, Put, Say, Call}
 use Rattle.sw_world.specs.declared.op.How.{How}
-use Rattle.sw_world.specs.declared.op.How.TheVariants.{Use, Forward}
 use Rattle.sw_world.specs.declared.op.Given.{Given}
 use Rattle.sw_world.specs.declared.answer.Answer.{Answer}
 use Rattle.sw_world.specs.declared.end.End.{End}
@@ -47,9 +46,7 @@ either_state true p q outputs one other = one
 either_state false p q outputs one other = other
 
 used_outputs : (how : How) (path : List ℕ) (taken : List (List ℕ)) (span : Span) (s : State) → (used_as how path taken span s).1.outputs ≡ s.outputs
-used_outputs (Use (Some space)) path taken span s = either_state _ _ _ s.outputs refl refl
-used_outputs (Use None) path taken span s = refl
-used_outputs (Forward prefix filter) path taken span s = refl
+used_outputs how path taken span s = either_state _ _ _ s.outputs refl refl
 
 unless_outputs : (given : Option Given) (how : How) (path : List ℕ) (taken : List (List ℕ)) (span : Span) (s : State) → (used_unless given how path taken span s).1.outputs ≡ s.outputs
 unless_outputs None how path taken span s = used_outputs how path taken span s

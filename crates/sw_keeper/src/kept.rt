@@ -1,8 +1,6 @@
 // Runs that are kept, of texts that read to their sheets.
-ghost use Rattle.std.specs.Prelude.{◌≡◌, ℕ, List, [], bytes_eq, slice_get, Ok, Some, IfOk, IfSome, OnOk};
+ghost use Rattle.std.specs.Prelude.{◌≡◌, [], Ok, IfOk, IfSome, OnOk};
 ghost use Rattle.std.specs.Option.{option_copied};
-ghost use Rattle.indexmap.specs.IndexMap.{insert_entry};
-ghost use Rattle.sw_world.specs.Body as bodies;
 ghost use Rattle.sw_record.specs.Ran.{kept_at};
 ghost use Rattle.sw_keeper.specs.Keeping.{with_run_by, with_runs};
 
@@ -11,7 +9,7 @@ use std::alloc::Global;
 use std::marker::{Model, PhantomData};
 use sw_record::Run;
 use sw_text::{Memory, Name};
-use sw_world::{End, Engine, Table};
+use sw_world::{End, Engine, Share, Table};
 
 /// A run whose sheet is what its path and text read to. Contracts see the run.
 #[derive(Drop)]
@@ -53,11 +51,10 @@ impl<R: Reader, E: Engine> KeptRun<R, E> {
     {
         &self.run
     }
+}
 
-    /// One more owner of its parts, in constant time.
-    pub(crate) fn share(&self) -> Result<KeptRun<R, E>, Memory>
-        ensures { IfOk result (λ kept. kept ≡ self.now) }
-    {
+impl<R: Reader, E: Engine> Share for KeptRun<R, E> {
+    fn another(&self) -> Result<KeptRun<R, E>, Memory> {
         Ok(KeptRun {
             run: self.run.share()?,
             read_by: PhantomData,
@@ -114,39 +111,9 @@ impl<R: Reader, E: Engine> KeptRuns<R, E> {
     ) -> Result<KeptRuns<R, E>, Memory>
         ensures { IfOk result (λ kept. kept ≡ with_runs self.now runs.now) }
     {
-        let mut table = share_table(alloc, &self.table)?;
+        let mut table = self.table.share(alloc)?;
         add_runs(&mut table, runs)?;
         Ok(KeptRuns { table })
-    }
-}
-
-fn share_table<R: Reader, E: Engine>(
-    alloc: Global,
-    old: &Table<KeptRun<R, E>>,
-) -> Result<Table<KeptRun<R, E>>, Memory>
-    ensures { IfOk result (λ table. table ≡ old.now) }
-{
-    let mut table = Table::new(alloc);
-    for place in 0..old.len() {
-        share_entry(&mut table, old, place)?;
-    }
-    Ok(table)
-}
-
-fn share_entry<R: Reader, E: Engine>(
-    table: &mut Table<KeptRun<R, E>>,
-    old: &Table<KeptRun<R, E>>,
-    place: usize,
-) -> Result<(), Memory>
-    ensures { OnOk result ((entry : List ℕ × bodies.Run) → slice_get old.now place ≡ Some entry
-        → table.new ≡ insert_entry bytes_eq table.old entry.0 entry.1) }
-{
-    match old.at(place) {
-        Some((path, kept)) => {
-            table.add(path.share()?, kept.share()?)?;
-            Ok(())
-        }
-        None => Ok(()),
     }
 }
 
@@ -171,7 +138,7 @@ fn add_run<R: Reader, E: Engine>(
     let run = kept.run();
     match run.end() {
         End::Done(_) => {
-            table.add(run.path().share()?, kept.share()?)?;
+            table.add(run.path().share()?, kept.another()?)?;
             Ok(())
         }
         End::Fault(_) => Ok(()),

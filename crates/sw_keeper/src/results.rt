@@ -9,7 +9,7 @@ use std::marker::Model;
 use sw_record::{Cause, Run};
 use sw_text::{List, Memory, Name, Shared};
 use sw_tree::Sheet;
-use sw_world::{Answer, Config, End, Engine, Op};
+use sw_world::{Answer, Config, End, Engine, Op, Share};
 
 /// The run of a body that ended.
 pub(crate) fn run_ended<E: Engine>(
@@ -95,7 +95,7 @@ impl<R: Reader, E: Engine> Results<R, E> {
         ensures end { IfOk result (λ end. end ≡ kept.now.end) }
         ensures runs { OnOk result (self.new ≡ record self.old { runs = self.old.runs ++ kept.now ∷ [] }) }
     {
-        self.runs.push(kept.share()?)?;
+        self.runs.push(kept.another()?)?;
         kept.run().end().share()
     }
 }

@@ -9,8 +9,10 @@ use Rattle.sw_world.specs.declared.answer.Answer.{Answer}
 use Rattle.sw_world.specs.declared.answer.Answer.TheVariants.{Owner, NoNamespace, NoMember}
 use Rattle.sw_world.specs.Questions.{IsLoad, Fits}
 use Rattle.sw_modules.specs.declared.module.Module.{Module}
+use Rattle.sw_modules.specs.declared.uses.Uses.{Uses}
 use Rattle.sw_modules.specs.State.{State, path_in, uses_in}
-use Rattle.sw_modules.specs.Names.{is_private, variable_of, member_of, public_member, used_member, loaded_member, found}
+use Rattle.sw_text.specs.Names.{is_private}
+use Rattle.sw_modules.specs.Names.{variable_of, member_of, public_member, used_member, loaded_member, found}
 use Rattle.sw_modules.specs.Outside.{Functions, Outside, plain}
 
 module _ (site : List ℕ) (space : Option (List ℕ)) (name : List ℕ) where
@@ -41,9 +43,9 @@ module _ (site : List ℕ) (space : Option (List ℕ)) (name : List ℕ) where
   public_fits s kind None = no_namespace_fits kind
   public_fits s kind (Some path) = either kind (is_private name) NoMember (member_of s kind name path) (none_fits kind) (member_fits s kind path)
 
-  used_fits : (s : State) (uses : List (List ℕ × List ℕ)) (kind : Kind) (behind : Option (List ℕ)) → Fits (Find site space kind name) (used_member s uses behind kind name)
+  used_fits : (s : State) (uses : Uses) (kind : Kind) (behind : Option (List ℕ)) → Fits (Find site space kind name) (used_member s uses behind kind name)
   used_fits s uses kind None = none_fits kind
-  used_fits s uses kind (Some behind) = public_fits s kind (lookup (bytes_eq behind) uses)
+  used_fits s uses kind (Some behind) = public_fits s kind (lookup (bytes_eq behind) uses.named)
 
   loaded_fits : (s : State) (kind : Kind) (held : Option Module) (behind : Option (List ℕ)) → Fits (Find site space kind name) (loaded_member s site held behind kind name)
   loaded_fits s kind None behind = none_fits kind

@@ -1,5 +1,6 @@
 -- The evaluation of a module from nothing (this project's own rule: what a compile has to give is what this gives).
 use Rattle.std.specs.Prelude.{ℕ, zero, suc, ◌-◌, List, [], ◌∷◌, ◌++◌, length, Result, Ok, Err}
+use Rattle.sw_text.specs.Starts.{start_of}
 use Rattle.sw_text.specs.declared.fault.Fault.{Fault}
 use Rattle.sw_text.specs.declared.fault.FaultCode.TheVariants.{Turns}
 use Rattle.sw_tree.specs.declared.sheet.Sheet.{Sheet}
@@ -85,12 +86,7 @@ turn functions inner rest job text pairs runs o (Asks op) =
 
 -- how a body would end that asks more than every body does
 abbrev pub overrun : List ℕ → End
-overrun path =
-    Fault_end (record {
-      code = Turns;
-      span =
-          record { file = path; from = record { line = 1; column = 1 }; to = record { line = 1; column = 1 } };
-    })
+overrun path = Fault_end (record { code = Turns; span = start_of path })
 
 -- the rest of an evaluation: a body that has these pairs and runs behind it, and at most so many turns left
 unfoldable pub goes_on : Setting → Evaluation → Job → List ℕ → ℕ → List Pair → List Run → Outside → Outcome

@@ -1,6 +1,9 @@
+pub mod Uses
 pub mod State
 pub mod Names
 pub mod Loads
 pub mod Outside
 pub mod Fresh
 pub mod Law
+pub mod Ends
+pub mod Calls

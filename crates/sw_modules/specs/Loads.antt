@@ -1,10 +1,11 @@
 -- What a load comes to: the refusals in their order, an answer at once, or a module whose body has to run (the Sass
 -- specification's modules; the limit of open loads is this project's own).
-use Rattle.std.specs.Prelude.{◌≡◌, ◌<◌, ◌≤◌, ℕ, ◌&&◌, not, nat_le, List, [], length, map, find, bytes_eq, Option, None, Some, Result, Ok, Err, is_some, if◌then◌else◌, Bool}
+use Rattle.std.specs.Prelude.{◌≡◌, ◌<◌, ◌≤◌, ℕ, ◌&&◌, not, nat_le, List, [], length, map, find, bytes_eq, Option, None, Some, Result, Ok, Err, if◌then◌else◌, Bool}
 use Rattle.std.specs.List.{list_any}
 use Rattle.std.specs.Map.{lookup}
 use Rattle.std.specs.FinMap.{get}
 use Rattle.indexmap.specs.IndexMap.{insert_all}
+use Rattle.sw_text.specs.Starts.{start_of}
 use Rattle.sw_text.specs.declared.place.Span.{Span}
 use Rattle.sw_text.specs.declared.fault.FaultCode.{FaultCode}
 use Rattle.sw_text.specs.declared.fault.FaultCode.TheVariants.{NotFound, Ambiguous, Loop, AlreadyLoaded, NotConfigurable, MemberConflict, Depth}
@@ -17,7 +18,6 @@ use Rattle.sw_values.specs.declared.plain.Plain.{Plain}
 use Rattle.sw_world.specs.declared.op.Op.{Op}
 use Rattle.sw_world.specs.declared.op.Op.TheVariants.{Load}
 use Rattle.sw_world.specs.declared.op.How.{How}
-use Rattle.sw_world.specs.declared.op.How.TheVariants.{Use, Forward}
 use Rattle.sw_world.specs.declared.op.Given.{Given}
 use Rattle.sw_world.specs.declared.answer.Answer.{Answer}
 use Rattle.sw_world.specs.declared.answer.Answer.TheVariants.{Loaded, Refused, Done}
@@ -29,6 +29,7 @@ use Rattle.sw_modules.specs.declared.live.Begin.{Begin}
 use Rattle.sw_modules.specs.declared.live.Begin.TheVariants.{Answered, Open}
 use Rattle.sw_modules.specs.declared.live.Enter.{Enter}
 use Rattle.sw_modules.specs.declared.live.Enter.TheVariants.{Refused as Refused_entry, Open as Open_entry}
+use Rattle.sw_modules.specs.Uses.{is_taken}
 use Rattle.sw_modules.specs.State.{State, open_at, uses_in, with_use, closed, loaded_now}
 
 abbrev pub refused : FaultCode → Span → Answer
@@ -48,13 +49,12 @@ is_explicit given = list_any (λ one. one.explicit) given
 abbrev pub first_untaken : List Given → List (List ℕ) → Option Given
 first_untaken given taken = find (λ one. one.explicit && not (list_any (bytes_eq one.name) taken)) given
 
--- a loaded module is used by the innermost open load: no namespace may stand for two
+-- a loaded module is used by the innermost open load, as its use is recorded in each case: behind a namespace, which may
+-- not stand for a module already, as one whose members are the sheet's own (`as *`), or forwarded
 abbrev pub used_as : How → List ℕ → List (List ℕ) → Span → State → Answer × State
-used_as (Use (Some space)) path taken span s =
-    if is_some (lookup (bytes_eq space) (uses_in s.opened)) then (refused MemberConflict span, s)
-    else (Loaded path taken, record s { opened = with_use space path s.opened })
-used_as (Use None) path taken span s = (Loaded path taken, s)
-used_as (Forward prefix filter) path taken span s = (Loaded path taken, s)
+used_as how path taken span s =
+    if is_taken how (uses_in s.opened) then (refused MemberConflict span, s)
+    else (Loaded path taken, record s { opened = with_use how path s.opened })
 
 abbrev pub at_once : Answer × State → Begin × State
 at_once (answer, s) = (Answered answer, s)
@@ -104,12 +104,7 @@ abbrev pub entry_text : Files → List ℕ → Option (List ℕ)
 entry_text files entry = if is_path entry && has_extension entry then get files entry else None
 
 abbrev pub entry_fault : List ℕ → Enter
-entry_fault entry =
-    Refused_entry (record {
-      code = NotFound;
-      span =
-          record { file = entry; from = record { line = 1; column = 1 }; to = record { line = 1; column = 1 } };
-    })
+entry_fault entry = Refused_entry (record { code = NotFound; span = start_of entry })
 
 abbrev pub entered : List ℕ → Option (List ℕ) → State → Enter × State
 entered entry None s = (entry_fault entry, s)

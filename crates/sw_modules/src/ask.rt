@@ -4,18 +4,18 @@ ghost use Rattle.std.specs.Map.{lookup};
 ghost use Rattle.std.specs.Option.{option_copied};
 ghost use Rattle.sw_world.specs.Questions.{IsLoad, Fits};
 ghost use Rattle.sw_world.specs.declared.answer.Answer.TheVariants.{Value as Value_answer};
-ghost use Rattle.sw_modules.specs.Law.{ComesBy};
-ghost use Rattle.sw_modules.specs.Names.{found, used_member, loaded_member, public_member, member_of, value_of, no_value, is_private};
+ghost use Rattle.sw_modules.specs.Names.{found, used_member, loaded_member, public_member, member_of, value_of, no_value};
+ghost use Rattle.sw_text.specs.Names.{is_private};
 ghost use Rattle.sw_modules.specs.Outside.{plain};
 ghost use Rattle.sw_modules.specs.State.{path_in, uses_in, with_variable};
 
 use crate::Live;
 use crate::loads::{is_innermost, use_of};
-use crate::names::{is_private, variable_of};
+use crate::names::variable_of;
 use std::alloc::Global;
 use sw_text::{Memory, Name, Span};
 use sw_tree::Kind;
-use sw_values::{Node, Value};
+use sw_values::Value;
 use sw_world::{Answer, Hosts, Op, SayKind, World};
 
 impl<'a> Live<'a> {
@@ -69,7 +69,7 @@ impl<'a> Live<'a> {
             None => Ok(Answer::NoMember),
             Some(held) => match space {
                 None => self.member_of(kind, name, site),
-                Some(space) => self.public_member(kind, name, held.uses.get(space)),
+                Some(space) => self.public_member(kind, name, held.uses.named.get(space)),
             },
         }
     }
@@ -90,7 +90,7 @@ impl<'a> Live<'a> {
         match path {
             None => Ok(Answer::NoNamespace),
             Some(path) => {
-                if is_private(name) {
+                if name.is_private() {
                     Ok(Answer::NoMember)
                 } else {
                     self.member_of(kind, name, path)
@@ -113,25 +113,12 @@ impl<'a> Live<'a> {
         ensures { IfOk result (λ value. value ≡ value_of self.now owner.now name.now) }
     {
         match self.loaded().get(owner) {
-            None => no_value(self.allocator()),
+            None => Ok(Value::null()),
             Some(held) => match held.variables.get(name) {
-                None => no_value(self.allocator()),
+                None => Ok(Value::null()),
                 Some(value) => value.share(),
             },
         }
-    }
-}
-
-fn no_value(alloc: Global) -> Result<Value, Memory>
-    ensures { IfOk result (λ value. value ≡ no_value) }
-{
-    let node = Node::Text {
-        text: Name::new(alloc, "")?,
-        quoted: false,
-    };
-    match Value::of(node) {
-        Ok(value) => Ok(value),
-        Err(_) => Err(Memory),
     }
 }
 
@@ -156,8 +143,3 @@ impl<'b, 'a, H: Hosts> World for Asked<'b, 'a, H> {
         self.live.answer(op, self.hosts)
     }
 }
-
-/// A body that was answered as what is outside would answer it is where the evaluation from nothing comes by.
-pub fn comes_by()
-    ensures { ComesBy }
-{}

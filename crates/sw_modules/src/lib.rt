@@ -3,15 +3,20 @@
 #![tactic(auto)]
 
 mod ask;
+mod ends;
+mod laws;
 mod live;
 mod loaded;
 mod loads;
 mod module;
 mod names;
+mod uses;
 mod variables;
 
-pub use ask::{Asked, comes_by};
+pub use ask::Asked;
+pub use laws::{calls_lead, comes_by, ends_by_bodies};
 pub use live::{Begin, Enter, Finished, Live};
 pub use loaded::Loaded;
 pub use module::{Module, Opened};
+pub use uses::{Use, Uses};
 pub use variables::Variables;

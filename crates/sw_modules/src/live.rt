@@ -8,17 +8,15 @@ ghost use Rattle.sw_folder.specs.Files.{most_bytes};
 ghost use Rattle.sw_world.specs.declared.op.How.{How};
 ghost use Rattle.sw_modules.specs.Loads.{entry_fault, is_explicit, refused, first_untaken};
 
-use crate::loads::{
-    add_use, config_of, first_untaken, has_use, is_explicit, is_open, refused, share_names,
-};
-use crate::{Loaded, Module, Opened, Variables};
+use crate::loads::{add_use, config_of, is_explicit, is_open, refused, takes};
+use crate::{Loaded, Opened, Uses};
 use std::alloc::Global;
 use std::marker::Model;
 use sw_css_tree::CssTree;
 use sw_folder::{Folder, ResolveFault, has_extension, is_path};
-use sw_text::{Fault, FaultCode, List, Memory, Name, Pos, Shared, Span};
+use sw_text::{Fault, FaultCode, List, Memory, Name, Shared, Span};
 use sw_values::Value;
-use sw_world::{Answer, Config, End, Finish, Given, How, Op, SayKind, Saying, Table};
+use sw_world::{Answer, Config, Given, How, Op, SayKind, Saying};
 
 const MOST_OPEN: usize = 64;
 
@@ -53,13 +51,13 @@ pub struct Finished {
 /// The state of one compile over a folder: the loaded modules, the open loads, the messages and the outputs.
 #[derive(Drop)]
 pub struct Live<'a> {
-    alloc: Global,
+    pub(crate) alloc: Global,
     folder: &'a Folder,
     paths: &'a [Name],
-    loaded: Loaded,
-    opened: Vec<Opened>,
+    pub(crate) loaded: Loaded,
+    pub(crate) opened: Vec<Opened>,
     says: List<Saying>,
-    outputs: List<Shared<CssTree>>,
+    pub(crate) outputs: List<Shared<CssTree>>,
 }
 
 impl<'a> Model for Live<'a> {
@@ -134,7 +132,7 @@ impl<'a> Live<'a> {
                 let path = entry.share()?;
                 let opened = Opened {
                     path: entry.share()?,
-                    uses: Table::new(self.alloc),
+                    uses: Uses::new(self.alloc),
                 };
                 self.opened.push(opened)?;
                 Ok(Enter::Open { path, text })
@@ -240,7 +238,7 @@ impl<'a> Live<'a> {
                 let config = config_of(self.alloc, config)?;
                 let opened = Opened {
                     path: path.share()?,
-                    uses: Table::new(self.alloc),
+                    uses: Uses::new(self.alloc),
                 };
                 self.opened.push(opened)?;
                 Ok(Begin::Open { path, text, config })
@@ -260,114 +258,15 @@ impl<'a> Live<'a> {
         ensures same_depth { length self.new.opened ≡ length self.old.opened }
         ensures err { OnErr result (self.new ≡ self.old) }
     {
-        match how {
-            How::Use { space: Some(space) } => self.used_under(space, path, taken, span),
-            How::Use { space: None } => Ok(Answer::Loaded { path, taken }),
-            How::Forward { .. } => Ok(Answer::Loaded { path, taken }),
-        }
-    }
-
-    fn used_under(
-        &mut self,
-        space: &Name,
-        path: Name,
-        taken: Shared<List<Name>>,
-        span: &Span,
-    ) -> Result<Answer, Memory>
-        ensures ok { IfOk result (λ answer. used_as (How.Use (Some space.now)) path taken span.now self.old
-            ≡ (answer, self.new)) }
-        ensures kind { IfOk result AnswersLoad }
-        ensures same_depth { length self.new.opened ≡ length self.old.opened }
-        ensures err { OnErr result (self.new ≡ self.old) }
-    {
-        if has_use(&self.opened, space) {
+        if takes(&self.opened, how) {
             return refused(FaultCode::MemberConflict, span);
         }
         let answer = Answer::Loaded {
             path: path.share()?,
             taken,
         };
-        add_use(&mut self.opened, space.share()?, path)?;
+        add_use(&mut self.opened, how, path)?;
         Ok(answer)
-    }
-
-    /// The answer to the innermost open load, whose body ended so. At its end the module is recorded and used; a name
-    /// of a `with` that it didn't take, or a namespace that stands for a module already, refuses the load. After
-    /// `Memory` the state is not to be used any more.
-    pub fn end(&mut self, op: &Op, end: &End) -> Result<Answer, Memory>
-        requires is_load { IsLoad op.now }
-        requires is_open { 0 < length self.old.opened }
-        ensures ok { IfOk result (λ answer. ended_by op.now (path_in self.old.opened) end.now self.old
-            ≡ (answer, self.new)) }
-        ensures kind { IfOk result AnswersLoad }
-        ensures closes { OnOk result (length self.new.opened + 1 ≡ length self.old.opened) }
-    {
-        let Op::Load {
-            span,
-            how,
-            config,
-            ..
-        } = op
-        else {
-            unreachable!()
-        };
-        match end {
-            End::Done(finish) => {
-                let path = self.record(finish)?;
-                self.used_unless(
-                    how,
-                    config.get().as_slice(),
-                    path,
-                    &finish.get().taken,
-                    span,
-                )
-            }
-            End::Fault(fault) => {
-                let fault = fault.share()?;
-                self.close();
-                Ok(Answer::Refused(fault))
-            }
-        }
-    }
-
-    fn used_unless(
-        &mut self,
-        how: &How,
-        config: &[Given],
-        path: Name,
-        taken: &List<Name>,
-        span: &Span,
-    ) -> Result<Answer, Memory>
-        ensures ok { IfOk result (λ answer. used_unless (first_untaken config.now taken.now) how.now path taken.now
-            span.now self.old ≡ (answer, self.new)) }
-        ensures kind { IfOk result AnswersLoad }
-        ensures same_depth { length self.new.opened ≡ length self.old.opened }
-    {
-        match first_untaken(config, taken.as_slice()) {
-            Some(given) => refused(FaultCode::NotConfigurable, &given.span),
-            None => {
-                let taken = share_names(self.alloc, taken.as_slice())?;
-                self.used_as(how, path, taken, span)
-            }
-        }
-    }
-
-    /// Closes the entry, whose body ended so; at its end the module is recorded. After `Memory` the state is not to be
-    /// used any more.
-    pub fn leave(&mut self, end: &End) -> Result<(), Memory>
-        requires { 0 < length self.old.opened }
-        ensures { OnOk result (self.new ≡ left_by end.now self.old) }
-    {
-        match end {
-            End::Done(finish) => {
-                self.record(finish)?;
-                Ok(())
-            }
-            End::Fault(_) => {
-                self.close();
-                Ok(())
-            }
-        }
     }
 
     pub(crate) fn allocator(&self) -> Global {
@@ -411,35 +310,6 @@ impl<'a> Live<'a> {
             text: text.share()?,
         })
     }
-
-    fn close(&mut self)
-        requires { 0 < length self.old.opened }
-        ensures after { self.new ≡ closed self.old }
-        ensures closes { length self.new.opened + 1 ≡ length self.old.opened }
-    {
-        self.opened.pop();
-    }
-
-    /// Records the module of the innermost open load, and gives its path.
-    fn record(&mut self, finish: &Shared<Finish>) -> Result<Name, Memory>
-        requires { 0 < length self.old.opened }
-        ensures path { IfOk result (λ path. path ≡ path_in self.old.opened) }
-        ensures state { OnOk result (self.new ≡ loaded_now finish.now self.old) }
-        ensures closes { OnOk result (length self.new.opened + 1 ≡ length self.old.opened) }
-    {
-        let variables = Variables::of(finish)?;
-        self.outputs.push(finish.get().css.share()?)?;
-        let Some(Opened { path, uses }) = self.opened.pop() else {
-            unreachable!()
-        };
-        let held = Module {
-            variables,
-            uses,
-            finish: finish.share()?,
-        };
-        self.loaded.add(path.share()?, held)?;
-        Ok(path)
-    }
 }
 
 fn entry_fault(entry: &Name) -> Result<Fault, Memory>
@@ -447,10 +317,6 @@ fn entry_fault(entry: &Name) -> Result<Fault, Memory>
 {
     Ok(Fault {
         code: FaultCode::NotFound,
-        span: Span {
-            file: entry.share()?,
-            from: Pos { line: 1, column: 1 },
-            to: Pos { line: 1, column: 1 },
-        },
+        span: Span::start_of(entry)?,
     })
 }

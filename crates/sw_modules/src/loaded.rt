@@ -3,14 +3,16 @@ ghost use Rattle.std.specs.Prelude.{◌≡◌, [], bytes_eq, OnOk, OnErr};
 ghost use Rattle.std.specs.Map.{lookup};
 ghost use Rattle.std.specs.Option.{option_copied};
 ghost use Rattle.indexmap.specs.IndexMap.{insert_entry};
-ghost use Rattle.sw_modules.specs.State.{with_variable};
+ghost use Rattle.sw_modules.specs.Uses.{no_uses};
+ghost use Rattle.sw_modules.specs.State.{module_of, used_by, with_variable};
 
-use crate::Module;
+use crate::{Module, Uses, Variables};
 use indexmap::IndexMap;
 use std::alloc::Global;
 use std::marker::Model;
-use sw_text::{Memory, Name};
+use sw_text::{Memory, Name, Shared};
 use sw_values::Value;
+use sw_world::Finish;
 
 /// The loaded modules by their paths. Contracts see the list of the entries.
 #[derive(Drop)]
@@ -49,13 +51,33 @@ impl Loaded {
         self.entries.get(path)
     }
 
-    /// Adds the module at a path. After `Memory` the modules are as before.
-    pub fn add(&mut self, path: Name, held: Module) -> Result<(), Memory>
-        ensures ok { OnOk result (self.new ≡ insert_entry bytes_eq self.old path held) }
+    /// Adds the module at a path that this body left behind, as yet without its uses. After `Memory` the modules are as
+    /// before.
+    pub(crate) fn add_ended(
+        &mut self,
+        alloc: Global,
+        path: &Name,
+        finish: &Shared<Finish>,
+    ) -> Result<(), Memory>
+        ensures ok { OnOk result (self.new
+            ≡ insert_entry bytes_eq self.old path.now (module_of finish.now no_uses)) }
         ensures err { OnErr result (self.new ≡ self.old) }
     {
-        self.entries.insert(path, held)?;
+        let held = Module {
+            variables: Variables::of(finish)?,
+            uses: Uses::new(alloc),
+        };
+        self.entries.insert(path.share()?, held)?;
         Ok(())
+    }
+
+    /// Gives the module at a path its uses; where there is none, nothing changes. Takes no memory.
+    pub(crate) fn set_uses(&mut self, path: &Name, uses: Uses)
+        ensures { self.new ≡ used_by self.old path.now uses }
+    {
+        if let Some(held) = self.entries.get_mut(path) {
+            held.uses = uses;
+        }
     }
 
     /// Gives a module's variable a value; what isn't there stays so. After `Memory` the modules are as before.

@@ -1,15 +1,16 @@
 // The parts of a load.
-ghost use Rattle.std.specs.Prelude.{◌≡◌, ◌<◌, ◌&&◌, ◌∷◌, [], not, length, bytes_eq, IfOk, OnOk, OnErr, None, Some, is_some};
+ghost use Rattle.std.specs.Prelude.{◌≡◌, ◌<◌, ◌&&◌, ◌∷◌, [], not, length, bytes_eq, IfOk, OnOk, OnErr, None, Some};
 ghost use Rattle.std.specs.List.{list_any};
 ghost use Rattle.std.specs.Map.{lookup};
 ghost use Rattle.std.specs.Option.{option_copied};
-ghost use Rattle.sw_modules.specs.State.{path_in, uses_in, with_use};
+ghost use Rattle.sw_modules.specs.State.{below, changed_at, path_in, uses_in, with_use};
+ghost use Rattle.sw_modules.specs.Uses.{is_taken, no_uses, with_one, without_last};
 ghost use Rattle.sw_modules.specs.Loads.{refused, is_open, config_of, is_explicit, first_untaken};
 
 use crate::Opened;
 use std::alloc::Global;
 use sw_text::{Fault, FaultCode, List, Memory, Name, Shared, Span};
-use sw_world::{Answer, Config, Given, Table};
+use sw_world::{Answer, Config, Given, How, Table};
 
 /// The answer that a load is refused at a place.
 pub(crate) fn refused(code: FaultCode, span: &Span) -> Result<Answer, Memory>
@@ -38,35 +39,76 @@ pub(crate) fn is_innermost(opened: &[Opened], path: &Name) -> bool
 
 /// The path that a namespace of the innermost open load stands for.
 pub(crate) fn use_of<'o>(opened: &'o [Opened], space: &Name) -> Option<&'o Name>
-    ensures { option_copied result ≡ lookup (bytes_eq space.now) (uses_in opened.now) }
+    ensures { option_copied result ≡ lookup (bytes_eq space.now) (uses_in opened.now).named }
 {
     match opened.last() {
-        Some(load) => load.uses.get(space),
+        Some(load) => load.uses.named.get(space),
         None => None,
     }
 }
 
-pub(crate) fn has_use(opened: &[Opened], space: &Name) -> bool
-    ensures { result ≡ is_some (lookup (bytes_eq space.now) (uses_in opened.now)) }
+/// Whether a use brings the innermost open load a namespace that stands for a module already.
+pub(crate) fn takes(opened: &[Opened], how: &How) -> bool
+    ensures { result ≡ is_taken how.now (uses_in opened.now) }
 {
     match opened.last() {
-        Some(load) => load.uses.has(space),
-        None => false,
+        Some(load) => load.uses.takes(how),
+        None => none_takes(how),
     }
 }
 
-/// The innermost open load uses a module. After `Memory` the uses are as before.
-pub(crate) fn add_use(opened: &mut Vec<Opened>, space: Name, path: Name) -> Result<(), Memory>
-    ensures ok { OnOk result (opened.new.items ≡ with_use space path opened.old.items) }
-    ensures err { OnErr result (opened.new.items ≡ opened.old.items) }
-    ensures same_count { length opened.new.items ≡ length opened.old.items }
+fn none_takes(how: &How) -> bool
+    ensures { result ≡ is_taken how.now no_uses }
+{
+    let _how = how;
+    false
+}
+
+/// The innermost open load uses a module too. After `Memory` the uses are as before.
+pub(crate) fn add_use(opened: &mut [Opened], how: &How, path: Name) -> Result<(), Memory>
+    ensures ok { OnOk result (opened.new ≡ with_use how.now path opened.old) }
+    ensures err { OnErr result (opened.new ≡ opened.old) }
+    ensures same_count { length opened.new ≡ length opened.old }
 {
     let count = opened.len();
     if count > 0 {
         let load = &mut opened[count - 1];
-        load.uses.add(space, path)?;
+        load.uses.add(how, path)?;
     }
     Ok(())
+}
+
+/// The open loads without the innermost one.
+pub(crate) fn below(opened: &[Opened]) -> &[Opened]
+    ensures { result.now ≡ below opened.now }
+{
+    &opened[..opened.len().saturating_sub(1)]
+}
+
+/// The open load at a place uses a module too. After `Memory` the uses are as before.
+pub(crate) fn use_at(
+    opened: &mut Vec<Opened>,
+    at: usize,
+    how: &How,
+    path: Name,
+) -> Result<(), Memory>
+    requires { at < length opened.old.items }
+    ensures ok { OnOk result (opened.new.items ≡ changed_at at (with_one how.now path) opened.old.items) }
+    ensures err { OnErr result (opened.new.items ≡ opened.old.items) }
+    ensures same_count { length opened.new.items ≡ length opened.old.items }
+{
+    let load = &mut opened[at];
+    load.uses.add(how, path)
+}
+
+/// The last use of this kind of the open load at a place is taken back.
+pub(crate) fn drop_use_at(opened: &mut Vec<Opened>, at: usize, how: &How)
+    requires { at < length opened.old.items }
+    ensures after { opened.new.items ≡ changed_at at (without_last how.now) opened.old.items }
+    ensures same_count { length opened.new.items ≡ length opened.old.items }
+{
+    let load = &mut opened[at];
+    load.uses.drop_last(how);
 }
 
 pub(crate) fn is_explicit(config: &[Given]) -> bool

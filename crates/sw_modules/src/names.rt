@@ -1,20 +1,11 @@
 // What a name means.
 ghost use Rattle.std.specs.Prelude.{◌≡◌, IfOk};
 ghost use Rattle.std.specs.Option.{option_copied};
-ghost use Rattle.sw_modules.specs.Names.{is_private, variable_of};
+ghost use Rattle.sw_modules.specs.Names.{variable_of};
 
 use crate::Module;
 use sw_text::{Memory, Name};
 use sw_world::Answer;
-
-pub(crate) fn is_private(name: &Name) -> bool
-    ensures { result ≡ is_private name.now }
-{
-    match name.as_str().as_bytes() {
-        [] => false,
-        [first, ..] => *first == b'-' || *first == b'_',
-    }
-}
 
 /// The answer that the module at a path has a variable, or hasn't.
 pub(crate) fn variable_of(path: &Name, name: &Name, held: Option<&Module>) -> Result<Answer, Memory>

@@ -8,6 +8,7 @@ mod engine;
 mod hosts;
 mod op;
 mod parts;
+mod share;
 mod table;
 mod world;
 
@@ -17,5 +18,6 @@ pub use engine::Engine;
 pub use hosts::{Hosts, NoHosts};
 pub use op::{Filter, Given, How, Member, Op, SayKind, Saying};
 pub use parts::share_pairs;
+pub use share::Share;
 pub use table::Table;
 pub use world::World;

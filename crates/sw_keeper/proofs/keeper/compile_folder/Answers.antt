@@ -13,5 +13,5 @@ returns-in_ok-outcome-in-Open-clause-did g c =
     (is_opened (setting_of g.H.Hosts.answer g.H.Hosts.after g.R.Reader.reads g.E.Engine.body) c.args.folder.now c.args.paths.now c.args.entry.now (g.H.Hosts.state c.args.hosts.now) c.args.kept.now
     c.in_ok-fault.field-0 c.in-Open.path c.in-Open.text c.in_ok-config-in-Open.config c.in_ok-end-in-Open.end c.new-live.result c.enter.new.self c.leave.new.self c.new-results.result (g.E.Engine.ran c.args.engine.now)
     (moment c.evaluate.new.live (g.H.Hosts.state c.evaluate.new.hosts) c.evaluate.new.results (g.E.Engine.ran c.evaluate.new.engine)) c.finish-says.result.says c.in_ok-outcome-in-Open.outcome
-    c.new-live.ensures c.in_ok-fault.ensures.ok c.in-Open.is (c.in_ok-config-in-Open.ensures ∙ c.new-in-Open.ensures) c.new-results.ensures c.in_ok-end-in-Open.ensures.did c.in_ok-leave-in-Open.ensures c.finish-says.ensures.says
+    c.new-live.ensures c.in_ok-fault.ensures.ok c.in-Open.is (c.in_ok-config-in-Open.ensures ∙ c.new-in-Open.ensures) c.new-results.ensures c.in_ok-end-in-Open.ensures.did c.in_ok-leave-in-Open.ensures.ok c.finish-says.ensures.says
     (c.in_ok-outcome-in-Open.ensures ∙ ap (λ runs. outcome_of c.in_ok-end-in-Open.end (outputs_of runs)) (c.as_slice.ensures ∙ ap (λ (p : List Run × List (List ℕ × Cause)). p.0) c.into_parts-runs.ensures)))

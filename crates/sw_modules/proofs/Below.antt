@@ -1,0 +1,259 @@
+-- The load below the innermost one, whose uses change before the innermost one ends.
+use Rattle.std.proofs.Common.{◌≡◌, ℕ, zero, suc, nat_lt, ltb-true, ◌+◌, ◌-◌, ◌<◌, Bool, true, false, cond, length, List, [], ◌∷◌, ◌++◌, take, drop, set, bytes_eq, Option, None, Some, is_some, refl, sym, ◌∙◌, ap, subst, arith, length-append, slice_get}
+use Rattle.std.specs.Map.{lookup, set_value}
+use Rattle.std.specs.Option.{option_map_or}
+use Rattle.std.proofs.lemmas.List.{take-append-drop, length-take, length-set, get_or-set_same}
+use Rattle.std.proofs.lemmas.Option.{slice_get_within, slice_get-get_or}
+use Rattle.std.proofs.lemmas.Slice.Eq.{bytes_eq-Decides}
+use Rattle.std.proofs.Math.Seq.{take-append_seam, drop-append_seam}
+use Rattle.indexmap.specs.IndexMap.{insert_entry}
+use Rattle.indexmap.proofs.MapLemmas.{absent_from_lookup, insert_entry-absent}
+use Rattle.sw_world.specs.declared.end.Finish.{Finish}
+use Rattle.sw_world.specs.declared.op.How.{How}
+use Rattle.sw_world.specs.declared.op.How.TheVariants.{Use, Forward}
+use Rattle.sw_modules.specs.declared.module.Module.{Module}
+use Rattle.sw_modules.specs.declared.module.Opened.{Opened}
+use Rattle.sw_modules.specs.declared.uses.Uses.{Uses}
+use Rattle.sw_modules.specs.Uses.{no_uses, is_taken, with_one, without_last}
+use Rattle.sw_modules.specs.State.{State, below, changed_at, changed_below, loaded_now, module_of, path_in, uses_in, with_uses, with_use, used_by}
+
+-- Lists
+
+-- behind one part of a list the other begins
+get_seam : {X : Type 0} (xs ys : List X) → slice_get (xs ++ ys) (length xs) ≡ slice_get ys 0
+get_seam [] ys = refl
+get_seam (x ∷ xs) ys = get_seam xs ys
+
+-- what was written at a place, and what was there
+set_twice : {X : Type 0} (xs : List X) (i : ℕ) (x y : X) → set (set xs i x) i y ≡ set xs i y
+set_twice [] i x y = refl
+set_twice (z ∷ zs) zero x y = refl
+set_twice (z ∷ zs) (suc i) x y = ap (λ l. z ∷ l) (set_twice zs i x y)
+
+set_same : {X : Type 0} (xs : List X) (i : ℕ) (x : X) → slice_get xs i ≡ Some x → set xs i x ≡ xs
+set_same [] i x here = refl
+set_same (z ∷ zs) zero x here = let e : z ≡ x = cc in ap (λ y. y ∷ zs) (sym e)
+set_same (z ∷ zs) (suc i) x here = ap (λ l. z ∷ l) (set_same zs i x here)
+
+get_set : {X : Type 0} (xs : List X) (i : ℕ) (x : X) → i < length xs → slice_get (set xs i x) i ≡ Some x
+get_set xs i x inside =
+    let within : i < length (set xs i x) = omega (arith, length-set xs i x) in
+    slice_get-get_or (set xs i x) i x within ∙ ap Some (get_or-set_same xs i x x inside)
+
+-- without the last item
+front : {X : Type 0} (xs : List X) (x : X) → take (length (xs ++ x ∷ []) - 1) (xs ++ x ∷ []) ≡ xs
+front xs x =
+    let e : length (xs ++ x ∷ []) - 1 ≡ length xs = omega (arith, length-append xs (x ∷ [])) in
+    ap (λ n. take n (xs ++ x ∷ [])) e ∙ take-append_seam xs (x ∷ [])
+
+-- Uses
+
+named_none : (r : Option (List ℕ)) → is_some r ≡ false → r ≡ None
+named_none None e = refl
+named_none (Some x) e = cc
+
+-- a use that was new is the last one of its kind
+added_last : (how : How) (path : List ℕ) (uses : Uses) → is_taken how uses ≡ false → without_last how (with_one how path uses) ≡ uses
+added_last (Use (Some space)) path uses free =
+    let none : lookup (bytes_eq space) uses.named ≡ None = named_none (lookup (bytes_eq space) uses.named) free in
+    let last : insert_entry bytes_eq uses.named space path ≡ uses.named ++ (space, path) ∷ [] =
+    insert_entry-absent bytes_eq space path uses.named (absent_from_lookup (bytes_eq space) uses.named none) in
+    ap (λ l. record { named = take (length l - 1) l; others = uses.others }) last
+    ∙ ap (λ l. record { named = l; others = uses.others }) (front uses.named (space, path))
+added_last (Use None) path uses free =
+    ap (λ l. record { named = uses.named; others = l }) (front uses.others (record { how = Use None; path = path }))
+added_last (Forward prefix filter) path uses free =
+    ap (λ l. record { named = uses.named; others = l }) (front uses.others (record { how = Forward prefix filter; path = path }))
+
+-- Open loads
+
+pub length-with_uses : (opened : List Opened) (change : Uses → Uses) → length (with_uses opened change) ≡ length opened
+length-with_uses opened change = by (slice_get opened (length opened - 1))
+  where
+    by : (r : Option Opened) → length (option_map_or (λ load. set opened (length opened - 1) (record load { uses = change load.uses })) r opened) ≡ length opened
+    by None = refl
+    by (Some load) = length-set opened (length opened - 1) (record load { uses = change load.uses })
+
+abbrev changed : How → List ℕ → Opened → Opened
+changed how path load = record load { uses = with_one how path load.uses }
+
+-- taken back, such a use leaves the loads as they were
+pub use_taken_back : (how : How) (path : List ℕ) (opened : List Opened) → is_taken how (uses_in opened) ≡ false → with_uses (with_use how path opened) (without_last how) ≡ opened
+use_taken_back how path opened free = by (slice_get opened (length opened - 1)) refl
+  where
+    by : (r : Option Opened) → slice_get opened (length opened - 1) ≡ r → with_uses (with_use how path opened) (without_last how) ≡ opened
+    by None here =
+        let same : with_use how path opened ≡ opened = ap (λ r. option_map_or (λ load. set opened (length opened - 1) (changed how path load)) r opened) here in
+        ap (λ l. with_uses l (without_last how)) same ∙ ap (λ r. option_map_or (λ load. set opened (length opened - 1) (record load { uses = without_last how load.uses })) r opened) here
+    by (Some load) here =
+        let at : ℕ = length opened - 1 in
+        let used : List Opened = set opened at (changed how path load) in
+        let is_used : with_use how path opened ≡ used = ap (λ r. option_map_or (λ load. set opened at (changed how path load)) r opened) here in
+        let inside : at < length opened = slice_get_within opened at load here in
+        let same_at : length used - 1 ≡ at = ap (λ n. n - 1) (length-set opened at (changed how path load)) in
+        let there : slice_get used (length used - 1) ≡ Some (changed how path load) = ap (slice_get used) same_at ∙ get_set opened at (changed how path load) inside in
+        let free_here : is_taken how load.uses ≡ false = ap (λ r. is_taken how (option_map_or (λ l. l.uses) r (record { named = []; others = [] }))) (sym here) ∙ free in
+        let back : Opened = record load { uses = without_last how (with_one how path load.uses) } in
+        let back_is : back ≡ load = ap (λ u. record load { uses = u }) (added_last how path load.uses free_here) in
+        let taken : with_uses used (without_last how) ≡ set used (length used - 1) back =
+        ap (λ r. option_map_or (λ l. set used (length used - 1) (record l { uses = without_last how l.uses })) r used) there in
+        ap (λ l. with_uses l (without_last how)) is_used ∙ taken ∙ ap (λ n. set used n back) same_at ∙ set_twice opened at (changed how path load) back
+        ∙ ap (set opened at) back_is ∙ set_same opened at load here
+
+-- in the left part of a list
+get_left : {X : Type 0} (xs ys : List X) (i : ℕ) → i < length xs → slice_get (xs ++ ys) i ≡ slice_get xs i
+get_left [] ys i inside = absurd (omega (arith, inside))
+get_left (x ∷ xs) ys zero inside = refl
+get_left (x ∷ xs) ys (suc i) inside = let less : i < length xs = omega (arith, inside) in get_left xs ys i less
+
+set_left : {X : Type 0} (xs ys : List X) (i : ℕ) (x : X) → i < length xs → set (xs ++ ys) i x ≡ set xs i x ++ ys
+set_left [] ys i x inside = absurd (omega (arith, inside))
+set_left (z ∷ zs) ys zero x inside = refl
+set_left (z ∷ zs) ys (suc i) x inside = let less : i < length zs = omega (arith, inside) in ap (λ l. z ∷ l) (set_left zs ys i x less)
+
+-- the load below the innermost one is the innermost one of those below
+in_parts : (now : Uses → Uses) (opened : List Opened) → changed_below now opened ≡ with_uses (below opened) now ++ drop (length opened - 1) opened
+in_parts now opened = by (nat_lt 1 (length opened)) refl
+  where
+    by : (b : Bool) → nat_lt 1 (length opened) ≡ b → cond b (changed_at (length opened - 2) now opened) opened ≡ with_uses (below opened) now ++ drop (length opened - 1) opened
+    by true is =
+        let two : 1 < length opened = ltb-true 1 (length opened) is in
+        let bs : List Opened = below opened in
+        let d : List Opened = drop (length opened - 1) opened in
+        let same : bs ++ d ≡ opened = take-append-drop (length opened - 1) opened in
+        let count : length bs ≡ length opened - 1 = length-take (length opened - 1) opened ∙ omega arith in
+        let at : length opened - 2 ≡ length bs - 1 = omega (arith, count, two) in
+        let inside : length bs - 1 < length bs = omega (arith, count, two) in
+        let P : List Opened → ℕ → Type 0 = λ l i. changed_at i now l ≡ with_uses bs now ++ d in
+        let there : slice_get (bs ++ d) (length bs - 1) ≡ slice_get bs (length bs - 1) = get_left bs d (length bs - 1) inside in
+        let joined : changed_at (length bs - 1) now (bs ++ d) ≡ with_uses bs now ++ d =
+        ap (λ r. option_map_or (λ load. set (bs ++ d) (length bs - 1) (record load { uses = now load.uses })) r (bs ++ d)) there ∙ split bs d (slice_get bs (length bs - 1)) inside in
+        subst (λ (l : List Opened). P l (length opened - 2)) same (subst (λ (i : ℕ). P (bs ++ d) i) (sym at) joined)
+      where
+        split : (bs d : List Opened) (r : Option Opened) → length bs - 1 < length bs
+            → option_map_or (λ load. set (bs ++ d) (length bs - 1) (record load { uses = now load.uses })) r (bs ++ d)
+            ≡ option_map_or (λ load. set bs (length bs - 1) (record load { uses = now load.uses })) r bs ++ d
+        split bs d None inside = refl
+        split bs d (Some load) inside = set_left bs d (length bs - 1) (record load { uses = now load.uses }) inside
+    by false is =
+        let few : length opened - 1 ≡ 0 = few_left (length opened) is in
+        let none : below opened ≡ [] = ap (λ n. take n opened) few in
+        let all : drop (length opened - 1) opened ≡ opened = ap (λ n. drop n opened) few in
+        sym (ap (λ l. with_uses l now ++ drop (length opened - 1) opened) none ∙ all)
+      where
+        few_left : (n : ℕ) → nat_lt 1 n ≡ false → n - 1 ≡ 0
+        few_left n few = grind arith
+
+-- the loads of two parts
+abbrev joined_by : (List Opened → List Opened) → List Opened → List Opened
+joined_by change opened = change (below opened) ++ drop (length opened - 1) opened
+
+module _ (change : List Opened → List Opened) (opened : List Opened) (keeps : length (change (below opened)) ≡ length (below opened)) where
+  at : ℕ
+  at = length opened - 1
+
+  count : length (below opened) ≡ at
+  unfolding at
+  count = length-take (length opened - 1) opened ∙ omega arith
+
+  pub length-changed : length (joined_by change opened) ≡ length opened
+  unfolding at
+  length-changed =
+      let both : length (below opened) + length (drop (length opened - 1) opened) ≡ length opened = sym (length-append (below opened) (drop (length opened - 1) opened)) ∙ ap length (take-append-drop (length opened - 1) opened) in
+      length-append (change (below opened)) (drop (length opened - 1) opened) ∙ ap (λ n. n + length (drop (length opened - 1) opened)) keeps ∙ both
+
+  -- where the innermost load stands, and the loads below it
+  seam : length (joined_by change opened) - 1 ≡ length (change (below opened))
+  unfolding at
+  seam = ap (λ n. n - 1) length-changed ∙ sym (keeps ∙ count)
+
+  pub below-changed : below (joined_by change opened) ≡ change (below opened)
+  below-changed = ap (λ n. take n (joined_by change opened)) seam ∙ take-append_seam (change (below opened)) (drop (length opened - 1) opened)
+
+  pub last-changed : drop (length (joined_by change opened) - 1) (joined_by change opened) ≡ drop (length opened - 1) opened
+  last-changed = ap (λ n. drop n (joined_by change opened)) seam ∙ drop-append_seam (change (below opened)) (drop (length opened - 1) opened)
+
+  -- the innermost load is as it was
+  same_innermost : slice_get (joined_by change opened) (length (joined_by change opened) - 1) ≡ slice_get opened (length opened - 1)
+  unfolding at
+  same_innermost =
+      ap (slice_get (joined_by change opened)) seam ∙ get_seam (change (below opened)) (drop (length opened - 1) opened)
+      ∙ sym (get_seam (below opened) (drop (length opened - 1) opened)) ∙ ap (slice_get (below opened ++ drop (length opened - 1) opened)) count
+      ∙ ap (λ l. slice_get l (length opened - 1)) (take-append-drop (length opened - 1) opened)
+
+  pub path-changed : path_in (joined_by change opened) ≡ path_in opened
+  path-changed = ap (λ r. option_map_or (λ (load : Opened). load.path) r []) same_innermost
+
+  pub uses-changed : uses_in (joined_by change opened) ≡ uses_in opened
+  uses-changed = ap (λ r. option_map_or (λ (load : Opened). load.uses) r (record { named = []; others = [] })) same_innermost
+
+-- States
+
+-- a module is recorded where the load below uses it already
+pub used_recorded : (how : How) (path : List ℕ) (finish : Finish) (s a : State) → path ≡ path_in s.opened → a ≡ record s { opened = changed_below (with_one how path) s.opened }
+    → loaded_now finish a ≡ record (loaded_now finish s) { opened = with_use how (path_in s.opened) (below s.opened) }
+used_recorded how path finish s a named is =
+    let keeps : length (with_uses (below s.opened) (with_one how path)) ≡ length (below s.opened) = length-with_uses (below s.opened) (with_one how path) in
+    let opens : a ≡ record s { opened = joined_by (λ l. with_uses l (with_one how path)) s.opened } = is ∙ ap (λ l. record s { opened = l }) (in_parts (with_one how path) s.opened) in
+    let D : List ℕ → Uses → List Opened → State = λ p u l. record { folder = s.folder; paths = s.paths; loaded = insert_entry bytes_eq s.loaded p (module_of finish u); opened = l; says = s.says; outputs = s.outputs ++ finish.css ∷ [] } in
+    let joined : List Opened = joined_by (λ l. with_uses l (with_one how path)) s.opened in
+    ap (loaded_now finish) opens
+    ∙ ap (λ p. D p (uses_in joined) (below joined)) (path-changed (λ l. with_uses l (with_one how path)) s.opened keeps)
+    ∙ ap (λ u. D (path_in s.opened) u (below joined)) (uses-changed (λ l. with_uses l (with_one how path)) s.opened keeps)
+    ∙ ap (λ l. D (path_in s.opened) (uses_in s.opened) l) (below-changed (λ l. with_uses l (with_one how path)) s.opened keeps)
+    ∙ ap (λ p. D (path_in s.opened) (uses_in s.opened) (with_uses (below s.opened) (with_one how p))) named
+
+-- and such a use taken back
+pub use_taken_back_below : (how : How) (path : List ℕ) (s a b c : State) → is_taken how (uses_in (below s.opened)) ≡ false → a ≡ record s { opened = changed_below (with_one how path) s.opened } → b ≡ a
+    → c ≡ record b { opened = changed_below (without_last how) b.opened } → c ≡ s
+use_taken_back_below how path s a b c free used same back =
+    let keeps : length (with_uses (below s.opened) (with_one how path)) ≡ length (below s.opened) = length-with_uses (below s.opened) (with_one how path) in
+    let joined : List Opened = joined_by (λ l. with_uses l (with_one how path)) s.opened in
+    let one : changed_below (without_last how) (changed_below (with_one how path) s.opened) ≡ s.opened =
+    ap (changed_below (without_last how)) (in_parts (with_one how path) s.opened)
+    ∙ in_parts (without_last how) joined
+    ∙ ap (λ l. with_uses l (without_last how) ++ drop (length joined - 1) joined) (below-changed (λ l. with_uses l (with_one how path)) s.opened keeps)
+    ∙ ap (λ l. with_uses (with_use how path (below s.opened)) (without_last how) ++ l) (last-changed (λ l. with_uses l (with_one how path)) s.opened keeps)
+    ∙ ap (λ l. l ++ drop (length s.opened - 1) s.opened) (use_taken_back how path (below s.opened) free)
+    ∙ take-append-drop (length s.opened - 1) s.opened in
+    back ∙ ap (λ (x : State). record x { opened = changed_below (without_last how) x.opened }) (same ∙ used) ∙ ap (λ l. record s { opened = l }) one
+
+-- Loaded modules
+
+module _ (path : List ℕ) (m : Module) where
+  -- the module that was added
+  added : (es : List (List ℕ × Module)) → lookup (bytes_eq path) (insert_entry bytes_eq es path m) ≡ Some m
+  added [] = ap (λ b. cond b (Some m) None) ((bytes_eq-Decides path path).1 refl)
+  added (e ∷ es) = by (bytes_eq path e.0) refl (added es)
+    where
+      by : (b : Bool) → bytes_eq path e.0 ≡ b → lookup (bytes_eq path) (insert_entry bytes_eq es path m) ≡ Some m
+          → lookup (bytes_eq path) (cond b ((e.0, m) ∷ es) (e ∷ insert_entry bytes_eq es path m)) ≡ Some m
+      by true is rest = ap (λ b. cond b (Some m) (lookup (bytes_eq path) es)) is
+      by false is rest = ap (λ b. cond b (Some e.1) (lookup (bytes_eq path) (insert_entry bytes_eq es path m))) is ∙ rest
+
+  -- and changed then
+  changed_then : (n : Module) (es : List (List ℕ × Module)) → set_value (bytes_eq path) (insert_entry bytes_eq es path m) n ≡ insert_entry bytes_eq es path n
+  changed_then n [] = ap (λ b. cond b ((path, n) ∷ []) ((path, m) ∷ [])) ((bytes_eq-Decides path path).1 refl)
+  changed_then n (e ∷ es) = by (bytes_eq path e.0) refl (changed_then n es)
+    where
+      by : (b : Bool) → bytes_eq path e.0 ≡ b → set_value (bytes_eq path) (insert_entry bytes_eq es path m) n ≡ insert_entry bytes_eq es path n
+          → set_value (bytes_eq path) (cond b ((e.0, m) ∷ es) (e ∷ insert_entry bytes_eq es path m)) n ≡ cond b ((e.0, n) ∷ es) (e ∷ insert_entry bytes_eq es path n)
+      by true is rest = ap (λ b. cond b ((e.0, n) ∷ es) ((e.0, m) ∷ set_value (bytes_eq path) es n)) is
+      by false is rest = ap (λ b. cond b ((e.0, n) ∷ insert_entry bytes_eq es path m) (e ∷ set_value (bytes_eq path) (insert_entry bytes_eq es path m) n)) is ∙ ap (λ l. e ∷ l) rest
+
+  added_with_uses : (es : List (List ℕ × Module)) (uses : Uses) → used_by (insert_entry bytes_eq es path m) path uses ≡ insert_entry bytes_eq es path (record m { uses = uses })
+  added_with_uses es uses =
+      ap (λ r. option_map_or (λ (held : Module). set_value (bytes_eq path) (insert_entry bytes_eq es path m) (record held { uses = uses })) r (insert_entry bytes_eq es path m)) (added es)
+      ∙ changed_then (record m { uses = uses }) es
+
+-- a module that was recorded step by step
+pub recorded : (finish : Finish) (path : List ℕ) (s a b c : State) → path ≡ path_in s.opened → a ≡ record s { outputs = s.outputs ++ finish.css ∷ [] }
+    → b ≡ record a { loaded = insert_entry bytes_eq a.loaded path (module_of finish no_uses) }
+    → c ≡ record b { opened = below b.opened; loaded = used_by b.loaded path (uses_in b.opened) } → c ≡ loaded_now finish s
+recorded finish path s a b c named put adds closes =
+    let E : State → State = λ x. record x { loaded = insert_entry bytes_eq x.loaded path (module_of finish no_uses) } in
+    let F : State → State = λ x. record x { opened = below x.opened; loaded = used_by x.loaded path (uses_in x.opened) } in
+    let D : List (List ℕ × Module) → State = λ l. record { folder = s.folder; paths = s.paths; loaded = l; opened = below s.opened; says = s.says; outputs = s.outputs ++ finish.css ∷ [] } in
+    closes ∙ ap F (adds ∙ ap E put)
+    ∙ ap D (added_with_uses path (module_of finish no_uses) s.loaded (uses_in s.opened))
+    ∙ ap (λ p. D (insert_entry bytes_eq s.loaded p (module_of finish (uses_in s.opened)))) named
