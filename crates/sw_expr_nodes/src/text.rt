@@ -1,0 +1,160 @@
+// Texts with what is inserted in them.
+ghost use Rattle.std.specs.Prelude.{◌≡◌, ◌++◌, map, reverse, IfOk, IfErr, OnOk, slice_range};
+ghost use Rattle.std.specs.Str.{IsCharBoundary};
+ghost use Rattle.sw_syntax.specs.Sources.{bytes, pieces_from, parts_from, parts_between, text_piece, text_between};
+ghost use Rattle.sw_expr_nodes.specs.Views.{insert_of, inserts_in, inserted_piece};
+
+use crate::build::Inserted;
+use std::alloc::Global;
+use sw_grammar::ReadError;
+use sw_syntax::{Source, bytes_from, found, from_at, span_between, to_at};
+use sw_syntax_tree::{Parts, Piece, Text};
+use sw_text::{List, Memory, Name};
+
+/// Puts the text from one offset to another behind the pieces, where it isn't empty.
+#[tactic(auto, using(crate::proofs::TextPieces::reverse_more))]
+fn push_text(
+    alloc: Global,
+    pieces: &mut Vec<Piece>,
+    source: &Source,
+    from: u32,
+    to: u32,
+) -> Result<(), Memory>
+    requires from { IsCharBoundary (bytes source.now) from }
+    requires to { IsCharBoundary (bytes source.now) to }
+    ensures { OnOk result (reverse pieces.new.items ≡ text_piece (slice_range
+        (bytes source.now) from to) ++ reverse pieces.old.items) }
+{
+    let text = bytes_from(source, from, to);
+    if text.is_empty() {
+        return Ok(());
+    }
+    pieces.push(Piece::Text(Name::new(alloc, text)?))?;
+    Ok(())
+}
+
+fn piece_of(inserted: Inserted) -> Piece
+    ensures { result ≡ inserted_piece inserted }
+{
+    if inserted.stands {
+        Piece::Value(inserted.value)
+    } else {
+        Piece::Inserted(inserted.value)
+    }
+}
+
+fn pieces_of(
+    alloc: Global,
+    source: &Source,
+    from: u32,
+    to: u32,
+    list: List<Inserted>,
+) -> Result<List<Piece>, Memory>
+    requires from { IsCharBoundary (bytes source.now) from }
+    requires to { IsCharBoundary (bytes source.now) to }
+    ensures { IfOk result (λ pieces. pieces_from source.now from to (map insert_of list) ≡ pieces) }
+{
+    let mut rest = list;
+    let mut pieces = Vec::new(alloc);
+    let mut end = to;
+    'items: while let Some(last) = rest.pop() {
+        let behind = to_at(source, last.to.saturating_sub(1));
+        let before = from_at(source, last.from);
+        push_text(alloc, &mut pieces, source, behind, end)?;
+        pieces.push(piece_of(last))?;
+        end = before;
+    }
+    push_text(alloc, &mut pieces, source, from, end)?;
+    pieces.reverse();
+    Ok(List::from_vec(pieces))
+}
+
+fn parts_by(
+    alloc: Global,
+    source: &Source,
+    from: u32,
+    to: u32,
+    list: List<Inserted>,
+) -> Result<Parts, Memory>
+    requires from { IsCharBoundary (bytes source.now) from }
+    requires to { IsCharBoundary (bytes source.now) to }
+    ensures { IfOk result (λ parts. parts_from source.now from to (map insert_of list) ≡ parts) }
+{
+    if list.is_empty() {
+        return Ok(Parts::Plain(Name::new(alloc, bytes_from(source, from, to))?));
+    }
+    Ok(Parts::Mixed(pieces_of(alloc, source, from, to, list)?))
+}
+
+/// What a text from the token at a place to the one before another is made of.
+pub fn parts_of(
+    alloc: Global,
+    source: &Source,
+    at: usize,
+    place: usize,
+    list: List<Inserted>,
+) -> Result<Parts, Memory>
+    ensures { IfOk result (λ parts. parts_between source.now at place (map insert_of list) ≡ parts) }
+{
+    let from = from_at(source, at);
+    let to = to_at(source, place.saturating_sub(1));
+    parts_by(alloc, source, from, to, list)
+}
+
+/// The text from the token at a place to the one before another.
+pub fn text_of(
+    alloc: Global,
+    source: &Source,
+    at: usize,
+    place: usize,
+    list: List<Inserted>,
+) -> Result<Text, Memory>
+    ensures { IfOk result (λ text. text_between source.now at place (map insert_of list) ≡ text) }
+{
+    let span = span_between(source, at, place)?;
+    Ok(Text {
+        parts: parts_of(alloc, source, at, place, list)?,
+        span,
+    })
+}
+
+fn added(list: &mut List<Inserted>, item: Option<Inserted>) -> Result<(), Memory>
+    ensures { OnOk result (map insert_of list.new ≡ map insert_of list.old ++ inserts_in item) }
+{
+    match item {
+        None => Ok(()),
+        Some(inserted) => list.push(inserted),
+    }
+}
+
+/// Puts what was read behind the others.
+pub fn grown(list: &mut List<Inserted>, item: Option<Inserted>) -> Result<(), ReadError>
+    ensures more { OnOk result (map insert_of list.new ≡ map insert_of list.old ++ inserts_in item) }
+    ensures memory { IfErr result (λ error. error ≡ ReadError.Memory) }
+{
+    found(added(list, item))
+}
+
+/// The same before the others.
+pub fn joined(first: Option<Inserted>, rest: List<Inserted>) -> Result<List<Inserted>, Memory>
+    ensures { IfOk result (λ list. map insert_of list ≡ inserts_in first ++ map insert_of rest) }
+{
+    match first {
+        None => Ok(rest),
+        Some(inserted) => {
+            let mut list = rest.into_vec();
+            list.insert(0, inserted)?;
+            Ok(List::from_vec(list))
+        }
+    }
+}
+
+/// Several behind the others.
+pub fn appended(list: List<Inserted>, items: List<Inserted>) -> Result<List<Inserted>, Memory>
+    ensures { IfOk result (λ whole. map insert_of whole ≡ map insert_of list ++ map insert_of items) }
+{
+    let mut whole = list.into_vec();
+    let mut items = items.into_vec();
+    whole.append(&mut items)?;
+    Ok(List::from_vec(whole))
+}

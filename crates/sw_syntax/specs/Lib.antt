@@ -1,0 +1,12 @@
+pub mod Parts
+pub mod Sources
+pub mod Numerals
+pub mod Sets
+pub mod Operators
+pub mod Values
+pub mod Expressions
+pub mod Queries
+pub mod Actions
+pub mod Statements
+pub mod Table
+pub mod Reads

@@ -1,0 +1,38 @@
+-- The table: what stands in each kind of brackets, and a whole sheet.
+use Rattle.std.specs.Prelude.{ℕ, [], ◌∷◌, List}
+use Rattle.sw_grammar.specs.Grammar.{Grammar, ahead, seq, many}
+use Rattle.sw_terminals.specs.declared.terminal.Terminal.TheVariants as terminals
+use Rattle.sw_syntax.specs.declared.source.Source.{Source}
+use Rattle.sw_terminals.specs.Numbers.{these}
+use Rattle.sw_syntax.specs.Parts.{Part, Form, Whole, Block, Value, Inside, Items, Arguing, RawInside, SpecialInside, Taking, Condition, Feature, Giving, Passing}
+use Rattle.sw_syntax.specs.Expressions.{expr, inside, items, arguing, special_inside}
+use Rattle.sw_syntax.specs.Statements.{statement, raw_inside, taking, giving, passing}
+use Rattle.sw_syntax.specs.Queries.{condition, feature_inside}
+
+module _ (source : Source) where
+  abbrev pub forms : Form → Grammar Part Form
+  forms Whole = seq (many (statement source)) (ahead (0 ∷ []))
+  forms Block = many (statement source)
+  forms Value = expr source
+  forms Inside = inside source
+  forms Items = items source
+  forms Arguing = arguing source
+  forms RawInside = raw_inside source
+  forms SpecialInside = special_inside source
+  forms Taking = taking source
+  forms Condition = condition source
+  forms Feature = feature_inside source
+  forms Giving = giving source
+  forms Passing = passing source
+
+-- the tokens that open a level, and those that close one
+abbrev pub opening : List ℕ
+opening =
+    these (terminals.Open ∷ terminals.RawParen ∷ terminals.RawBracket ∷ terminals.RawBrace ∷ terminals.Insert
+    ∷ terminals.WordInsert ∷ terminals.PartInsert ∷ terminals.Paren ∷ terminals.ConditionParen ∷ terminals.Bracket
+    ∷ terminals.CallParen ∷ terminals.HeadParen ∷ [])
+
+abbrev pub closing : List ℕ
+closing =
+    these (terminals.Close ∷ terminals.RawParenEnd ∷ terminals.RawBracketEnd ∷ terminals.RawBraceEnd
+    ∷ terminals.InsertEnd ∷ terminals.ParenEnd ∷ terminals.BracketEnd ∷ [])
