@@ -10,4 +10,4 @@ mod making;
 pub use arguments::{Argument, four, one, rest, three, two};
 pub use fault::{FnFault, fault_of};
 pub use kinds::{is_quoted, number_of, text_of};
-pub use making::{count, list, number, ordinal, string, text};
+pub use making::{count, list, number, ordinal, string, text, within};

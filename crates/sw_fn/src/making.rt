@@ -48,8 +48,8 @@ pub fn ordinal(at: Option<usize>) -> Value
     }
 }
 
-// The value of a node, unless it passes a limit.
-fn within(node: Node) -> Result<Value, FnFault>
+/// The value of a node, unless it is too heavy or too deep.
+pub fn within(node: Node) -> Result<Value, FnFault>
     ensures { IsAnswer result (within (plain_of node)) }
 {
     match Value::of(node) {
