@@ -1,6 +1,6 @@
 -- What operators make of values (the Sass specification on operators; where it leaves a choice, and for the faults,
 -- this project's own rules).
-use Rattle.std.specs.Prelude.{ℕ, Bool, true, false, not, ◌&&◌, ◌||◌, if◌then◌else◌, List, [], codes, bytes_eq, neg_ℤ, Option, Some, None, is_some, Result, Ok, Err}
+use Rattle.std.specs.Prelude.{ℕ, Bool, true, false, not, ◌&&◌, ◌||◌, if◌then◌else◌, List, [], codes, neg_ℤ, Option, Some, None, is_some, Result, Ok, Err}
 use Rattle.std.specs.declared.cmp.Ordering.{Ordering}
 use Rattle.std.specs.Ordering.{is_lt, is_le, is_gt, is_ge}
 use Rattle.sw_fixed.specs.declared.fault.NumberFault.{NumberFault}
@@ -8,7 +8,7 @@ use Rattle.sw_units.specs.declared.number.Number.{Number}
 use Rattle.sw_units.specs.Numbers.{sum, difference, product, quotient, modulo, comparison, plain as without_sides}
 use Rattle.sw_values.specs.declared.plain.Plain.{Plain}
 use Rattle.sw_values.specs.declared.plain.Plain.TheVariants as P
-use Rattle.sw_values.specs.Canon.{canon}
+use Rattle.sw_values.specs.Equality.{is_equal}
 use Rattle.sw_values.specs.Shape.{truth_of}
 use Rattle.sw_values.specs.Texts.{shown, shown_as}
 use Rattle.sw_ops.specs.declared.two_sides.Op2.{Op2}
@@ -92,11 +92,6 @@ of_order relation (Err fault) = Err (fault_of fault)
 
 abbrev pub compared : Relation → Plain → Plain → Answer
 compared relation a b = on_numbers (λ x y. of_order relation (comparison x y)) (number_in a) (number_in b)
-
--- ---- equality
-
-abbrev pub is_equal : Plain → Plain → Bool
-is_equal a b = bytes_eq (canon a) (canon b)
 
 -- ---- the operators
 

@@ -1,7 +1,7 @@
 // Operators with two sides.
-ghost use Rattle.std.specs.Prelude.{◌≡◌, IfOk};
+ghost use Rattle.std.specs.Prelude.{◌≡◌};
 ghost use Rattle.sw_ops.specs.Answers.{IsAnswer, of_number};
-ghost use Rattle.sw_ops.specs.Operators.{computed, clash, spelled, unlike, arithmetic, plus, times, remainder, holds, compared, is_equal, operation, takes_sides, binary};
+ghost use Rattle.sw_ops.specs.Operators.{computed, clash, spelled, unlike, arithmetic, plus, times, remainder, holds, compared, operation, takes_sides, binary};
 
 use crate::OpFault;
 use crate::fault::fault_of;
@@ -10,7 +10,6 @@ use crate::sides::{is_colour, number_in, plain, quotes_in};
 use std::alloc::Global;
 use std::cmp::Ordering;
 use sw_fixed::NumberFault;
-use sw_text::Memory;
 use sw_units::{Number, add, compare, div, modulo, mul, sub};
 use sw_values::Value;
 
@@ -150,12 +149,6 @@ fn compared(relation: Relation, a: &Value, b: &Value) -> Result<Value, OpFault>
     }
 }
 
-fn is_equal(alloc: Global, a: &Value, b: &Value) -> Result<bool, Memory>
-    ensures { IfOk result (λ equal. equal ≡ is_equal a.now b.now) }
-{
-    Ok(a.canon(alloc)? == b.canon(alloc)?)
-}
-
 // What an operator makes of sides that keep none of their own.
 fn operation(alloc: Global, op: Op2, a: &Value, b: &Value) -> Result<Value, OpFault>
     ensures { IsAnswer result (operation op a.now b.now) }
@@ -170,8 +163,8 @@ fn operation(alloc: Global, op: Op2, a: &Value, b: &Value) -> Result<Value, OpFa
         Op2::LessEqual => compared(Relation::LessEqual, a, b),
         Op2::Greater => compared(Relation::Greater, a, b),
         Op2::GreaterEqual => compared(Relation::GreaterEqual, a, b),
-        Op2::Equal => Ok(Value::of_truth(is_equal(alloc, a, b)?)),
-        Op2::NotEqual => Ok(Value::of_truth(!is_equal(alloc, a, b)?)),
+        Op2::Equal => Ok(Value::of_truth(a.equals(b))),
+        Op2::NotEqual => Ok(Value::of_truth(!a.equals(b))),
     }
 }
 

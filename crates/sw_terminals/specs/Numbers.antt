@@ -127,6 +127,7 @@ number_of terminals.Prefix = 119
 number_of terminals.PrefixStar = 120
 number_of terminals.HeadParen = 121
 number_of terminals.Other = 122
+number_of terminals.SpecialComma = 123
 
 -- the set of these terminals
 abbrev pub these : List Terminal → List ℕ

@@ -16,4 +16,6 @@ pub struct Lexeme {
     pub end: Pos,
     /// The place of its token in the sheet's tokens.
     pub token: usize,
+    /// A comment that is white space stands between it and the lexeme before.
+    pub commented: bool,
 }

@@ -200,4 +200,6 @@ pub enum Terminal {
     HeadParen,
     /// A token that stands in no sheet, or not at this place
     Other,
+    /// `,` in the text of a special function
+    SpecialComma,
 }

@@ -1,4 +1,5 @@
 pub mod Absent
+pub mod Agreement
 pub mod Alike
 pub mod Canons
 pub mod Capped
@@ -6,9 +7,12 @@ pub mod Maps
 pub mod Parts
 pub mod Places
 pub mod Products
+pub mod Quantities
+pub mod Rules
 pub mod Saying
 pub mod Shows
 pub mod Sides
 pub mod Simple
+pub mod Tables
 pub mod Told
 pub mod Within

@@ -13,6 +13,6 @@ mod value;
 
 pub use canon::Canon;
 pub use fault::ValueFault;
-pub use laws::parts_are_told_apart;
+pub use laws::{equal_numbers_have_equal_words, parts_are_told_apart, rules_agree_with_words};
 pub use plain::{Plain, Separator};
 pub use value::{Node, Pairs, Value, list_of, map_of};

@@ -8,6 +8,7 @@ ghost use Rattle.sw_values.specs.declared.plain.Plain.TheVariants as P;
 
 mod coding;
 mod equality;
+mod equals;
 mod inspected;
 mod maps;
 mod simple;

@@ -1,0 +1,6 @@
+pub mod Walks
+pub mod Below
+pub mod Cursors
+pub mod Listed
+pub mod Lies
+mod Examples

@@ -1,0 +1,13 @@
+pub mod Words
+pub mod Sorts
+pub mod Plains
+pub mod Cursors
+pub mod Classes
+pub mod Ahead
+pub mod Modes
+pub mod Names
+pub mod Signs
+pub mod Brackets
+pub mod Terminals
+pub mod Steps
+pub mod Lexemes

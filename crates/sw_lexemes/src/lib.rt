@@ -1,0 +1,26 @@
+//! What each token of a sheet is at its place: its terminal, by one pass over the sheet's tokens. Tokens flow in from
+//! `sw_tokens`; lexemes, which the readers of the grammar read, flow out.
+#![tactic(auto)]
+
+mod ahead;
+mod bracket;
+mod class;
+mod cursor;
+mod lexemes;
+mod mode;
+mod name;
+mod pass;
+mod plain;
+mod plains;
+mod sign;
+mod sort;
+mod state;
+mod step;
+mod terminal;
+mod words;
+
+pub use lexemes::{lexemes_of, value_lexemes_of};
+pub use pass::Reading;
+pub use plain::Plain;
+pub use sort::Sort;
+pub use state::{Bracket, Comments, Frame, Mode, State, Walk};

@@ -1,0 +1,150 @@
+// The tokens of a sheet by themselves.
+ghost use Rattle.std.specs.Prelude.{◌≡◌, ◌+◌, ◌^◌, ◌<◌, ◌≤◌, IfOk, All, length, slice_get};
+ghost use Rattle.std.specs.Option.{option_copied};
+ghost use Rattle.std.specs.Str.{IsCharBoundary};
+ghost use Rattle.sw_tokens.specs.Ends.{opens};
+ghost use Rattle.sw_tokens.specs.Order.{StandsIn};
+ghost use Rattle.sw_lexemes.specs.Cursors.{EndsStand};
+ghost use Rattle.sw_lexemes.specs.Plains.{PlainLies, end_by, has_slash, plain_of, plains_of};
+
+use crate::cursor::{Cursor, MarkedText, START, cursor_at, marked, pos_of};
+use crate::plain::Plain;
+use crate::sort::sort_of;
+use std::alloc::Global;
+use sw_text::Memory;
+use sw_tokens::{Token, TokenKind, Tokens};
+
+/// The ends of a token's own text, by cursors that stand there.
+#[derive(Clone, Copy, Debug)]
+pub(crate) struct Ends {
+    pub from: u32,
+    pub to: u32,
+    pub start: Cursor,
+    pub end: Cursor,
+}
+
+fn opens(kind: &TokenKind) -> bool
+    ensures { result ≡ opens kind.now }
+{
+    match kind {
+        TokenKind::Template | TokenKind::UrlTemplate | TokenKind::CommentTemplate => true,
+        _ => false,
+    }
+}
+
+fn end_by(token: &Token, next: Option<&Token>) -> u32
+    ensures { result ≡ end_by token.now (option_copied next.entry) }
+{
+    match next {
+        None => token.to,
+        Some(next) => {
+            if opens(&token.kind) {
+                next.from
+            } else {
+                token.to
+            }
+        }
+    }
+}
+
+// Where the own text of the token at a place ends.
+fn end_at(tokens: &Tokens, at: usize, token: &Token) -> u32
+    requires fits { at + 1 < 2 ^ 64 }
+    requires stands { StandsIn tokens.now.sheet.bytes token.now }
+    ensures value { result ≡ end_by token.now (slice_get tokens.now.list (at + 1)) }
+    ensures boundary { IsCharBoundary tokens.now.sheet.bytes result }
+{
+    end_by(token, tokens.get(at + 1))
+}
+
+#[tactic(auto, unfolding(crate::specs::Plains::has_slash))]
+fn has_slash(bytes: &[u8], from: usize, to: usize) -> bool
+    requires { to ≤ length bytes.now }
+    ensures { result ≡ has_slash bytes.now from to }
+{
+    if from < to {
+        bytes[from..to].contains(&b'/')
+    } else {
+        false
+    }
+}
+
+// The ends of the next token's text, where those of the one before are known.
+fn ends_of(text: &MarkedText, past: Ends, from: u32, to: u32) -> Ends
+    requires from { from ≤ length text.now.sheet.now.bytes }
+    requires to { to ≤ length text.now.sheet.now.bytes }
+    requires past { EndsStand text.now.bytes.now text.now.skipped past }
+    ensures from { result.from ≡ from }
+    ensures to { result.to ≡ to }
+    ensures stand { EndsStand text.now.bytes.now text.now.skipped result }
+{
+    let near = if past.to <= from {
+        past.end
+    } else {
+        past.start
+    };
+    let start = cursor_at(
+        text.bytes,
+        near,
+        (from as usize).saturating_sub(text.skipped),
+    );
+    let end = cursor_at(
+        text.bytes,
+        start,
+        (to as usize).saturating_sub(text.skipped),
+    );
+    Ends {
+        from,
+        to,
+        start,
+        end,
+    }
+}
+
+// A token whose text has these ends, and that of the one before it ends at an offset.
+#[tactic(auto, unfolding(crate::specs::Plains::plain_of))]
+fn plain_of(text: &MarkedText, gap: u32, token: &Token, ends: Ends) -> Plain
+    requires stands { StandsIn text.now.sheet.now.bytes token.now }
+    requires to { IsCharBoundary text.now.sheet.now.bytes ends.to }
+    requires from { ends.from ≡ token.now.from }
+    requires ends { EndsStand text.now.bytes.now text.now.skipped ends }
+    ensures plain { result ≡ plain_of text.now.sheet.now.bytes gap token.now ends.to }
+    ensures lies { PlainLies text.now.sheet.now.bytes result }
+{
+    let all = text.sheet.text();
+    Plain {
+        sort: sort_of(&token.kind, &all[token.from as usize..token.to as usize]),
+        spaced: token.spaced,
+        silent: has_slash(all.as_bytes(), gap as usize, token.from as usize),
+        from: token.from,
+        to: ends.to,
+        start: pos_of(text, ends.start, token.from),
+        end: pos_of(text, ends.end, ends.to),
+    }
+}
+
+const NONE: Ends = Ends {
+    from: 0,
+    to: 0,
+    start: START,
+    end: START,
+};
+
+/// The tokens by themselves, in one walk through the text.
+pub(crate) fn plains_of(alloc: Global, tokens: &Tokens) -> Result<Vec<Plain>, Memory>
+    ensures plains { IfOk result (λ plains. plains.items ≡ plains_of tokens.now.sheet.bytes tokens.now.list) }
+    ensures lie { IfOk result (λ plains. All (PlainLies tokens.now.sheet.bytes) plains.items) }
+{
+    let text = marked(tokens.sheet());
+    let mut plains = Vec::with_capacity(alloc, tokens.len())?;
+    let mut ends = NONE;
+    let mut at = 0;
+    'tokens: while let Some(token) = tokens.get(at) {
+        let to = end_at(tokens, at, token);
+        let gap = ends.to;
+        ends = ends_of(&text, ends, token.from, to);
+        plains.push(plain_of(&text, gap, token, ends))?;
+        at += 1;
+    }
+    Ok(plains)
+}

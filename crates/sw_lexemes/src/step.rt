@@ -1,0 +1,330 @@
+// What comes of a token.
+ghost use Rattle.std.specs.Prelude.{◌≡◌, ◌+◌, ◌^◌, ◌<◌, ◌≤◌, length, IfOk, None};
+ghost use Rattle.sw_lexemes.specs.Steps.{opened_by, closes, inner_mode, further_mode, is_inserting, below_insert, begins_statement, in_word, from_word, mode_of, stepped, opened, popped, inserted, after_opening, after, judged, comments_by, comments_at, placed, are_white, is_white, ignored_after, past_white};
+
+use crate::ahead::{code_from, sort_at};
+use crate::bracket::innermost;
+use crate::class::{is_comment, is_else};
+use crate::mode::statement_mode;
+use crate::name::is;
+use crate::plain::Plain;
+use crate::sort::Sort;
+use crate::state::{Bracket, Comments, Frame, Mode, State};
+use sw_terminals::Terminal;
+use sw_text::{List, Memory};
+
+fn opened_by(terminal: Terminal) -> Option<Bracket>
+    ensures { result ≡ opened_by terminal }
+{
+    match terminal {
+        Terminal::Open => Some(Bracket::Block),
+        Terminal::RawParen
+        | Terminal::Paren
+        | Terminal::ConditionParen
+        | Terminal::CallParen
+        | Terminal::HeadParen => Some(Bracket::Paren),
+        Terminal::RawBracket | Terminal::Bracket => Some(Bracket::Bracket),
+        Terminal::RawBrace => Some(Bracket::Brace),
+        Terminal::Insert | Terminal::WordInsert | Terminal::PartInsert => Some(Bracket::Insert),
+        Terminal::Template | Terminal::UrlTemplate | Terminal::CommentTemplate => {
+            Some(Bracket::Text)
+        }
+        _ => None,
+    }
+}
+
+fn closes(terminal: Terminal) -> bool
+    ensures { result ≡ closes terminal }
+{
+    match terminal {
+        Terminal::Close => true,
+        Terminal::RawParenEnd => true,
+        Terminal::RawBracketEnd => true,
+        Terminal::RawBraceEnd => true,
+        Terminal::ParenEnd => true,
+        Terminal::BracketEnd => true,
+        Terminal::TemplateEnd => true,
+        Terminal::UrlEnd => true,
+        Terminal::CommentEnd => true,
+        _ => false
+    }
+}
+
+fn inner_mode(mode: Mode, terminal: Terminal) -> Mode
+    ensures { result ≡ inner_mode mode terminal }
+{
+    match (mode, terminal) {
+        (Mode::Raw, Terminal::RawParen) => Mode::Raw,
+        (Mode::Custom, Terminal::RawParen) => Mode::Custom,
+        (_, Terminal::RawParen) => Mode::Special,
+        (mode, Terminal::RawBracket) => mode,
+        (mode, Terminal::RawBrace) => mode,
+        (Mode::Media, Terminal::ConditionParen) => Mode::Media,
+        (Mode::Forward, Terminal::HeadParen) => Mode::Ends,
+        (Mode::Head, Terminal::HeadParen) => Mode::Params,
+        (Mode::Include, Terminal::HeadParen) => Mode::Params,
+        (_, Terminal::Template) => Mode::Text,
+        (_, Terminal::UrlTemplate) => Mode::Text,
+        (_, Terminal::CommentTemplate) => Mode::Text,
+        (_, _) => Mode::Expression
+    }
+}
+
+fn further_mode(mode: Mode, terminal: Terminal) -> Mode
+    ensures { result ≡ further_mode mode terminal }
+{
+    match (mode, terminal) {
+        (Mode::Each, Terminal::In) => Mode::Expression,
+        (Mode::For, Terminal::From) => Mode::Bounds,
+        (Mode::Else, Terminal::If) => Mode::Expression,
+        (Mode::CustomName, Terminal::Colon) => Mode::Custom,
+        (mode, _) => mode
+    }
+}
+
+fn is_inserting(frame: Option<Frame>) -> bool
+    ensures { result ≡ is_inserting frame }
+{
+    match frame {
+        None => true,
+        Some(frame) => match frame.bracket {
+            Bracket::Insert => true,
+            _ => false,
+        },
+    }
+}
+
+#[tactic(auto, using(crate::proofs::Below::below_step, crate::proofs::Below::below_smaller, crate::proofs::Below::below_end))]
+// The frames up to the innermost `#{`.
+fn below_insert(frames: List<Frame>) -> List<Frame>
+    ensures { result ≡ below_insert (length frames) frames }
+{
+    let mut rest = frames;
+    'items: while !is_inserting(innermost(rest.as_slice())) {
+        let count = rest.len().saturating_sub(1);
+        rest.truncate(count);
+    }
+    rest
+}
+
+fn begins_statement(terminal: Terminal) -> bool
+    ensures { result ≡ begins_statement terminal }
+{
+    match terminal {
+        Terminal::Semicolon => true,
+        Terminal::Open => true,
+        Terminal::Close => true,
+        Terminal::CommentWhole => true,
+        Terminal::CommentEnd => true,
+        _ => false
+    }
+}
+
+fn in_word(terminal: Terminal) -> bool
+    ensures { result ≡ in_word terminal }
+{
+    match terminal {
+        Terminal::Word => true,
+        Terminal::Part => true,
+        Terminal::AtOther => true,
+        Terminal::Custom => true,
+        _ => false
+    }
+}
+
+fn from_word(frame: Option<Frame>) -> bool
+    ensures { result ≡ from_word frame }
+{
+    match frame {
+        None => false,
+        Some(frame) => {
+            is(frame.opened, Terminal::WordInsert) || is(frame.opened, Terminal::PartInsert)
+        }
+    }
+}
+
+fn mode_of(frame: Option<Frame>, mode: Mode) -> Mode
+    ensures { result ≡ mode_of frame mode }
+{
+    match frame {
+        None => mode,
+        Some(frame) => frame.mode,
+    }
+}
+
+fn stepped(state: State, mode: Mode, word: bool, terminal: Terminal) -> State
+    ensures { result ≡ stepped state mode word terminal }
+{
+    State {
+        mode,
+        start: begins_statement(terminal),
+        word,
+        before: terminal,
+        before_that: state.before,
+        ignored: 0,
+        commented: false,
+        ..state
+    }
+}
+
+fn opened(mut state: State, bracket: Bracket, terminal: Terminal) -> Result<State, Memory>
+    ensures { IfOk result (λ next. next ≡ opened state bracket terminal) }
+{
+    let mode = state.mode;
+    state.frames.push(Frame {
+        bracket,
+        opened: terminal,
+        mode,
+    })?;
+    Ok(state)
+}
+
+fn popped(mut state: State, terminal: Terminal) -> State
+    ensures { result ≡ popped state terminal }
+{
+    let inner = innermost(state.frames.as_slice());
+    let mode = mode_of(inner, state.mode);
+    let count = state.frames.len().saturating_sub(1);
+    state.frames.truncate(count);
+    stepped(
+        state,
+        mode,
+        is(terminal, Terminal::InsertEnd) && from_word(inner),
+        terminal,
+    )
+}
+
+fn inserted(state: State) -> State
+    ensures { result ≡ inserted state }
+{
+    let State { frames, .. } = state;
+    State {
+        frames: below_insert(frames),
+        ..state
+    }
+}
+
+fn closed(state: State, terminal: Terminal) -> State
+    ensures value { result ≡ after_opening state terminal None }
+    ensures none { result.ignored ≡ 0 }
+{
+    if is(terminal, Terminal::InsertEnd) {
+        popped(inserted(state), terminal)
+    } else if closes(terminal) {
+        popped(state, terminal)
+    } else {
+        let mode = further_mode(state.mode, terminal);
+        stepped(state, mode, in_word(terminal), terminal)
+    }
+}
+
+/// The state behind a token of a terminal.
+#[tactic(auto, unfolding(crate::specs::Steps::after))]
+pub(crate) fn after(state: State, terminal: Terminal) -> Result<State, Memory>
+    ensures value { IfOk result (λ next. next ≡ after state terminal) }
+    ensures none { IfOk result (λ next. next.ignored ≡ 0) }
+{
+    match opened_by(terminal) {
+        Some(bracket) => {
+            let mode = inner_mode(state.mode, terminal);
+            let state = opened(state, bracket, terminal)?;
+            Ok(stepped(state, mode, false, terminal))
+        }
+        None => Ok(closed(state, terminal)),
+    }
+}
+
+fn judged(plains: &[Plain], at: usize) -> Comments
+    requires { at ≤ length plains.now }
+    ensures { result ≡ judged plains.now at }
+{
+    if is_else(sort_at(plains, code_from(plains, at))) {
+        Comments::White
+    } else {
+        Comments::Statements
+    }
+}
+
+fn comments_by(known: Comments, plains: &[Plain], at: usize) -> Comments
+    requires { at ≤ length plains.now }
+    ensures { result ≡ comments_by known plains.now at }
+{
+    match known {
+        Comments::Unknown => judged(plains, at),
+        known => known,
+    }
+}
+
+fn comments_at(known: Comments, plains: &[Plain], at: usize) -> Comments
+    requires { at ≤ length plains.now }
+    ensures { result ≡ comments_at known plains.now at }
+{
+    if is_comment(sort_at(plains, at)) {
+        comments_by(known, plains, at)
+    } else {
+        Comments::Unknown
+    }
+}
+
+/// At the start of a statement tokens are read as its form says.
+#[tactic(auto, unfolding(crate::specs::Steps::placed))]
+pub(crate) fn placed(state: State, plains: &[Plain], at: usize) -> State
+    requires { at < length plains.now }
+    ensures value { result ≡ placed state plains.now at }
+    ensures ignored { result.ignored ≡ state.ignored }
+{
+    if state.start {
+        let mode = statement_mode(plains, at);
+        let comments = comments_at(state.comments, plains, at);
+        State {
+            mode,
+            comments,
+            ..state
+        }
+    } else {
+        state
+    }
+}
+
+fn are_white(comments: Comments) -> bool
+    ensures { result ≡ are_white comments }
+{
+    match comments {
+        Comments::White => true,
+        _ => false,
+    }
+}
+
+/// Whether a comment that begins here is white space.
+pub(crate) fn is_white(state: &State, plains: &[Plain], at: usize) -> bool
+    ensures { result ≡ is_white state.now plains.now at }
+{
+    is_comment(sort_at(plains, at)) && (!state.start || are_white(state.comments))
+}
+
+fn ignored_after(count: usize, sort: Sort) -> usize
+    requires { count + 1 < 2 ^ 64 }
+    ensures value { result ≡ ignored_after count sort }
+    ensures more { result ≤ count + 1 }
+{
+    match sort {
+        Sort::CommentTemplate => count + 1,
+        Sort::CommentEnd => count.saturating_sub(1),
+        _ => count,
+    }
+}
+
+/// The state behind a comment that is white space, or a part of one.
+#[tactic(auto, unfolding(crate::specs::Steps::past_white))]
+pub(crate) fn past_white(state: State, sort: Sort) -> State
+    requires { state.ignored + 1 < 2 ^ 64 }
+    ensures value { result ≡ past_white state sort }
+    ensures more { result.ignored ≤ state.ignored + 1 }
+{
+    let ignored = ignored_after(state.ignored, sort);
+    State {
+        ignored,
+        commented: true,
+        ..state
+    }
+}

@@ -1,0 +1,330 @@
+// The words of sheets that are told apart.
+ghost use Rattle.std.specs.Prelude.{◌≡◌, ◌≤◌, length};
+ghost use Rattle.sw_lexemes.specs.Words.{of_two, of_three, of_four, of_five, of_six, of_seven, of_nine, word_sort, has_dash, prefix_end, is_prefixed_calc, name_sort, at_three, at_four, at_five, at_six, at_seven, at_eight, at_nine, at_sort};
+
+use crate::sort::Sort;
+use sw_scan::{byte_at, signs};
+
+fn of_two(word: &str) -> Sort
+    ensures { result ≡ of_two word.now }
+{
+    if word == "or" {
+        Sort::Or
+    } else if word == "as" {
+        Sort::As
+    } else if word == "if" {
+        Sort::If
+    } else if word == "in" {
+        Sort::In
+    } else if word == "to" {
+        Sort::To
+    } else {
+        Sort::Name
+    }
+}
+
+fn of_three(word: &str) -> Sort
+    ensures { result ≡ of_three word.now }
+{
+    if word == "and" {
+        Sort::And
+    } else if word == "not" {
+        Sort::Not
+    } else if word == "var" {
+        Sort::Special
+    } else if word == "env" {
+        Sort::Special
+    } else if word == "min" {
+        Sort::Special
+    } else if word == "max" {
+        Sort::Special
+    } else if word == "mod" {
+        Sort::Stays
+    } else if word == "rem" {
+        Sort::Stays
+    } else if word == "abs" {
+        Sort::Stays
+    } else if word == "sin" {
+        Sort::Stays
+    } else if word == "cos" {
+        Sort::Stays
+    } else if word == "tan" {
+        Sort::Stays
+    } else if word == "pow" {
+        Sort::Stays
+    } else if word == "log" {
+        Sort::Stays
+    } else if word == "exp" {
+        Sort::Stays
+    } else {
+        Sort::Name
+    }
+}
+
+fn of_four(word: &str) -> Sort
+    ensures { result ≡ of_four word.now }
+{
+    if word == "true" {
+        Sort::True
+    } else if word == "null" {
+        Sort::Null
+    } else if word == "with" {
+        Sort::With
+    } else if word == "show" {
+        Sort::Show
+    } else if word == "hide" {
+        Sort::Hide
+    } else if word == "from" {
+        Sort::From
+    } else if word == "only" {
+        Sort::Only
+    } else if word == "calc" {
+        Sort::Special
+    } else if word == "sign" {
+        Sort::Stays
+    } else if word == "asin" {
+        Sort::Stays
+    } else if word == "acos" {
+        Sort::Stays
+    } else if word == "atan" {
+        Sort::Stays
+    } else if word == "sqrt" {
+        Sort::Stays
+    } else {
+        Sort::Name
+    }
+}
+
+fn of_five(word: &str) -> Sort
+    ensures { result ≡ of_five word.now }
+{
+    if word == "false" {
+        Sort::False
+    } else if word == "using" {
+        Sort::Using
+    } else if word == "clamp" {
+        Sort::Special
+    } else if word == "round" {
+        Sort::Stays
+    } else if word == "atan2" {
+        Sort::Stays
+    } else if word == "hypot" {
+        Sort::Stays
+    } else {
+        Sort::Name
+    }
+}
+
+fn of_six(word: &str) -> Sort
+    ensures { result ≡ of_six word.now }
+{
+    if word == "global" {
+        Sort::Global
+    } else {
+        Sort::Name
+    }
+}
+
+fn of_seven(word: &str) -> Sort
+    ensures { result ≡ of_seven word.now }
+{
+    if word == "through" {
+        Sort::Through
+    } else if word == "default" {
+        Sort::Default
+    } else {
+        Sort::Name
+    }
+}
+
+fn of_nine(word: &str) -> Sort
+    ensures { result ≡ of_nine word.now }
+{
+    if word == "important" {
+        Sort::Important
+    } else {
+        Sort::Name
+    }
+}
+
+pub(crate) fn word_sort(word: &str) -> Sort
+    ensures { result ≡ word_sort word.now }
+{
+    if word.len() == 2 {
+        of_two(word)
+    } else if word.len() == 3 {
+        of_three(word)
+    } else if word.len() == 4 {
+        of_four(word)
+    } else if word.len() == 5 {
+        of_five(word)
+    } else if word.len() == 6 {
+        of_six(word)
+    } else if word.len() == 7 {
+        of_seven(word)
+    } else if word.len() == 9 {
+        of_nine(word)
+    } else {
+        Sort::Name
+    }
+}
+
+#[tactic(auto, unfolding(crate::specs::Words::has_dash))]
+fn has_dash(name: &[u8], from: usize, to: usize) -> bool
+    requires { to ≤ length name.now }
+    ensures { result ≡ has_dash name.now from to }
+{
+    if from < to {
+        name[from..to].contains(&b'-')
+    } else {
+        false
+    }
+}
+
+fn prefix_end(name: &[u8]) -> usize
+    ensures { result ≡ prefix_end name.now }
+{
+    name.len().saturating_sub(b"-calc".len())
+}
+
+fn is_prefixed_calc(name: &[u8]) -> bool
+    ensures { result ≡ is_prefixed_calc name.now }
+{
+    let end = prefix_end(name);
+    1 < end
+        && byte_at(name, 0) == signs::MINUS
+        && name.ends_with(b"-calc")
+        && !has_dash(name, 1, end)
+}
+
+pub(crate) fn name_sort(name: &str) -> Sort
+    ensures { result ≡ name_sort name.now }
+{
+    if is_prefixed_calc(name.as_bytes()) {
+        Sort::Special
+    } else {
+        Sort::Name
+    }
+}
+
+fn at_three(word: &str) -> Sort
+    ensures { result ≡ at_three word.now }
+{
+    if word == "@if" {
+        Sort::AtIf
+    } else {
+        Sort::AtName
+    }
+}
+
+fn at_four(word: &str) -> Sort
+    ensures { result ≡ at_four word.now }
+{
+    if word == "@use" {
+        Sort::AtUse
+    } else if word == "@for" {
+        Sort::AtFor
+    } else {
+        Sort::AtName
+    }
+}
+
+fn at_five(word: &str) -> Sort
+    ensures { result ≡ at_five word.now }
+{
+    if word == "@warn" {
+        Sort::AtWarn
+    } else if word == "@else" {
+        Sort::AtElse
+    } else if word == "@each" {
+        Sort::AtEach
+    } else {
+        Sort::AtName
+    }
+}
+
+fn at_six(word: &str) -> Sort
+    ensures { result ≡ at_six word.now }
+{
+    if word == "@mixin" {
+        Sort::AtMixin
+    } else if word == "@debug" {
+        Sort::AtDebug
+    } else if word == "@error" {
+        Sort::AtError
+    } else if word == "@while" {
+        Sort::AtWhile
+    } else if word == "@media" {
+        Sort::AtMedia
+    } else {
+        Sort::AtName
+    }
+}
+
+fn at_seven(word: &str) -> Sort
+    ensures { result ≡ at_seven word.now }
+{
+    if word == "@return" {
+        Sort::AtReturn
+    } else if word == "@elseif" {
+        Sort::AtElseIf
+    } else if word == "@import" {
+        Sort::AtImport
+    } else if word == "@extend" {
+        Sort::AtExtend
+    } else {
+        Sort::AtName
+    }
+}
+
+fn at_eight(word: &str) -> Sort
+    ensures { result ≡ at_eight word.now }
+{
+    if word == "@forward" {
+        Sort::AtForward
+    } else if word == "@include" {
+        Sort::AtInclude
+    } else if word == "@content" {
+        Sort::AtContent
+    } else if word == "@at-root" {
+        Sort::AtRoot
+    } else if word == "@charset" {
+        Sort::AtCharset
+    } else {
+        Sort::AtName
+    }
+}
+
+fn at_nine(word: &str) -> Sort
+    ensures { result ≡ at_nine word.now }
+{
+    if word == "@function" {
+        Sort::AtFunction
+    } else if word == "@supports" {
+        Sort::AtSupports
+    } else {
+        Sort::AtName
+    }
+}
+
+pub(crate) fn at_sort(word: &str) -> Sort
+    ensures { result ≡ at_sort word.now }
+{
+    if word.len() == 3 {
+        at_three(word)
+    } else if word.len() == 4 {
+        at_four(word)
+    } else if word.len() == 5 {
+        at_five(word)
+    } else if word.len() == 6 {
+        at_six(word)
+    } else if word.len() == 7 {
+        at_seven(word)
+    } else if word.len() == 8 {
+        at_eight(word)
+    } else if word.len() == 9 {
+        at_nine(word)
+    } else {
+        Sort::AtName
+    }
+}
