@@ -3,3 +3,4 @@ pub mod Memory
 pub mod Reads
 pub mod Lines
 pub mod Ends
+pub mod Disks
