@@ -1,0 +1,5 @@
+pub mod Names
+pub mod Rounding
+pub mod Extremes
+pub mod Quotients
+pub mod Calls
