@@ -1,8 +1,10 @@
 pub mod Absent
 pub mod Agreement
 pub mod Alike
+pub mod Appending
 pub mod Canons
 pub mod Capped
+pub mod Growing
 pub mod Maps
 pub mod Parts
 pub mod Places

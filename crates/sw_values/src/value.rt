@@ -9,6 +9,7 @@ ghost use Rattle.sw_values.specs.declared.plain.Plain.TheVariants as P;
 mod coding;
 mod equality;
 mod equals;
+mod growing;
 mod inspected;
 mod maps;
 mod simple;

@@ -1,16 +1,19 @@
 // How values are written in CSS.
-ghost use Rattle.std.specs.Prelude.{◌≡◌, ◌≤◌, ◌<◌, ◌++◌, IfOk, IfErr, OnOk, length, true, map, List, ◌∷◌, ◌&&◌, not};
+ghost use Rattle.std.specs.Prelude.{◌≡◌, ◌≤◌, ◌<◌, ◌++◌, IfOk, IfErr, OnOk, length, true, map, List, ◌∷◌, [], ℕ, Some, codes, ◌&&◌, not};
 ghost use Rattle.std.specs.String.{string_bytes};
 ghost use Rattle.sw_values.specs.Texts.{Shown, shown, list_shown, pieces, all_css, glue_of, names_text, under_text, plain_text, number_text, one_at_most, none, plain_is_css, number_is_css, truth_text, in_brackets, IsTextFault, list_css};
 ghost use Rattle.sw_values.specs.Canon.{is_empty};
 ghost use Rattle.sw_values.specs.Strings.{string_text, string_chars};
 ghost use Rattle.sw_values.specs.Weight.{most};
+ghost use Rattle.sw_values.specs.Written.{appended, IsNamed};
+ghost use Rattle.sw_values.specs.declared.fault.ValueFault.TheVariants as F;
 ghost use Rattle.std.specs.Prelude.{chars, encode_utf8_all};
 ghost use Rattle.sw_colour.specs.Text.{css_text as colour_text};
 ghost use Rattle.sw_fixed.specs.Text.{text_of as fixed_text};
 
 use super::{Node, Value};
 use crate::strings::{folded, quoted};
+use crate::written::Written;
 use crate::{Separator, ValueFault};
 use std::alloc::{AllocError, Global};
 use std::str;
@@ -44,26 +47,39 @@ impl Value {
         if !self.is_css(quotes) {
             return Err(ValueFault::NotCss);
         }
-        let out = match written(alloc, quotes, self) {
-            Ok(out) => out,
-            Err(_) => return Err(ValueFault::Memory),
-        };
-        if out.len() >= 1_048_576 {
-            return Err(ValueFault::TooLarge);
-        }
-        match Name::new(alloc, out.as_str()) {
-            Ok(text) => Ok(text),
+        match written(alloc, quotes, self) {
+            Ok(written) => named(alloc, written),
             Err(_) => Err(ValueFault::Memory),
         }
     }
 }
 
-fn written(alloc: Global, quotes: bool, value: &Value) -> Result<String, Memory>
-    ensures { IfOk result (λ out. string_bytes out ≡ (shown quotes value.now).text) }
+fn written(alloc: Global, quotes: bool, value: &Value) -> Result<Written, Memory>
+    ensures { IfOk result (λ written. written ≡ appended (Some []) (shown quotes value.now).text) }
 {
-    let mut out = String::new(alloc);
+    let mut out = Written::new(alloc);
     write_value(alloc, &mut out, quotes, value)?;
     Ok(out)
+}
+
+/// The name of a text, unless it is too long.
+pub(crate) fn named(alloc: Global, written: Written) -> Result<Name, ValueFault>
+    ensures { (text : List ℕ) → written ≡ appended (Some []) text → IsNamed text result }
+{
+    match written.finish() {
+        None => Err(ValueFault::TooLarge),
+        Some(text) => name_of(alloc, text.as_str()),
+    }
+}
+
+fn name_of(alloc: Global, text: &str) -> Result<Name, ValueFault>
+    ensures ok { IfOk result (λ name. name ≡ text.now) }
+    ensures err { IfErr result (λ fault. fault ≡ F.Memory) }
+{
+    match Name::new(alloc, text) {
+        Ok(name) => Ok(name),
+        Err(_) => Err(ValueFault::Memory),
+    }
 }
 
 // ---- numbers
@@ -131,28 +147,49 @@ fn write_plain(alloc: Global, out: &mut String, number: &Number) -> Result<(), M
     write_under(out, &number.units.under)
 }
 
+fn push_plain(alloc: Global, out: &mut Written, number: &Number) -> Result<(), Memory>
+    ensures { OnOk result (out.new ≡ appended out.old (plain_text number.now)) }
+{
+    let mut text = String::new(alloc);
+    write_plain(alloc, &mut text, number)?;
+    out.push(text.as_str())
+}
+
 #[cycle(numbers)]
-#[tactic(auto, unfolding(crate::specs::Texts::number_text))]
+#[tactic(auto, using(crate::proofs::Appending::stays_long), unfolding(crate::specs::Texts::number_text))]
 pub(crate) fn write_number(
     alloc: Global,
-    out: &mut String,
+    out: &mut Written,
     levels: u16,
     number: &Number,
 ) -> Result<(), Memory>
-    ensures { OnOk result (string_bytes out.new ≡ string_bytes out.old ++ number_text levels number.now) }
+    ensures { OnOk result (out.new ≡ appended out.old (number_text levels number.now)) }
 {
+    if out.is_long() {
+        return Ok(());
+    }
     if levels == 0 {
-        return write_plain(alloc, out, number);
+        return push_plain(alloc, out, number);
     }
     match &number.slash {
-        Slash::Plain => write_plain(alloc, out, number),
-        Slash::Sides(sides) => {
-            let sides = sides.get();
-            write_number(alloc, out, levels - 1, &sides.0)?;
-            out.push_str("/")?;
-            write_number(alloc, out, levels - 1, &sides.1)
-        }
+        Slash::Plain => push_plain(alloc, out, number),
+        Slash::Sides(sides) => write_sides(alloc, out, levels - 1, sides.get()),
     }
+}
+
+#[cycle(numbers)]
+#[tactic(auto, using(crate::proofs::Appending::joined_three))]
+fn write_sides(
+    alloc: Global,
+    out: &mut Written,
+    levels: u16,
+    sides: &(Number, Number),
+) -> Result<(), Memory>
+    ensures { OnOk result (out.new ≡ appended out.old (number_text levels sides.now.0 ++ codes "/" ++ number_text levels sides.now.1)) }
+{
+    write_number(alloc, out, levels, &sides.0)?;
+    out.push("/")?;
+    write_number(alloc, out, levels, &sides.1)
 }
 
 fn one_at_most(names: &UnitNames) -> bool
@@ -229,34 +266,43 @@ fn text_of(alloc: Global, chars: &[char]) -> Result<String, AllocError>
 
 pub(crate) fn write_string(
     alloc: Global,
-    out: &mut String,
+    out: &mut Written,
     text: &str,
     is_quoted: bool,
 ) -> Result<(), Memory>
-    ensures { OnOk result (string_bytes out.new ≡ string_bytes out.old ++ string_text text.now is_quoted) }
+    ensures { OnOk result (out.new ≡ appended out.old (string_text text.now is_quoted)) }
 {
     let written = string_text(alloc, text, is_quoted)?;
-    out.push_str(written.as_str())?;
-    Ok(())
+    out.push(written.as_str())
 }
 
-pub(crate) fn write_colour(alloc: Global, out: &mut String, colour: &Colour) -> Result<(), Memory>
-    ensures { OnOk result (string_bytes out.new ≡ string_bytes out.old ++ colour_text colour.now) }
+fn colour_text(alloc: Global, colour: &Colour) -> Result<String, Memory>
+    ensures { IfOk result (λ out. string_bytes out ≡ colour_text colour.now) }
 {
     let mut text = Vec::new(alloc);
     colour.write_into(&mut text)?;
-    push_ascii(out, text.as_slice())
+    let mut out = String::new(alloc);
+    push_ascii(&mut out, text.as_slice())?;
+    Ok(out)
 }
 
-pub(crate) fn write_truth(out: &mut String, truth: bool) -> Result<(), Memory>
-    ensures { OnOk result (string_bytes out.new ≡ string_bytes out.old ++ truth_text truth) }
+pub(crate) fn write_colour(alloc: Global, out: &mut Written, colour: &Colour) -> Result<(), Memory>
+    ensures { OnOk result (out.new ≡ appended out.old (colour_text colour.now)) }
 {
-    if truth {
-        out.push_str("true")?;
-    } else {
-        out.push_str("false")?;
-    }
-    Ok(())
+    let text = colour_text(alloc, colour)?;
+    out.push(text.as_str())
+}
+
+fn truth_text(truth: bool) -> &'static str
+    ensures { result.now ≡ truth_text truth }
+{
+    if truth { "true" } else { "false" }
+}
+
+pub(crate) fn write_truth(out: &mut Written, truth: bool) -> Result<(), Memory>
+    ensures { OnOk result (out.new ≡ appended out.old (truth_text truth)) }
+{
+    out.push(truth_text(truth))
 }
 
 // ---- values
@@ -338,9 +384,13 @@ fn are_css(quotes: bool, items: &[Value]) -> bool
 }
 
 #[cycle(writing)]
-fn write_value(alloc: Global, out: &mut String, quotes: bool, value: &Value) -> Result<(), Memory>
-    ensures { OnOk result (string_bytes out.new ≡ string_bytes out.old ++ (shown quotes value.now).text) }
+#[tactic(auto, using(crate::proofs::Appending::stays_long))]
+fn write_value(alloc: Global, out: &mut Written, quotes: bool, value: &Value) -> Result<(), Memory>
+    ensures { OnOk result (out.new ≡ appended out.old ((shown quotes value.now).text)) }
 {
+    if out.is_long() {
+        return Ok(());
+    }
     match &value.node {
         Node::Number(number) => write_number(alloc, out, 1001, number),
         Node::Text { text, quoted } => {
@@ -359,9 +409,9 @@ fn write_value(alloc: Global, out: &mut String, quotes: bool, value: &Value) -> 
             *bracketed,
             items.get().as_slice(),
         ),
-        Node::Map(_) => Ok(()),
+        Node::Map(_) => out.push(""),
         Node::Bool(truth) => write_truth(out, *truth),
-        Node::Null => Ok(()),
+        Node::Null => out.push(""),
         Node::Args { items, .. } => write_list(
             alloc,
             out,
@@ -385,23 +435,21 @@ pub(crate) fn glue_of(separator: Separator) -> &'static str
 }
 
 #[cycle(writing)]
+#[tactic(auto, using(crate::proofs::Appending::joined_three))]
 fn write_list(
     alloc: Global,
-    out: &mut String,
+    out: &mut Written,
     quotes: bool,
     separator: Separator,
     bracketed: bool,
     items: &[Value],
 ) -> Result<(), Memory>
-    ensures { OnOk result (string_bytes out.new
-        ≡ string_bytes out.old
-        ++ in_brackets bracketed (pieces (glue_of separator) true (map (shown quotes) items.now))) }
+    ensures { OnOk result (out.new ≡ appended out.old (in_brackets bracketed (pieces (glue_of separator) true (map (shown quotes) items.now)))) }
 {
     if bracketed {
-        out.push_str("[")?;
+        out.push("[")?;
         write_items(alloc, out, quotes, glue_of(separator), items)?;
-        out.push_str("]")?;
-        Ok(())
+        out.push("]")
     } else {
         write_items(alloc, out, quotes, glue_of(separator), items)
     }
@@ -410,41 +458,42 @@ fn write_list(
 #[cycle(writing)]
 fn write_items(
     alloc: Global,
-    out: &mut String,
+    out: &mut Written,
     quotes: bool,
     glue: &str,
     items: &[Value],
 ) -> Result<(), Memory>
-    ensures { OnOk result (string_bytes out.new
-        ≡ string_bytes out.old ++ pieces glue.now true (map (shown quotes) items.now)) }
+    ensures { OnOk result (out.new ≡ appended out.old (pieces glue.now true (map (shown quotes) items.now))) }
 {
     let mut first = true;
     'items: for i in 0..items.len() {
         first = write_item(alloc, out, quotes, glue, first, &items[i])?;
     }
-    Ok(())
+    out.push("")
 }
 
 // Writes an item; whether the next one that is written is the first.
 #[cycle(writing)]
+#[tactic(auto, using(crate::proofs::Appending::joined, crate::proofs::Appending::joined_three))]
 fn write_item(
     alloc: Global,
-    out: &mut String,
+    out: &mut Written,
     quotes: bool,
     glue: &str,
     first: bool,
     item: &Value,
 ) -> Result<bool, Memory>
     ensures { IfOk result (λ after. (rest : List Shown)
-        → string_bytes out.new ++ pieces glue.now after rest
-        ≡ string_bytes out.old ++ pieces glue.now first (shown quotes item.now ∷ rest)) }
+        → appended out.new (pieces glue.now after rest) ≡ appended out.old (pieces glue.now first (shown quotes item.now ∷ rest))) }
 {
     if is_blank(quotes, item) {
         return Ok(first);
     }
-    if !first {
-        out.push_str(glue)?;
+    if first {
+        write_value(alloc, out, quotes, item)?;
+        return Ok(false);
     }
+    out.push(glue)?;
     write_value(alloc, out, quotes, item)?;
     Ok(false)
 }
