@@ -19,10 +19,10 @@ use Rattle.sw_keeper.proofs.Pairs.{goes_join, goes_first, within}
 use Rattle.sw_keeper.proofs.Rest.{rest_ends}
 use Rattle.sw_keeper.proofs.Parts.{advances_none, advances_join, advances_load, paths_of-append, ran_join, grown_none, grown_join}
 
-at_status : (body : BodyOf) (q : Progress) (s : Status) → IsBody body q → q.status ≡ s → IsAt (body q.job) (answers q.seen) q.left s
+pub at_status : (body : BodyOf) (q : Progress) (s : Status) → IsBody body q → q.status ≡ s → IsAt (body q.job) (answers q.seen) q.left s
 at_status body q s is_q e = subst (λ (v : Status). IsAt (body q.job) (answers q.seen) q.left v) e is_q.place
 
-goes_seen : (body : BodyOf) (q : Progress) → IsBody body q → Goes (body q.job) [] q.seen
+pub goes_seen : (body : BodyOf) (q : Progress) → IsBody body q → Goes (body q.job) [] q.seen
 goes_seen body q is_q = goes_first (body q.job) [] q.seen q.left is_q.goes
 
 goes_given : (body : BodyOf) (q : Progress) (op : Op) (a : Answer) → IsBody body q → q.status ≡ Waiting op → Fits op a → Goes (body q.job) [] (q.seen ++ (op, a) ∷ [])

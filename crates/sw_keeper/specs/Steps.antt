@@ -1,7 +1,5 @@
 -- What the steps of a compile do.
-use Rattle.std.specs.Prelude.{◌≡◌, ℕ, ◌<◌, List, [], ◌∷◌, ◌++◌, length, Option, None, Some, Result}
-use Rattle.sw_text.specs.declared.fault.Fault.{Fault}
-use Rattle.sw_tree.specs.declared.sheet.Sheet.{Sheet}
+use Rattle.std.specs.Prelude.{◌≡◌, ℕ, ◌<◌, List, [], ◌∷◌, ◌++◌, length, Option, None, Some}
 use Rattle.sw_values.specs.declared.plain.Plain.{Plain}
 use Rattle.sw_world.specs.Hosts.{HostState}
 use Rattle.sw_world.specs.declared.answer.Answer.{Answer}
@@ -10,6 +8,7 @@ use Rattle.sw_world.specs.Body.{Pair, Job, Run, BodyOf}
 use Rattle.sw_world.specs.Progress.{Progress, Running, Ended, IsBody}
 use Rattle.sw_modules.specs.State.{State}
 use Rattle.sw_modules.specs.Outside.{Outside}
+use Rattle.sw_modules.specs.Calls.{HostCall, after_calls, calls_left}
 use Rattle.sw_modules.specs.Fresh.{Setting, Response, rest_of, ended, from_open}
 use Rattle.sw_record.specs.declared.reply.Cause.{Cause}
 use Rattle.sw_record.specs.Ran.{Table, Ran, IsCause, kept_at}
@@ -21,12 +20,6 @@ pub record Moment : Type 0 where
   pub outside : Outside
   pub results : Results
   pub told : List (List ℕ)
-
--- what an evaluation rests on, by its parts
-abbrev pub setting_of : (HostState → List ℕ → List Plain → Option Plain) → (HostState → List ℕ → List Plain → HostState)
-    → (List ℕ → List ℕ → Result Sheet Fault) → BodyOf → Setting
-setting_of answer after read body =
-    record { functions = record { answer = answer; after = after }; read = read; body = body }
 
 abbrev pub moment : State → HostState → Results → List (List ℕ) → Moment
 moment live hosts results told =
@@ -44,12 +37,15 @@ pub record Grown (table : Table) (new : List Run) (old now : Moment) : Type 0 wh
   pub ran : now.results.ran ≡ old.results.ran ++ grown
   pub told : now.told ≡ old.told ++ paths_of grown
 
--- a body that had these pairs behind it has those now, as the evaluation goes
+-- a body that had these pairs behind it has those now, as the evaluation goes, and these calls were made
 pub record Advances (setting : Setting) (job : Job) (before after : List Pair) (new : List Run) (old now : Outside) :
     Type 0 where
-  pub rest : (text : List ℕ) (runs : List Run)
-      → rest_of setting job text before runs old ≡ rest_of setting job text after (runs ++ new) now
+  pub rest : (text : List ℕ) (runs : List Run) → rest_of setting job text before runs old
+      ≡ rest_of setting job text after (runs ++ new) now
   pub same_depth : length now.live.opened ≡ length old.live.opened
+  pub made : List HostCall
+  pub calls : calls_left setting job before old ≡ made ++ calls_left setting job after now
+  pub hosts : now.hosts ≡ after_calls setting.functions made old.hosts
 
 -- an answered load
 pub record DidLoad (table : Table) (response : Response) (answer : Answer) (old now : Moment) : Type 0 where
@@ -140,3 +136,12 @@ DiffersBy table path text config known cause =
 -- some bodies ran, whichever they are
 abbrev pub RanMore : List (List ℕ) → List (List ℕ) → Type 0
 RanMore old now = (more : List (List ℕ)) × (now ≡ old ++ more)
+
+-- for want of memory an evaluation with these calls was cut off: the first of them were made, and some bodies ran
+pub record CutOff (setting : Setting) (calls : List HostCall) (old now : HostState) (told told_now : List (List ℕ)) :
+    Type 0 where
+  pub made : List HostCall
+  pub left : List HostCall
+  pub order : calls ≡ made ++ left
+  pub hosts : now ≡ after_calls setting.functions made old
+  pub told : RanMore told told_now

@@ -1,11 +1,13 @@
 // The evaluation of modules, each by its kept run as far as that goes, and then by its body.
-ghost use Rattle.std.specs.Prelude.{◌≡◌, ◌≤◌, ◌<◌, ◌++◌, [], Ok, length, IfOk, OnErr};
+ghost use Rattle.std.specs.Prelude.{◌≡◌, ◌≤◌, ◌<◌, ◌++◌, [], Ok, length, take, IfOk, OnErr};
 ghost use Rattle.sw_folder.specs.Files.{most_bytes};
 ghost use Rattle.sw_world.specs.Questions.{IsLoad, Fits};
 ghost use Rattle.sw_world.specs.Body.{Goes};
 ghost use Rattle.sw_world.specs.Progress.{Running, IsBody};
-ghost use Rattle.sw_modules.specs.Fresh.{responds, fresh, room};
-ghost use Rattle.sw_keeper.specs.Steps.{DidLoad, DidEnd, DidEvaluate, Turned, RanMore, DiffersBy, moment, setting_of};
+ghost use Rattle.sw_modules.specs.Fresh.{responds, fresh, room, setting_of};
+ghost use Rattle.sw_modules.specs.Calls.{calls_for, calls_within, calls_left, calls_open};
+ghost use Rattle.sw_record.specs.Kept.{job_of};
+ghost use Rattle.sw_keeper.specs.Steps.{DidLoad, DidEnd, DidEvaluate, Turned, CutOff, DiffersBy, moment};
 ghost use Rattle.sw_keeper.specs.Replays.{DidTurn, DidReplay};
 
 use crate::Reader;
@@ -53,7 +55,10 @@ fn load<R: Reader, E: Engine, H: Hosts>(
         (moment live.new (H.state hosts.new) results.new (E.ran engine.new))) }
     ensures fits { IfOk result (λ answer. Fits op.now answer) }
     ensures depth { IfOk result (λ _. length live.new.opened ≡ length live.old.opened) }
-    ensures grew { OnErr result (RanMore (E.ran engine.old) (E.ran engine.new)) }
+    ensures cut { OnErr result (CutOff (setting_of H.answer H.after R.reads E.body)
+        (calls_for (calls_within (setting_of H.answer H.after R.reads E.body) (room live.old)) op.now
+        (record { live = live.old; hosts = H.state hosts.old }))
+        (H.state hosts.old) (H.state hosts.new) (E.ran engine.old) (E.ran engine.new)) }
 {
     match live.begin(op)? {
         Begin::Answered(answer) => Ok(answer),
@@ -87,7 +92,11 @@ fn turn<R: Reader, E: Engine, H: Hosts>(
         (moment live.old (H.state hosts.old) results.old (E.ran engine.old))
         (moment live.new (H.state hosts.new) results.new (E.ran engine.new))) }
     ensures depth { IfOk result (λ _. length live.new.opened ≡ length live.old.opened) }
-    ensures grew { OnErr result (RanMore (E.ran engine.old) (E.ran engine.new)) }
+    ensures cut { OnErr result (CutOff (setting_of H.answer H.after R.reads E.body)
+        (calls_left (setting_of H.answer H.after R.reads E.body) (E.progress body.old).job
+        ((E.progress body.old).seen ++ (E.progress body.old).left)
+        (record { live = live.old; hosts = H.state hosts.old }))
+        (H.state hosts.old) (H.state hosts.new) (E.ran engine.old) (E.ran engine.new)) }
 {
     match go_outside(alloc, reader, live, hosts, engine, body)? {
         Turn::Load(op) => {
@@ -124,7 +133,11 @@ fn run_body<R: Reader, E: Engine, H: Hosts>(
         (moment live.old (H.state hosts.old) results.old (E.ran engine.old))
         (moment live.new (H.state hosts.new) results.new (E.ran engine.new))) }
     ensures depth { IfOk result (λ _. length live.new.opened ≡ length live.old.opened) }
-    ensures grew { OnErr result (RanMore (E.ran engine.old) (E.ran engine.new)) }
+    ensures cut { OnErr result (CutOff (setting_of H.answer H.after R.reads E.body)
+        (calls_left (setting_of H.answer H.after R.reads E.body)
+        (record { sheet = sheet.now; config = config.now; path = path.now }) known.now
+        (record { live = live.old; hosts = H.state hosts.old }))
+        (H.state hosts.old) (H.state hosts.new) (E.ran engine.old) (E.ran engine.new)) }
 {
     let mut body = engine.start(alloc, sheet, config, path, known)?;
     loop {
@@ -157,7 +170,10 @@ fn replay_turn<R: Reader, E: Engine, H: Hosts>(
         (moment live.old (H.state hosts.old) results.old (E.ran engine.old))
         (moment live.new (H.state hosts.new) results.new (E.ran engine.new))) }
     ensures depth { IfOk result (λ _. length live.new.opened ≡ length live.old.opened) }
-    ensures grew { OnErr result (RanMore (E.ran engine.old) (E.ran engine.new)) }
+    ensures cut { OnErr result (CutOff (setting_of H.answer H.after R.reads E.body)
+        (calls_left (setting_of H.answer H.after R.reads E.body) (job_of run.now) (take from run.now.run.seen)
+        (record { live = live.old; hosts = H.state hosts.old }))
+        (H.state hosts.old) (H.state hosts.new) (E.ran engine.old) (E.ran engine.new)) }
 {
     let seen = run.seen();
     match replay_outside(alloc, reader, live, hosts, run, from)? {
@@ -196,7 +212,10 @@ fn replay_all<R: Reader, E: Engine, H: Hosts>(
         (moment live.old (H.state hosts.old) results.old (E.ran engine.old))
         (moment live.new (H.state hosts.new) results.new (E.ran engine.new))) }
     ensures depth { IfOk result (λ _. length live.new.opened ≡ length live.old.opened) }
-    ensures grew { OnErr result (RanMore (E.ran engine.old) (E.ran engine.new)) }
+    ensures cut { OnErr result (CutOff (setting_of H.answer H.after R.reads E.body)
+        (calls_left (setting_of H.answer H.after R.reads E.body) (job_of run.now) []
+        (record { live = live.old; hosts = H.state hosts.old }))
+        (H.state hosts.old) (H.state hosts.new) (E.ran engine.old) (E.ran engine.new)) }
 {
     let _seen = run.seen();
     let mut at = 0;
@@ -230,7 +249,10 @@ pub(crate) fn evaluate<R: Reader, E: Engine, H: Hosts>(
         (moment live.old (H.state hosts.old) results.old (E.ran engine.old))
         (moment live.new (H.state hosts.new) results.new (E.ran engine.new))) }
     ensures depth { IfOk result (λ _. length live.new.opened ≡ length live.old.opened) }
-    ensures grew { OnErr result (RanMore (E.ran engine.old) (E.ran engine.new)) }
+    ensures cut { OnErr result (CutOff (setting_of H.answer H.after R.reads E.body)
+        (calls_open (setting_of H.answer H.after R.reads E.body) (record { live = live.old; hosts = H.state hosts.old })
+        path.now text.now config.now)
+        (H.state hosts.old) (H.state hosts.new) (E.ran engine.old) (E.ran engine.new)) }
 {
     let Some(same) = same_run(kept, path, text, config) else {
         return match read_sheet(alloc, reader, kept, path, text)? {

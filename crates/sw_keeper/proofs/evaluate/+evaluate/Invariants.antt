@@ -1,7 +1,7 @@
 use Rattle.std.proofs.Common.{suc, ◌+◌, length, ◌-◌, ◌*◌}
 use Rattle.sw_world.specs.Laws.{most_asked}
-use Rattle.sw_modules.specs.Fresh.{room}
-use Rattle.sw_keeper.specs.Steps.{RunsOn, moment, setting_of}
+use Rattle.sw_modules.specs.Fresh.{room, setting_of}
+use Rattle.sw_keeper.specs.Steps.{RunsOn, moment}
 use Rattle.sw_keeper.specs.Replays.{ReplaysOn}
 use Rattle.sw_keeper.proofs.evaluate.+evaluate.Given as goal
 
