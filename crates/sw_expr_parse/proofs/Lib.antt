@@ -1,0 +1,3 @@
+pub mod Choices
+pub mod Repeated
+pub mod Climb
