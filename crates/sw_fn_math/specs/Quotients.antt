@@ -1,5 +1,5 @@
 -- Quotients, percentages and units (Sass reference documentation, "sass:math", "Unit Functions", "Other Functions").
-use Rattle.std.specs.Prelude.{ℕ, ℤ, pos, ◌*ℤ◌, Bool, true, false, List, ◌++◌, codes, Result, Ok, Err, if◌then◌else◌}
+use Rattle.std.specs.Prelude.{ℕ, ℤ, pos, ◌*ℤ◌, true, List, ◌++◌, codes, Result, Ok, Err, if◌then◌else◌}
 use Rattle.sw_fixed.specs.declared.fault.NumberFault.{NumberFault}
 use Rattle.sw_fixed.specs.Arithmetic.{scale, product_of}
 use Rattle.sw_units.specs.declared.number.Number.{Number}

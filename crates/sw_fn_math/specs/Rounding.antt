@@ -1,5 +1,5 @@
 -- Numbers near a number, with its units (Sass reference documentation, "sass:math", "Bounding Functions").
-use Rattle.std.specs.Prelude.{ℤ, pos, unsigned_abs, List, Result, Ok, Err}
+use Rattle.std.specs.Prelude.{ℤ, pos, unsigned_abs, List, Result, Ok}
 use Rattle.sw_fixed.specs.Arithmetic.{ceiling_whole, floor_whole, nearest_whole}
 use Rattle.sw_units.specs.declared.number.Number.{Number}
 use Rattle.sw_units.specs.Numbers.{plain}
