@@ -1,0 +1,9 @@
+pub mod Names
+pub mod Colours
+pub mod Amounts
+pub mod Parts
+pub mod Changes
+pub mod Mixing
+pub mod Making
+pub mod Steps
+pub mod Calls
