@@ -1,0 +1,3 @@
+pub mod Announced
+pub mod Engines
+pub mod Given
