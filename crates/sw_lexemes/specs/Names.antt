@@ -139,14 +139,22 @@ not_in_media state plains at =
     then terminals.Not
     else terminals.NotType
 
+abbrev pub only_in_media : List Plain → ℕ → Terminal
+only_in_media plains at = if begins_word plains (code_from plains (at + 1)) then terminals.Only else terminals.Word
+
+-- a constant is no word, but where a `#{` follows directly
+abbrev pub word_in_media : List Plain → ℕ → Terminal
+word_in_media plains at =
+    if is_direct plains (at + 1) sorts.OpenInsert then terminals.Word else constant_or_word (sort_at plains at)
+
 abbrev pub name_in_media : State → List Plain → ℕ → Terminal
 name_in_media state plains at =
     elim (sort_at plains at) as (λ _. Terminal) [
       | sorts.And ↦ terminals.And
       | sorts.Or ↦ terminals.Or
       | sorts.Not ↦ not_in_media state plains at
-      | sorts.Only ↦ if begins_word plains (code_from plains (at + 1)) then terminals.Only else terminals.Word
-      | _ ↦ terminals.Word
+      | sorts.Only ↦ only_in_media plains at
+      | _ ↦ word_in_media plains at
     ]
 
 abbrev pub is_in : Sort → Bool

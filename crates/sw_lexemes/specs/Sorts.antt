@@ -59,6 +59,7 @@ sort_of kinds.Minus text = sorts.Minus
 sort_of kinds.Star text = sorts.Star
 sort_of kinds.Slash text = sorts.Slash
 sort_of kinds.Percent text = sorts.Percent
+sort_of kinds.DoubleSlash text = sorts.Other
 sort_of kinds.Equals text = sorts.Equals
 sort_of kinds.Less text = sorts.Less
 sort_of kinds.Greater text = sorts.Greater

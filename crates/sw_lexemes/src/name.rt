@@ -1,7 +1,7 @@
 // What a name is at its place.
 ghost use Rattle.std.specs.Prelude.{◌≡◌, ◌<◌, length};
 ghost use Rattle.sw_terminals.specs.Numbers.{number_of};
-ghost use Rattle.sw_lexemes.specs.Names.{is, is_raw, continues, is_apart, behind_dollar, is_bang, behind_bang, constant_or_word, is_special_name, name_in_expression, stays_text, owns, name_in_special, word_in_load, before_member, name_in_use, name_in_forward, using_or_named, name_in_include, not_in_media, name_in_media, is_in, is_from, name_in_each, name_in_for, is_bound_end, name_in_bounds, name_in, behind_sign, name_terminal};
+ghost use Rattle.sw_lexemes.specs.Names.{is, is_raw, continues, is_apart, behind_dollar, is_bang, behind_bang, constant_or_word, is_special_name, name_in_expression, stays_text, owns, name_in_special, word_in_load, before_member, name_in_use, name_in_forward, using_or_named, name_in_include, not_in_media, only_in_media, word_in_media, name_in_media, is_in, is_from, name_in_each, name_in_for, is_bound_end, name_in_bounds, name_in, behind_sign, name_terminal};
 
 use crate::ahead::{begins_word, code_from, is_direct, name_direct, next_sort, sort_at, spaced_at};
 use crate::class::{is_reserved, same};
@@ -235,6 +235,28 @@ fn not_in_media(state: &State, plains: &[Plain], at: usize) -> Terminal
     }
 }
 
+fn only_in_media(plains: &[Plain], at: usize) -> Terminal
+    requires { at < length plains.now }
+    ensures { result ≡ only_in_media plains.now at }
+{
+    if begins_word(plains, code_from(plains, at + 1)) {
+        Terminal::Only
+    } else {
+        Terminal::Word
+    }
+}
+
+fn word_in_media(plains: &[Plain], at: usize) -> Terminal
+    requires { at < length plains.now }
+    ensures { result ≡ word_in_media plains.now at }
+{
+    if is_direct(plains, at + 1, Sort::OpenInsert) {
+        Terminal::Word
+    } else {
+        constant_or_word(sort_at(plains, at))
+    }
+}
+
 fn name_in_media(state: &State, plains: &[Plain], at: usize) -> Terminal
     requires { at < length plains.now }
     ensures { result ≡ name_in_media state.now plains.now at }
@@ -243,14 +265,8 @@ fn name_in_media(state: &State, plains: &[Plain], at: usize) -> Terminal
         Sort::And => Terminal::And,
         Sort::Or => Terminal::Or,
         Sort::Not => not_in_media(state, plains, at),
-        Sort::Only => {
-            if begins_word(plains, code_from(plains, at + 1)) {
-                Terminal::Only
-            } else {
-                Terminal::Word
-            }
-        }
-        _ => Terminal::Word,
+        Sort::Only => only_in_media(plains, at),
+        _ => word_in_media(plains, at),
     }
 }
 

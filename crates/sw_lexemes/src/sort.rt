@@ -171,6 +171,7 @@ pub(crate) fn sort_of(kind: &TokenKind, text: &str) -> Sort
         TokenKind::Star => Sort::Star,
         TokenKind::Slash => Sort::Slash,
         TokenKind::Percent => Sort::Percent,
+        TokenKind::DoubleSlash => Sort::Other,
         TokenKind::Equals => Sort::Equals,
         TokenKind::Less => Sort::Less,
         TokenKind::Greater => Sort::Greater,

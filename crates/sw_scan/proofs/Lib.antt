@@ -2,3 +2,4 @@ pub mod Bounds
 pub mod Progress
 pub mod PieceLemmas
 pub mod ScanLemmas
+pub mod StopLemmas

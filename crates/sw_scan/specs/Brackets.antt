@@ -1,5 +1,5 @@
 -- Texts whose strings and brackets are closed.
-use Rattle.std.specs.Prelude.{ℕ, zero, suc, ◌+◌, ◌-◌, List, [], ◌∷◌, ◌++◌, length, take, slice_get, Option, Some, None, Bool, ◌&&◌, ◌||◌, ◌==◌, nat_lt, if◌then◌else◌, unwrap_or}
+use Rattle.std.specs.Prelude.{◌≡◌, ℕ, zero, suc, ◌+◌, ◌-◌, List, [], ◌∷◌, ◌++◌, length, take, slice_get, Option, Some, None, Bool, ◌&&◌, ◌||◌, ◌==◌, nat_lt, if◌then◌else◌, unwrap_or}
 use Rattle.sw_scan.specs.declared.brackets.Stops.{Stops}
 use Rattle.sw_scan.specs.declared.brackets.Stops.TheVariants as stops
 use Rattle.sw_scan.specs.declared.runs.Class.TheVariants as classes
@@ -76,3 +76,13 @@ scan_from to bs (suc n) closers i =
 -- closed before, or nothing ends it
 unfoldable pub stop_at : Stops → List ℕ → ℕ → Option ℕ
 stop_at to bs i = scan_from to bs (length bs + 1) [] i
+
+-- the same where these brackets have to close before
+abbrev pub stop_behind : Stops → List ℕ → List ℕ → ℕ → Option ℕ
+stop_behind to bs closers i = scan_from to bs (length bs + 1) closers i
+
+-- it is i where the text ends there, and else what a step leads to
+abbrev pub StopsByStep : Stops → List ℕ → List ℕ → ℕ → Type 0
+StopsByStep to bs closers i =
+    stop_behind to bs closers i
+    ≡ (if stopped to bs closers i then Some i else scan_by (stop_behind to bs) (scan_step bs closers i))

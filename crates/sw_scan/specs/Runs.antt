@@ -73,6 +73,8 @@ next classes.Range bs i = if is_range_byte (byte bs i) then i + 1 else i
 next classes.Plain bs i = if (byte bs i == sign "\\") || (byte bs i == END) then i else i + 1
 next classes.Line bs i = if is_break (byte bs i) || (byte bs i == END) then i else i + 1
 next classes.Comment bs i = if ends_loud bs i || (opens_at bs i || (byte bs i == END)) then i else i + 1
+next classes.CssUrl bs i = if is_url_byte (byte bs i) then i + 1 else escape_end bs i
+next classes.CssComment bs i = if ends_loud bs i || (byte bs i == END) then i else i + 1
 
 -- behind the run from i on, of n steps at most
 abbrev pub run_from : Class → List ℕ → ℕ → ℕ → ℕ

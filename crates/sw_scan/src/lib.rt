@@ -4,6 +4,7 @@
 
 mod brackets;
 mod bytes;
+mod laws;
 mod pieces;
 mod runs;
 pub mod signs;
@@ -14,6 +15,7 @@ pub use bytes::{
     begins_loud, begins_silent, byte_at, ends_loud, is_break, is_digit, is_hex_digit, is_letter,
     is_quote, is_white, opens_at,
 };
+pub use laws::{runs_are_longest, stops_at_the_first};
 pub use pieces::{piece, trimmed_end};
 pub use runs::{Class, MOST_HEX_DIGITS, begins_name, escape_end, next_at, run_end, white_end};
 pub use words::{

@@ -36,6 +36,10 @@ pub enum Class {
     Line,
     /// What a loud comment of a sheet holds up to its `*/` or a `#{`.
     Comment,
+    /// What stands in a `url(..)` of plain CSS that isn't quoted.
+    CssUrl,
+    /// What a comment of plain CSS holds up to its `*/`.
+    CssComment,
 }
 
 /// A hexadecimal escape has at most so many digits.
@@ -171,6 +175,15 @@ fn comment_next(bytes: &[u8], at: usize) -> usize
     at + 1
 }
 
+fn css_comment_next(bytes: &[u8], at: usize) -> usize
+    ensures { result ≡ next Class.CssComment bytes.now at }
+{
+    if ends_loud(bytes, at) || byte_at(bytes, at) == signs::END {
+        return at;
+    }
+    at + 1
+}
+
 fn sheet_text_next(bytes: &[u8], quote: u8, at: usize) -> usize
     ensures { result ≡ next (Class.SheetText quote) bytes.now at }
 {
@@ -201,6 +214,8 @@ pub fn next_at(bytes: &[u8], class: Class, at: usize) -> usize
         Class::Plain => past(byte != signs::BACKSLASH && byte != signs::END, at),
         Class::Line => past(!(is_break(byte) || byte == signs::END), at),
         Class::Comment => comment_next(bytes, at),
+        Class::CssUrl => past_escape(bytes, is_url_byte(byte), at),
+        Class::CssComment => css_comment_next(bytes, at),
     }
 }
 
