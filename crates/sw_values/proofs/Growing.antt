@@ -1,5 +1,5 @@
 -- Weight and nesting of a list with one more item, and of a map with one more pair.
-use Rattle.std.proofs.Common.{◌≡◌, ◌+◌, ◌≤◌, ◌<◌, max, ℕ, Bool, true, false, List, [], ◌∷◌, ◌++◌, sum_by, Option, Some, None, is_some, Result, Ok, Err, IfOk, IfErr, MatchResult, refl, sym, ap, subst, ◌∙◌, arith, zero-add}
+use Rattle.std.proofs.Common.{◌≡◌, ◌+◌, max, ℕ, Bool, true, List, [], ◌∷◌, ◌++◌, sum_by, Option, Some, None, is_some, Result, Ok, Err, IfOk, IfErr, MatchResult, sym, ap, subst, ◌∙◌, arith, zero-add}
 use Rattle.std.proofs.lemmas.List.Sums.{sum_by-append, sum_by_push}
 use Rattle.sw_values.specs.declared.fault.ValueFault.{ValueFault}
 use Rattle.sw_values.specs.declared.fault.ValueFault.TheVariants as F
@@ -13,7 +13,7 @@ use Rattle.sw_values.specs.Canon.{canon}
 use Rattle.sw_values.specs.Maps.{place_of, with_value_at, with_value}
 use Rattle.sw_values.specs.Shape.{plain_of, node_of, IsTooLarge}
 use Rattle.sw_values.specs.Sizes.{weigh_list, nest_list, weigh_map, nest_map, pair_weight, pair_nest}
-use Rattle.sw_values.specs.Weight.{weigh, nest, greatest_by, most, deepest, is_within}
+use Rattle.sw_values.specs.Weight.{weigh, nest, greatest_by, is_within}
 use Rattle.sw_values.proofs.Alike.{back, node_back}
 
 greatest-push : {A : Type 0} (f : A → ℕ) (xs : List A) (x : A) → greatest_by f (xs ++ x ∷ []) ≡ max (greatest_by f xs) (f x)

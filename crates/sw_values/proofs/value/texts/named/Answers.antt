@@ -1,4 +1,4 @@
-use Rattle.std.proofs.Common.{◌≡◌, sym, ap, ◌∙◌, option_map, string_bytes}
+use Rattle.std.proofs.Common.{sym, ap, ◌∙◌, option_map, string_bytes}
 use Rattle.sw_values.proofs.Appending.{short, long, is_named}
 use Rattle.sw_values.proofs.value.texts.named.Goals as goal
 
