@@ -1,5 +1,5 @@
 -- Units fit exactly where their words are equal, and amounts are equal exactly where their words are.
-use Rattle.std.proofs.Common.{◌≡◌, ◌+◌, ◌*◌, ◌/◌, ◌%◌, ◌^◌, ◌<◌, ◌≤◌, ◌⊎◌, inl, inr, ℕ, zero, suc, Bool, true, false, ◌||◌, ◌&&◌, cond, if◌then◌else◌, List, [], ◌∷◌, ◌++◌, length, bytes_eq, refl, sym, ap, ap₂, ◌∙◌, subst, arith, append_assoc, append-nil, unsigned_abs, ℤ, pos, negsuc, neg_ℤ, ◌*ℤ◌, mul-pos, Ordering, Less, Equal, Greater, nat_cmp, is_gt, is_eq, int_cmp, int_eq}
+use Rattle.std.proofs.Common.{◌≡◌, ◌+◌, ◌*◌, ◌/◌, ◌%◌, ◌^◌, ◌<◌, ◌⊎◌, inl, inr, ℕ, zero, suc, Bool, true, false, ◌&&◌, if◌then◌else◌, List, [], ◌∷◌, ◌++◌, bytes_eq, refl, sym, ap, ap₂, ◌∙◌, arith, append_assoc, unsigned_abs, ℤ, pos, negsuc, neg_ℤ, ◌*ℤ◌, mul-pos, Ordering, Less, Equal, Greater, nat_cmp, is_gt, is_eq, int_cmp, int_eq}
 use Rattle.std.specs.Cmp.Lexicographic.{slice_cmp, nat_list_cmp_total}
 use Rattle.std.specs.Ordering.{ordering_reverse}
 use Rattle.std.proofs.lemmas.Map.Lookups.{exact_bytes}
@@ -13,12 +13,11 @@ use Rattle.std.specs.Cmp.{both_ways}
 use Rattle.sw_fixed.specs.Arithmetic.{is_below_zero}
 use Rattle.sw_units.specs.declared.units.UnitNames.{UnitNames}
 use Rattle.sw_units.specs.declared.units.UnitNames.TheVariants.{Empty, One, Two}
-use Rattle.sw_units.specs.declared.units.Units.{Units}
 use Rattle.sw_units.specs.declared.number.Number.{Number}
 use Rattle.sw_units.specs.Measures.{count_of, fits}
-use Rattle.sw_units.specs.Units.{names_fit, units_fit, count_all, is_empty, is_unitless, numerator_into, denominator_into}
-use Rattle.sw_units.specs.Numbers.{are_equal, order_in_units}
-use Rattle.sw_values.specs.Amounts.{framed, two_words, four_words, sign_word, counted_as, parts_of, parts_all, amount, amount_words, ordered_words, names_words, number_words}
+use Rattle.sw_units.specs.Units.{names_fit, count_all, is_empty}
+use Rattle.sw_units.specs.Numbers.{are_equal}
+use Rattle.sw_values.specs.Amounts.{framed, sign_word, counted_as, parts_of, parts_all, amount_words, ordered_words, names_words, number_words}
 use Rattle.sw_values.proofs.Told.{one_told, head, tail}
 use Rattle.sw_values.proofs.Quantities.{counted, parts_positive, count_positive, fit_from_units, units_from_fit, wholes_from_fit}
 

@@ -1,9 +1,13 @@
 pub mod Absent
 pub mod Agreement
 pub mod Alike
+pub mod Appending
+pub mod Ascii
 pub mod Canons
 pub mod Capped
+pub mod Growing
 pub mod Maps
+pub mod PairLists
 pub mod Parts
 pub mod Places
 pub mod Products

@@ -1,12 +1,12 @@
 -- Two numbers are equal exactly where the words of their quantities are.
-use Rattle.std.proofs.Common.{◌≡◌, ◌+◌, ◌*◌, ◌<◌, ◌≤◌, ◌⊎◌, inl, inr, ℕ, zero, suc, Bool, true, false, ◌||◌, ◌&&◌, cond, if◌then◌else◌, List, [], ◌∷◌, ◌++◌, length, codes, bytes_eq, Option, Some, None, refl, sym, ap, ap₂, ◌∙◌, subst, arith, append_assoc, is_some, unsigned_abs, ℤ, pos, negsuc, ◌*ℤ◌, true≢false}
-use Rattle.std.proofs.lemmas.Bool.{or_cases, or_left, or_right, and_parts, and_from, cases_Bool}
+use Rattle.std.proofs.Common.{◌≡◌, ◌*◌, ◌<◌, inl, inr, ℕ, zero, suc, Bool, true, false, ◌||◌, if◌then◌else◌, List, codes, bytes_eq, Option, Some, None, refl, sym, ap, ◌∙◌, arith, is_some, true≢false}
+use Rattle.std.proofs.lemmas.Bool.{or_cases, or_left, or_right}
 use Rattle.std.proofs.lemmas.Slice.Eq.{bytes_eq-Decides}
 use Rattle.sw_units.specs.declared.measure.Family.{Family}
 use Rattle.sw_units.specs.declared.measure.Family.TheVariants.{Length, Angle, Time, Frequency, Resolution}
 use Rattle.sw_units.specs.declared.measure.Measure.{Measure}
 use Rattle.sw_units.specs.Measures.{measure, measure_of, length_of, angle_of, time_of, frequency_of, resolution_of, first_of, count_in, count_of, same_family, same_measure, fits}
-use Rattle.sw_values.specs.Amounts.{first_unit, length_parts, resolution_parts, family_parts, unit_by, counted_as, parts_by, parts_of}
+use Rattle.sw_values.specs.Amounts.{first_unit, length_parts, resolution_parts, unit_by, counted_as, parts_by, parts_of}
 
 -- ---- the table: so many parts of a unit, times how many make one measure, are the same for the whole family
 

@@ -1,5 +1,5 @@
 -- The rules of equality, kind by kind: what they say of two values is whether their words are equal.
-use Rattle.std.proofs.Common.{◌≡◌, ℕ, Bool, true, false, ◌&&◌, ◌==◌, if◌then◌else◌, List, [], ◌∷◌, ◌++◌, map, bytes_eq, ℤ, unsigned_abs, refl, sym, ap, ap₂, ◌∙◌, int_cmp, is_eq, int_eq}
+use Rattle.std.proofs.Common.{◌≡◌, ℕ, Bool, true, false, ◌&&◌, ◌==◌, List, [], ◌∷◌, map, bytes_eq, ℤ, refl, sym, ap, ap₂, ◌∙◌, int_cmp, is_eq}
 use Rattle.std.specs.Cmp.{both_ways}
 use Rattle.std.specs.Cmp.Lexicographic.{pointwise}
 use Rattle.std.proofs.lemmas.Bool.{and_parts, and_from}
@@ -11,11 +11,11 @@ use Rattle.sw_values.specs.declared.plain.Separator.TheVariants as separators
 use Rattle.sw_values.specs.declared.plain.Plain.{Plain}
 use Rattle.sw_values.specs.declared.value.Node.{Node}
 use Rattle.sw_values.specs.declared.value.Node.TheVariants as N
-use Rattle.sw_values.specs.Amounts.{signed_words, sign_word, number_words}
-use Rattle.sw_values.specs.Canon.{canon, canon_pair, is_empty, list_words, map_words, all_framed, colour_words, entries_words, sorted_into, truth_word, separator_word, nothing}
-use Rattle.sw_values.specs.Equality.{is_equal, same_separator, same_truth, is_nothing, lists_alike, maps_alike, alike, MapsAreTold}
+use Rattle.sw_values.specs.Amounts.{signed_words, number_words}
+use Rattle.sw_values.specs.Canon.{canon, canon_pair, is_empty, list_words, map_words, all_framed, colour_words, entries_words, sorted_into, truth_word, separator_word}
+use Rattle.sw_values.specs.Equality.{is_equal, same_separator, same_truth, is_nothing, lists_alike, alike, MapsAreTold}
 use Rattle.sw_values.specs.Shape.{plain_of}
-use Rattle.sw_values.proofs.Told.{told, head, tail}
+use Rattle.sw_values.proofs.Told.{told, head}
 use Rattle.sw_values.proofs.Agreement.{numbers_agree, sign_told, four_told, parts_make, at}
 use Rattle.sw_values.proofs.Canons.{canon_number, canon_text, canon_colour, canon_list, canon_map, canon_bool, canon_null, canon_args}
 

@@ -1,5 +1,5 @@
 -- Values without parts weigh and nest 1.
-use Rattle.std.proofs.Common.{◌≡◌, ℤ, Bool, sym, ap, ◌∙◌}
+use Rattle.std.proofs.Common.{◌≡◌, ℤ, sym, ap, ◌∙◌}
 use Rattle.sw_units.specs.declared.units.Units.{Units}
 use Rattle.sw_units.specs.declared.number.Slash.{out-Slash, out-roll-Slash}
 use Rattle.sw_units.specs.declared.number.Slash.TheVariants as S

@@ -1,6 +1,6 @@
 -- Maps without equal keys are alike exactly where their words are equal.
-use Rattle.std.proofs.Common.{◌≡◌, ◌+◌, ◌<◌, ℕ, zero, suc, length, drop, get_or, slice_get, arith, option_map, unwrap_or, Bool, true, false, cond, if◌then◌else◌, ◌&&◌, List, [], ◌∷◌, ◌++◌, map, is_some, bytes_eq, Option, Some, None, Ordering, Less, Equal, Greater, nat_cmp, refl, sym, ap, ap₂, ◌∙◌, subst, true≢false}
-use Rattle.std.specs.Ordering.{eq_by_cmp, match_ordering}
+use Rattle.std.proofs.Common.{◌≡◌, ◌+◌, ◌<◌, ℕ, zero, suc, length, drop, get_or, slice_get, arith, option_map, unwrap_or, Bool, true, false, cond, if◌then◌else◌, ◌&&◌, List, [], ◌∷◌, map, is_some, bytes_eq, Option, Some, None, Ordering, Less, Equal, Greater, nat_cmp, refl, sym, ap, ap₂, ◌∙◌, subst, true≢false}
+use Rattle.std.specs.Ordering.{match_ordering}
 use Rattle.std.specs.Cmp.{both_ways}
 use Rattle.std.specs.Cmp.Lexicographic.{slice_cmp, nat_list_cmp_total, nat_list_eq_equiv, texts_ties}
 use Rattle.std.specs.BTreeMap.{insert_entry}
@@ -13,11 +13,10 @@ use Rattle.std.proofs.lemmas.Map.Lookups.{exact_bytes}
 use Rattle.std.proofs.lemmas.Slice.Eq.{bytes_eq-Decides}
 use Rattle.std.proofs.lemmas.Bool.{and_parts, and_from}
 use Rattle.sw_values.specs.declared.plain.Plain.{Plain}
-use Rattle.sw_values.specs.Amounts.{framed}
-use Rattle.sw_values.specs.Canon.{canon, canon_pair, key_canon, is_empty, sorted_into, entries_words, map_words, nothing}
+use Rattle.sw_values.specs.Canon.{canon, canon_pair, key_canon, sorted_into, entries_words, map_words}
 use Rattle.sw_values.specs.Equality.{is_equal, value_for, is_value, pairs_within, keys_within, maps_alike}
 use Rattle.sw_values.specs.Maps.{AreDistinct, value_of, value_at, place_of, second}
-use Rattle.sw_values.proofs.Told.{head, tail}
+use Rattle.sw_values.proofs.Told.{tail}
 use Rattle.sw_values.proofs.Agreement.{pair_told}
 use Rattle.sw_values.proofs.Places.{got}
 

@@ -21,5 +21,8 @@ within value seen capped le flat = rw (is_le _ _ (rw (capped.small le) at le), i
 pub too_heavy : (value : Plain) (seen : ℕ) → IsCapped most (weigh value) seen → most < seen → is_within value ≡ false
 too_heavy value seen capped lt = rw (not_le _ _ (capped.large lt)) refl
 
+pub heavier : (value : Plain) → most < weigh value → is_within value ≡ false
+heavier value lt = rw (not_le _ _ lt) refl
+
 pub too_deep : (value : Plain) → deepest < nest value → is_within value ≡ false
 too_deep value lt = rw (not_le _ _ lt) (false-right _)

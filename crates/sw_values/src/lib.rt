@@ -3,14 +3,18 @@
 #![tactic(auto)]
 
 mod amounts;
+mod bound;
 mod canon;
 mod fault;
 mod laws;
+mod limits;
 mod numbers;
 mod plain;
 mod strings;
 mod value;
+mod written;
 
+pub use bound::Bound;
 pub use canon::Canon;
 pub use fault::ValueFault;
 pub use laws::{equal_numbers_have_equal_words, parts_are_told_apart, rules_agree_with_words};

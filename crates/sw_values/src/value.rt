@@ -9,11 +9,15 @@ ghost use Rattle.sw_values.specs.declared.plain.Plain.TheVariants as P;
 mod coding;
 mod equality;
 mod equals;
+mod growing;
 mod inspected;
+mod items;
 mod maps;
+mod plain_texts;
 mod simple;
 mod texts;
 
+use crate::limits::{DEEPEST, MOST_WEIGHT};
 use crate::numbers::number_nesting;
 use crate::{Canon, Separator, ValueFault};
 use indexmap::IndexSet;
@@ -139,11 +143,11 @@ impl Value {
             (λ fault. (fault ≡ F.TooLarge) × IsTooLarge (plain_of node)) }
     {
         let weight = weight_of(&node);
-        if weight > 1_048_576 {
+        if weight > MOST_WEIGHT {
             return Err(ValueFault::TooLarge);
         }
         let nesting = nesting_of(&node);
-        if nesting > 1_000 {
+        if nesting > DEEPEST {
             return Err(ValueFault::TooLarge);
         }
         Ok(Value {
@@ -255,8 +259,8 @@ fn capped(bytes: usize) -> u32
     ensures capped { IsCapped most (bytes + 1) result }
     ensures few { result ≤ 1048577 }
 {
-    if bytes >= 1_048_576 {
-        1_048_577
+    if bytes >= MOST_WEIGHT as usize {
+        MOST_WEIGHT + 1
     } else {
         bytes as u32 + 1
     }
@@ -269,7 +273,7 @@ fn items_weight(items: &[Value]) -> u32
     let mut all = 0_u32;
     for item in items {
         all += item.weight();
-        if all > 1_048_576 {
+        if all > MOST_WEIGHT {
             return all;
         }
     }
@@ -283,7 +287,7 @@ fn pairs_weight(pairs: &[(Value, Value)]) -> u32
     let mut all = 0_u32;
     for pair in pairs {
         all += pair.0.weight() + pair.1.weight();
-        if all > 1_048_576 {
+        if all > MOST_WEIGHT {
             return all;
         }
     }
@@ -297,7 +301,7 @@ fn named_weight(named: &[(Name, Value)]) -> u32
     let mut all = 0_u32;
     for pair in named {
         all += capped(pair.0.as_str().len()) + pair.1.weight();
-        if all > 1_048_576 {
+        if all > MOST_WEIGHT {
             return all;
         }
     }

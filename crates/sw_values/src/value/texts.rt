@@ -1,23 +1,18 @@
 // How values are written in CSS.
-ghost use Rattle.std.specs.Prelude.{◌≡◌, ◌≤◌, ◌<◌, ◌++◌, IfOk, IfErr, OnOk, length, true, map, List, ◌∷◌, ◌&&◌, not};
-ghost use Rattle.std.specs.String.{string_bytes};
-ghost use Rattle.sw_values.specs.Texts.{Shown, shown, list_shown, pieces, all_css, glue_of, names_text, under_text, plain_text, number_text, one_at_most, none, plain_is_css, number_is_css, truth_text, in_brackets, IsTextFault, list_css};
+ghost use Rattle.std.specs.Prelude.{◌≡◌, ◌<◌, IfOk, IfErr, OnOk, length, true, map, List, ◌∷◌, [], ℕ, Some, ◌&&◌, not};
+ghost use Rattle.sw_values.specs.Texts.{Shown, shown, pieces, all_css, glue_of, in_brackets, IsTextFault, list_css};
 ghost use Rattle.sw_values.specs.Canon.{is_empty};
-ghost use Rattle.sw_values.specs.Strings.{string_text, string_chars};
 ghost use Rattle.sw_values.specs.Weight.{most};
-ghost use Rattle.std.specs.Prelude.{chars, encode_utf8_all};
-ghost use Rattle.sw_colour.specs.Text.{css_text as colour_text};
-ghost use Rattle.sw_fixed.specs.Text.{text_of as fixed_text};
+ghost use Rattle.sw_values.specs.Written.{appended, IsNamed};
+ghost use Rattle.sw_values.specs.declared.fault.ValueFault.TheVariants as F;
 
+use super::plain_texts::{number_is_css, write_colour, write_number, write_string, write_truth};
 use super::{Node, Value};
-use crate::strings::{folded, quoted};
+use crate::limits::LEVELS;
+use crate::written::Written;
 use crate::{Separator, ValueFault};
-use std::alloc::{AllocError, Global};
-use std::str;
-use sw_colour::Colour;
-use sw_fixed::Fixed;
+use std::alloc::Global;
 use sw_text::{Memory, Name};
-use sw_units::{Number, Slash, UnitNames};
 
 impl Value {
     /// Whether a list leaves the value out of its text: null and the empty unquoted string. Takes no memory.
@@ -44,222 +39,40 @@ impl Value {
         if !self.is_css(quotes) {
             return Err(ValueFault::NotCss);
         }
-        let out = match written(alloc, quotes, self) {
-            Ok(out) => out,
-            Err(_) => return Err(ValueFault::Memory),
-        };
-        if out.len() >= 1_048_576 {
-            return Err(ValueFault::TooLarge);
-        }
-        match Name::new(alloc, out.as_str()) {
-            Ok(text) => Ok(text),
+        match written(alloc, quotes, self) {
+            Ok(written) => named(alloc, written),
             Err(_) => Err(ValueFault::Memory),
         }
     }
 }
 
-fn written(alloc: Global, quotes: bool, value: &Value) -> Result<String, Memory>
-    ensures { IfOk result (λ out. string_bytes out ≡ (shown quotes value.now).text) }
+fn written(alloc: Global, quotes: bool, value: &Value) -> Result<Written, Memory>
+    ensures { IfOk result (λ written. written ≡ appended (Some []) (shown quotes value.now).text) }
 {
-    let mut out = String::new(alloc);
+    let mut out = Written::new(alloc);
     write_value(alloc, &mut out, quotes, value)?;
     Ok(out)
 }
 
-// ---- numbers
-
-// Appends bytes of ASCII. Other bytes than those of a text aren't appended.
-fn push_ascii(out: &mut String, bytes: &[u8]) -> Result<(), Memory>
-    ensures { OnOk result (string_bytes out.new ≡ string_bytes out.old ++ bytes.now) }
+/// The name of a text, unless it is too long.
+pub(crate) fn named(alloc: Global, written: Written) -> Result<Name, ValueFault>
+    ensures { (text : List ℕ) → written ≡ appended (Some []) text → IsNamed text result }
 {
-    match str::from_utf8(bytes) {
-        Ok(text) => {
-            out.push_str(text)?;
-            Ok(())
-        }
-        Err(_) => Err(Memory),
+    match written.finish() {
+        None => Err(ValueFault::TooLarge),
+        Some(text) => name_of(alloc, text.as_str()),
     }
 }
 
-fn write_fixed(alloc: Global, out: &mut String, value: Fixed) -> Result<(), Memory>
-    ensures { OnOk result (string_bytes out.new ≡ string_bytes out.old ++ fixed_text value) }
+fn name_of(alloc: Global, text: &str) -> Result<Name, ValueFault>
+    ensures ok { IfOk result (λ name. name ≡ text.now) }
+    ensures err { IfErr result (λ fault. fault ≡ F.Memory) }
 {
-    let mut text = Vec::new(alloc);
-    value.write_into(&mut text)?;
-    push_ascii(out, text.as_slice())
-}
-
-fn write_names(out: &mut String, names: &UnitNames) -> Result<(), Memory>
-    ensures { OnOk result (string_bytes out.new ≡ string_bytes out.old ++ names_text names.now) }
-{
-    match names {
-        UnitNames::Empty => Ok(()),
-        UnitNames::One(first) => {
-            out.push_str(first.as_str())?;
-            Ok(())
-        }
-        UnitNames::Two(first, second) => {
-            out.push_str(first.as_str())?;
-            out.push_str("*")?;
-            out.push_str(second.as_str())?;
-            Ok(())
-        }
+    match Name::new(alloc, text) {
+        Ok(name) => Ok(name),
+        Err(_) => Err(ValueFault::Memory),
     }
 }
-
-fn write_under(out: &mut String, names: &UnitNames) -> Result<(), Memory>
-    ensures { OnOk result (string_bytes out.new ≡ string_bytes out.old ++ under_text names.now) }
-{
-    match names {
-        UnitNames::Empty => Ok(()),
-        UnitNames::One(_) => {
-            out.push_str("/")?;
-            write_names(out, names)
-        }
-        UnitNames::Two(_, _) => {
-            out.push_str("/")?;
-            write_names(out, names)
-        }
-    }
-}
-
-fn write_plain(alloc: Global, out: &mut String, number: &Number) -> Result<(), Memory>
-    ensures { OnOk result (string_bytes out.new ≡ string_bytes out.old ++ plain_text number.now) }
-{
-    write_fixed(alloc, out, number.value)?;
-    write_names(out, &number.units.over)?;
-    write_under(out, &number.units.under)
-}
-
-#[cycle(numbers)]
-#[tactic(auto, unfolding(crate::specs::Texts::number_text))]
-pub(crate) fn write_number(
-    alloc: Global,
-    out: &mut String,
-    levels: u16,
-    number: &Number,
-) -> Result<(), Memory>
-    ensures { OnOk result (string_bytes out.new ≡ string_bytes out.old ++ number_text levels number.now) }
-{
-    if levels == 0 {
-        return write_plain(alloc, out, number);
-    }
-    match &number.slash {
-        Slash::Plain => write_plain(alloc, out, number),
-        Slash::Sides(sides) => {
-            let sides = sides.get();
-            write_number(alloc, out, levels - 1, &sides.0)?;
-            out.push_str("/")?;
-            write_number(alloc, out, levels - 1, &sides.1)
-        }
-    }
-}
-
-fn one_at_most(names: &UnitNames) -> bool
-    ensures { result ≡ one_at_most names.now }
-{
-    match names {
-        UnitNames::Empty => true,
-        UnitNames::One(_) => true,
-        UnitNames::Two(_, _) => false,
-    }
-}
-
-fn plain_is_css(number: &Number) -> bool
-    ensures { result ≡ plain_is_css number.now }
-{
-    one_at_most(&number.units.over) && number.units.under.is_empty()
-}
-
-#[tactic(auto, unfolding(crate::specs::Texts::number_is_css))]
-fn number_is_css(levels: u16, number: &Number) -> bool
-    ensures { result ≡ number_is_css levels number.now }
-{
-    if levels == 0 {
-        return plain_is_css(number);
-    }
-    match &number.slash {
-        Slash::Plain => plain_is_css(number),
-        Slash::Sides(sides) => {
-            let sides = sides.get();
-            number_is_css(levels - 1, &sides.0) && number_is_css(levels - 1, &sides.1)
-        }
-    }
-}
-
-// ---- strings and colours
-
-// A string as CSS writes it.
-#[tactic(auto, unfolding(crate::specs::Strings::string_text))]
-fn string_text(alloc: Global, text: &str, is_quoted: bool) -> Result<String, AllocError>
-    ensures { IfOk result (λ out. string_bytes out ≡ string_text text.now is_quoted) }
-{
-    let chars = chars_of(alloc, text)?;
-    let out = string_chars(alloc, chars.as_slice(), is_quoted)?;
-    text_of(alloc, out.as_slice())
-}
-
-// The characters of a text.
-fn chars_of(alloc: Global, text: &str) -> Result<Vec<char>, AllocError>
-    ensures { IfOk result (λ out. out.items ≡ chars text.now) }
-{
-    text.chars().collect(alloc)
-}
-
-fn string_chars(alloc: Global, chars: &[char], is_quoted: bool) -> Result<Vec<char>, AllocError>
-    ensures { IfOk result (λ out. out.items ≡ string_chars chars.now is_quoted) }
-{
-    if is_quoted {
-        quoted(alloc, chars)
-    } else {
-        folded(alloc, chars)
-    }
-}
-
-// The text of these characters.
-fn text_of(alloc: Global, chars: &[char]) -> Result<String, AllocError>
-    ensures { IfOk result (λ out. string_bytes out ≡ encode_utf8_all chars.now) }
-{
-    let mut out = String::new(alloc);
-    for c in chars {
-        out.push(*c)?;
-    }
-    Ok(out)
-}
-
-pub(crate) fn write_string(
-    alloc: Global,
-    out: &mut String,
-    text: &str,
-    is_quoted: bool,
-) -> Result<(), Memory>
-    ensures { OnOk result (string_bytes out.new ≡ string_bytes out.old ++ string_text text.now is_quoted) }
-{
-    let written = string_text(alloc, text, is_quoted)?;
-    out.push_str(written.as_str())?;
-    Ok(())
-}
-
-pub(crate) fn write_colour(alloc: Global, out: &mut String, colour: &Colour) -> Result<(), Memory>
-    ensures { OnOk result (string_bytes out.new ≡ string_bytes out.old ++ colour_text colour.now) }
-{
-    let mut text = Vec::new(alloc);
-    colour.write_into(&mut text)?;
-    push_ascii(out, text.as_slice())
-}
-
-pub(crate) fn write_truth(out: &mut String, truth: bool) -> Result<(), Memory>
-    ensures { OnOk result (string_bytes out.new ≡ string_bytes out.old ++ truth_text truth) }
-{
-    if truth {
-        out.push_str("true")?;
-    } else {
-        out.push_str("false")?;
-    }
-    Ok(())
-}
-
-// ---- values
 
 fn both(one: bool, other: bool) -> bool
     ensures { result ≡ (one && other) }
@@ -300,7 +113,7 @@ fn is_css(quotes: bool, value: &Value) -> bool
     ensures { result ≡ (shown quotes value.now).css }
 {
     match &value.node {
-        Node::Number(number) => number_is_css(1001, number),
+        Node::Number(number) => number_is_css(LEVELS, number),
         Node::Text { .. } => true,
         Node::Colour(_) => true,
         Node::List {
@@ -338,11 +151,15 @@ fn are_css(quotes: bool, items: &[Value]) -> bool
 }
 
 #[cycle(writing)]
-fn write_value(alloc: Global, out: &mut String, quotes: bool, value: &Value) -> Result<(), Memory>
-    ensures { OnOk result (string_bytes out.new ≡ string_bytes out.old ++ (shown quotes value.now).text) }
+#[tactic(auto, using(crate::proofs::Appending::stays_long))]
+fn write_value(alloc: Global, out: &mut Written, quotes: bool, value: &Value) -> Result<(), Memory>
+    ensures { OnOk result (out.new ≡ appended out.old ((shown quotes value.now).text)) }
 {
+    if out.is_long() {
+        return Ok(());
+    }
     match &value.node {
-        Node::Number(number) => write_number(alloc, out, 1001, number),
+        Node::Number(number) => write_number(alloc, out, LEVELS, number),
         Node::Text { text, quoted } => {
             write_string(alloc, out, text.as_str(), both(quotes, *quoted))
         }
@@ -359,9 +176,9 @@ fn write_value(alloc: Global, out: &mut String, quotes: bool, value: &Value) -> 
             *bracketed,
             items.get().as_slice(),
         ),
-        Node::Map(_) => Ok(()),
+        Node::Map(_) => out.push(""),
         Node::Bool(truth) => write_truth(out, *truth),
-        Node::Null => Ok(()),
+        Node::Null => out.push(""),
         Node::Args { items, .. } => write_list(
             alloc,
             out,
@@ -385,23 +202,21 @@ pub(crate) fn glue_of(separator: Separator) -> &'static str
 }
 
 #[cycle(writing)]
+#[tactic(auto, using(crate::proofs::Appending::joined_three))]
 fn write_list(
     alloc: Global,
-    out: &mut String,
+    out: &mut Written,
     quotes: bool,
     separator: Separator,
     bracketed: bool,
     items: &[Value],
 ) -> Result<(), Memory>
-    ensures { OnOk result (string_bytes out.new
-        ≡ string_bytes out.old
-        ++ in_brackets bracketed (pieces (glue_of separator) true (map (shown quotes) items.now))) }
+    ensures { OnOk result (out.new ≡ appended out.old (in_brackets bracketed (pieces (glue_of separator) true (map (shown quotes) items.now)))) }
 {
     if bracketed {
-        out.push_str("[")?;
+        out.push("[")?;
         write_items(alloc, out, quotes, glue_of(separator), items)?;
-        out.push_str("]")?;
-        Ok(())
+        out.push("]")
     } else {
         write_items(alloc, out, quotes, glue_of(separator), items)
     }
@@ -410,41 +225,42 @@ fn write_list(
 #[cycle(writing)]
 fn write_items(
     alloc: Global,
-    out: &mut String,
+    out: &mut Written,
     quotes: bool,
     glue: &str,
     items: &[Value],
 ) -> Result<(), Memory>
-    ensures { OnOk result (string_bytes out.new
-        ≡ string_bytes out.old ++ pieces glue.now true (map (shown quotes) items.now)) }
+    ensures { OnOk result (out.new ≡ appended out.old (pieces glue.now true (map (shown quotes) items.now))) }
 {
     let mut first = true;
     'items: for i in 0..items.len() {
         first = write_item(alloc, out, quotes, glue, first, &items[i])?;
     }
-    Ok(())
+    out.push("")
 }
 
 // Writes an item; whether the next one that is written is the first.
 #[cycle(writing)]
+#[tactic(auto, using(crate::proofs::Appending::joined, crate::proofs::Appending::joined_three))]
 fn write_item(
     alloc: Global,
-    out: &mut String,
+    out: &mut Written,
     quotes: bool,
     glue: &str,
     first: bool,
     item: &Value,
 ) -> Result<bool, Memory>
     ensures { IfOk result (λ after. (rest : List Shown)
-        → string_bytes out.new ++ pieces glue.now after rest
-        ≡ string_bytes out.old ++ pieces glue.now first (shown quotes item.now ∷ rest)) }
+        → appended out.new (pieces glue.now after rest) ≡ appended out.old (pieces glue.now first (shown quotes item.now ∷ rest))) }
 {
     if is_blank(quotes, item) {
         return Ok(first);
     }
-    if !first {
-        out.push_str(glue)?;
+    if first {
+        write_value(alloc, out, quotes, item)?;
+        return Ok(false);
     }
+    out.push(glue)?;
     write_value(alloc, out, quotes, item)?;
     Ok(false)
 }

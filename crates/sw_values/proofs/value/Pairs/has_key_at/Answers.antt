@@ -1,4 +1,4 @@
-use Rattle.std.proofs.Common.{◌≡◌, sym, ap, ◌∙◌, Some, None, option_copied}
+use Rattle.std.proofs.Common.{sym, ap, ◌∙◌, Some, None, option_copied}
 use Rattle.sw_values.proofs.Tables.{key_step}
 use Rattle.sw_values.proofs.value.Pairs.has_key_at.Goals as goal
 

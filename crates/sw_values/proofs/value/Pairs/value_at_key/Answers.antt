@@ -1,4 +1,4 @@
-use Rattle.std.proofs.Common.{◌≡◌, map, ap, ◌∙◌}
+use Rattle.std.proofs.Common.{◌≡◌, map}
 use Rattle.sw_values.specs.Canon.{key_canon}
 use Rattle.sw_values.proofs.Tables.{key_value}
 use Rattle.sw_values.proofs.value.Pairs.value_at_key.Goals as goal
