@@ -1,0 +1,122 @@
+// Calls on disks in memory: `steady a.scss=x,b.css=y / a.scss=z ; list | read a.scss`, of which the folders come one
+// after another, and `failing 2 3 ; FOLDERS ; STEPS`, where the calls of these numbers fail.
+use std::alloc::Global;
+use sw_io::{Disk, DiskEnd, Folder, MemDisk, SteadyDisk};
+use sw_row_files::Refusal;
+use sw_text::{List, Name};
+
+// Disks in memory hold the same files under every name.
+const DIR: &str = "folder";
+
+pub fn answer(alloc: Global, name: &str, text: &str) -> Result<String, Refusal> {
+    match name {
+        "steady" => steady(alloc, text),
+        "failing" => failing(alloc, text),
+        _ => Err(Refusal::NoCall),
+    }
+}
+
+fn steady(alloc: Global, text: &str) -> Result<String, Refusal> {
+    let (folders, steps) = text.split_once(" ; ").unwrap_or((text, ""));
+    let mut disk = SteadyDisk::new(alloc, folders_of(alloc, folders)?);
+    seen(alloc, &mut disk, steps)
+}
+
+fn failing(alloc: Global, text: &str) -> Result<String, Refusal> {
+    let (numbers, rest) = text.split_once(" ; ").unwrap_or((text, ""));
+    let (folders, steps) = rest.split_once(" ; ").unwrap_or((rest, ""));
+    let numbers = numbers_of(alloc, numbers)?;
+    let mut disk = MemDisk::new(alloc, folders_of(alloc, folders)?, numbers);
+    seen(alloc, &mut disk, steps)
+}
+
+fn numbers_of(alloc: Global, text: &str) -> Result<List<u32>, Refusal> {
+    let mut numbers = List::new(alloc);
+    for number in text.split(' ') {
+        numbers.push(number.parse::<u32>()?)?;
+    }
+    Ok(numbers)
+}
+
+fn folders_of(alloc: Global, text: &str) -> Result<List<Folder>, Refusal> {
+    let mut folders = List::new(alloc);
+    for folder in text.split(" / ") {
+        folders.push(folder_of(alloc, folder)?)?;
+    }
+    Ok(folders)
+}
+
+fn folder_of(alloc: Global, text: &str) -> Result<Folder, Refusal> {
+    let mut files = List::new(alloc);
+    for file in text.split(',') {
+        if let Some((path, bytes)) = file.split_once('=') {
+            files.push(file_of(alloc, path, bytes)?)?;
+        }
+    }
+    Ok(files)
+}
+
+fn file_of(alloc: Global, path: &str, text: &str) -> Result<(Name, List<u8>), Refusal> {
+    let mut bytes = Vec::new(alloc);
+    bytes.extend_from_slice(text.as_bytes())?;
+    Ok((Name::new(alloc, path)?, List::from_vec(bytes)))
+}
+
+fn seen<D: Disk>(alloc: Global, disk: &mut D, steps: &str) -> Result<String, Refusal> {
+    let mut text = String::new(alloc);
+    for step in steps.split(" | ") {
+        if !text.is_empty() {
+            text.push_str(" | ")?;
+        }
+        add_step(alloc, disk, step, &mut text)?;
+    }
+    Ok(text)
+}
+
+fn add_step<D: Disk>(
+    alloc: Global,
+    disk: &mut D,
+    step: &str,
+    text: &mut String,
+) -> Result<(), Refusal> {
+    match step.strip_prefix("read ") {
+        Some(path) => add_bytes(alloc, disk.read(alloc, DIR, path), text),
+        None if step == "list" => add_paths(disk.list(alloc, DIR), text),
+        None => Err(Refusal::NoCall),
+    }
+}
+
+fn add_paths(paths: Result<List<Name>, DiskEnd>, text: &mut String) -> Result<(), Refusal> {
+    match paths {
+        Ok(paths) if paths.is_empty() => Ok(text.push_str("nothing")?),
+        Ok(paths) => add_names(paths.as_slice(), text),
+        Err(DiskEnd::Failed) => Ok(text.push_str("failed")?),
+        Err(DiskEnd::Memory) => Err(Refusal::Memory),
+    }
+}
+
+fn add_names(names: &[Name], text: &mut String) -> Result<(), Refusal> {
+    let mut between = "";
+    for name in names {
+        text.push_str(between)?;
+        text.push_str(name.as_str())?;
+        between = " ";
+    }
+    Ok(())
+}
+
+fn add_bytes(
+    alloc: Global,
+    bytes: Result<Option<List<u8>>, DiskEnd>,
+    text: &mut String,
+) -> Result<(), Refusal> {
+    match bytes {
+        Ok(None) => Ok(text.push_str("none")?),
+        Ok(Some(bytes)) => {
+            let bytes = String::from_utf8_lossy(alloc, bytes.as_slice())?;
+            Ok(text.push_str(bytes.as_str())?)
+        }
+        Err(DiskEnd::Failed) => Ok(text.push_str("failed")?),
+        Err(DiskEnd::Memory) => Err(Refusal::Memory),
+    }
+}

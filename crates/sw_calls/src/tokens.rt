@@ -1,0 +1,84 @@
+// Calls on the tokens of a text: `tokens a { b: c }` gives them all, `token 0 ; a` the one at a place, `none a` the
+// list without any.
+use crate::places::{ends, sheet};
+use std::alloc::{AllocError, Global};
+use sw_row_files::Refusal;
+use sw_text::{List, Shared, SheetText};
+use sw_tokens::{Fault10, Token, TokenKind, Tokens};
+
+pub fn answer(alloc: Global, name: &str, text: &str) -> Result<String, Refusal> {
+    match name {
+        "tokens" => all(alloc, text),
+        "token" => one(alloc, text),
+        "none" => without(alloc, text),
+        _ => Err(Refusal::NoCall),
+    }
+}
+
+fn shared(alloc: Global, text: &str) -> Result<Shared<SheetText>, Refusal> {
+    let sheet = sheet(alloc, text)?;
+    Ok(Shared::new(alloc, sheet)?)
+}
+
+// The tokens, or where the fault stands.
+fn all(alloc: Global, text: &str) -> Result<String, Refusal> {
+    let sheet = shared(alloc, text)?;
+    match Tokens::of(alloc, &sheet) {
+        Ok(tokens) => Ok(listed(alloc, &tokens)?),
+        Err(Fault10::Memory) => Err(Refusal::Memory),
+        Err(Fault10::Fault(fault)) => {
+            let ends = ends(alloc, &fault.span)?;
+            Ok(format!(in alloc; "! {ends}")?)
+        }
+    }
+}
+
+fn one(alloc: Global, text: &str) -> Result<String, Refusal> {
+    let (at, text) = text.split_once(" ; ").unwrap_or((text, ""));
+    let at = at.parse::<usize>()?;
+    let sheet = shared(alloc, text)?;
+    let Ok(tokens) = Tokens::of(alloc, &sheet) else {
+        return Err(Refusal::NoCall);
+    };
+    match tokens.get(at) {
+        Some(token) => Ok(shown(alloc, token)?),
+        None => Ok(String::from_str(alloc, "none")?),
+    }
+}
+
+fn without(alloc: Global, text: &str) -> Result<String, Refusal> {
+    let sheet = shared(alloc, text)?;
+    let tokens = Tokens::from_list(&sheet, List::new(alloc))?;
+    let (count, text) = (tokens.len(), tokens.sheet().text());
+    Ok(format!(in alloc; "{count} of {text}")?)
+}
+
+fn listed(alloc: Global, tokens: &Tokens) -> Result<String, AllocError> {
+    let mut text = String::new(alloc);
+    for at in 0..tokens.len() {
+        if let Some(token) = tokens.get(at) {
+            if at > 0 {
+                text.push(' ')?;
+            }
+            text.push_str(shown(alloc, token)?.as_str())?;
+        }
+    }
+    Ok(text)
+}
+
+// A token as its kind and its offsets, with `_` before it where white space or a comment stands.
+fn shown(alloc: Global, token: &Token) -> Result<String, AllocError> {
+    let mark = if token.spaced { "_" } else { "" };
+    let kind = kind(alloc, &token.kind)?;
+    let (from, to) = (token.from, token.to);
+    format!(in alloc; "{mark}{kind}{from}-{to}")
+}
+
+// A kind, with the text of one that has a text.
+fn kind(alloc: Global, kind: &TokenKind) -> Result<String, AllocError> {
+    match kind {
+        TokenKind::Quoted(text) => format!(in alloc; "Quoted<{}>", text.as_str()),
+        TokenKind::Text(text) => format!(in alloc; "Text<{}>", text.as_str()),
+        plain => format!(in alloc; "{plain:?}"),
+    }
+}

@@ -1,0 +1,78 @@
+// Calls of built-in functions: `call div ; 1px ; 2`, `known div`. The arguments are the values of the parameters, in
+// their order; that of a parameter with `...` is an argument list.
+use crate::reader::Reader;
+use crate::values::{DEPTH, inspected};
+use std::alloc::Global;
+use sw_fn::{Argument, FnFault};
+use sw_row_files::{Refusal, answer_of, yes_or_no};
+use sw_text::Name;
+use sw_values::Value;
+
+// A function's name, and its arguments behind it.
+fn parts(text: &str) -> (&str, &str) {
+    text.split_once(" ; ").unwrap_or((text, ""))
+}
+
+fn push_argument(
+    alloc: Global,
+    args: &mut Vec<Argument>,
+    reader: &mut Reader,
+) -> Result<(), Refusal> {
+    let name = Name::new(alloc, "")?;
+    args.push((name, reader.value(alloc, DEPTH)?))?;
+    reader.took(" ; ");
+    Ok(())
+}
+
+fn arguments(alloc: Global, text: &str) -> Result<Vec<Argument>, Refusal> {
+    let mut args = Vec::new(alloc);
+    let mut reader = Reader::new(text);
+    for _ in 0..text.len() {
+        if reader.is_done() {
+            return Ok(args);
+        }
+        push_argument(alloc, &mut args, &mut reader)?;
+    }
+    Ok(args)
+}
+
+fn told(alloc: Global, answer: Result<Value, FnFault>) -> Result<String, Refusal> {
+    let value = answer_of(alloc, answer)?;
+    inspected(alloc, &value)
+}
+
+pub fn math(alloc: Global, name: &str, text: &str) -> Result<String, Refusal> {
+    let (function, args) = parts(text);
+    match (name, sw_fn_math::Function::by_name(function)) {
+        ("known", function) => yes_or_no(alloc, function.is_some()),
+        ("call", Some(function)) => {
+            let args = arguments(alloc, args)?;
+            told(alloc, sw_fn_math::call(alloc, function, &args))
+        }
+        _ => Err(Refusal::NoCall),
+    }
+}
+
+pub fn text(alloc: Global, name: &str, text: &str) -> Result<String, Refusal> {
+    let (function, args) = parts(text);
+    match (name, sw_fn_text::Function::by_name(function)) {
+        ("known", function) => yes_or_no(alloc, function.is_some()),
+        ("call", Some(function)) => {
+            let args = arguments(alloc, args)?;
+            told(alloc, sw_fn_text::call(alloc, function, &args))
+        }
+        _ => Err(Refusal::NoCall),
+    }
+}
+
+pub fn lists(alloc: Global, name: &str, text: &str) -> Result<String, Refusal> {
+    let (function, args) = parts(text);
+    match (name, sw_fn_list::Function::by_name(function)) {
+        ("known", function) => yes_or_no(alloc, function.is_some()),
+        ("call", Some(function)) => {
+            let args = arguments(alloc, args)?;
+            told(alloc, sw_fn_list::call(alloc, function, &args))
+        }
+        _ => Err(Refusal::NoCall),
+    }
+}
