@@ -7,7 +7,7 @@ use Rattle.sw_grammar.proofs.Loops.{Fit}
 use Rattle.sw_terminals.specs.declared.terminal.Terminal.TheVariants as terminals
 use Rattle.sw_terminals.specs.Numbers.{just}
 use Rattle.sw_syntax.specs.declared.source.Source.{Source}
-use Rattle.sw_syntax.specs.Parts.{Part, Form, Whole, Block, Value, Inside, Items, Arguing, RawInside, SpecialInside, Taking, Condition, Feature, Giving, Passing}
+use Rattle.sw_syntax.specs.Parts.{Part, Form, Whole, Block, Value, Inside, Items, Arguing, RawInside, SpecialInside, Taking, Condition, Feature, Giving, Passing, SpaceList, Sum}
 use Rattle.sw_syntax.specs.Sources.{text_of, terminal_at, terminal_in}
 use Rattle.sw_syntax.specs.Sets.{level_operators, prefixes, endings, starts, special_starts}
 use Rattle.sw_syntax.specs.Expressions.{number, insert, quoted, text_item, url_item, template, hash, constant, url, url_template, special, variable, word_insert, part_insert, word_part, word_start, word, arguments_in, called, owned_variable, owned_call, owned, range, parent, important, parens, brackets, literal, other, primary, prefix, unary, link, chain, sum, disjunction, space_item, space, list_item, expr, colon_space, pair, pairs_rest, items_rest, inside, items, named_argument, plain_argument, argument, arguing, special_expr, special_value, special_parens, special_brackets, special_item, special_inside}
@@ -31,6 +31,8 @@ module _ (source : Source) where
   forms_decided Feature = refl
   forms_decided Giving = refl
   forms_decided Passing = refl
+  forms_decided SpaceList = refl
+  forms_decided Sum = refl
 
   pub forms_nested : (form : Form) → nested opening closing (forms source form) ≡ true
   unfolding number insert quoted text_item url_item template hash constant url url_template special variable word_insert part_insert word_part word_start word arguments_in called owned_variable owned_call owned range parent important parens brackets literal other primary prefix unary link chain sum disjunction space_item space list_item expr colon_space pair pairs_rest items_rest inside items named_argument plain_argument argument arguing special_expr special_value special_parens special_brackets special_item special_inside feature and_feature or_feature not_feature features condition typed_rest typed_parts typed_part typed_name inserted typed inserted_query prefixed_query paren_feature query comma_query queries value_piece comparison colon_piece feature_inside finish block raw_item raw raw_inside optional_raw dollar_name flag default_flag colon_expr set owner assigned block_or_end property property_value declaration custom_name custom rule supports at_root at_name at import extend charset comment given_name given giving with_given as_name use_ as_prefix member_ filter passed passing with_passed forward param taking params function mixin include_name using include content return warn debug error else_if else_ if_ each for_ while_ media plain_statement load_statement member_statement flow_statement css_statement statement
@@ -47,6 +49,8 @@ module _ (source : Source) where
   forms_nested Feature = refl
   forms_nested Giving = refl
   forms_nested Passing = refl
+  forms_nested SpaceList = refl
+  forms_nested Sum = refl
 
   past : (at : ℕ) → length source.lexemes.now ≤ at → terminal_at source at ≡ 0
   unfolding terminal_at

@@ -1,11 +1,11 @@
 -- The grammar of expressions, as a table of productions (Sass specification, the syntax of expressions).
 use Rattle.std.specs.Prelude.{ℕ, zero, suc}
 use Rattle.sw_grammar.specs.Grammar.{Grammar, keep, skip, empty, seq, alt, many, sep, group, unless, build, anywhere}
-use Rattle.sw_terminals.specs.declared.terminal.Terminal.TheVariants.{Comma, Colon, Raw, RawParen, RawBracket, RawParenEnd, RawBracketEnd, Insert, InsertEnd, TextPiece, TemplateEnd, Piece, UrlEnd, Number, Sign, Quoted, Template, Hash, Url, UrlTemplate, Special, DollarNamed, Owner, Word, WordMinus, WordInsert, Range, Ampersand, Bracket, HashName, VariableName, OwnerDot, OwnerDollar, Part as WordPart, PartInsert, CallParen, ParenEnd, BracketEnd, Important, Ellipsis}
+use Rattle.sw_terminals.specs.declared.terminal.Terminal.TheVariants.{Comma, Colon, RawParen, RawBracket, RawParenEnd, RawBracketEnd, Insert, InsertEnd, TextPiece, TemplateEnd, Piece, UrlEnd, Number, Sign, Quoted, Template, Hash, Url, UrlTemplate, Special, DollarNamed, Owner, Word, WordMinus, WordInsert, Range, Ampersand, Bracket, HashName, VariableName, OwnerDot, OwnerDollar, Part as WordPart, PartInsert, CallParen, ParenEnd, BracketEnd, Important, Ellipsis}
 use Rattle.sw_terminals.specs.Numbers.{just}
 use Rattle.sw_syntax.specs.declared.source.Source.{Source}
 use Rattle.sw_syntax.specs.Parts.{Part, Form, Value, Inside, Items, Arguing, SpecialInside}
-use Rattle.sw_syntax.specs.Sets.{constants, dollars, bangs, parens_opening, prefixes, level_operators, endings}
+use Rattle.sw_syntax.specs.Sets.{constants, dollars, bangs, parens_opening, prefixes, level_operators, special_texts, endings}
 use Rattle.sw_syntax.specs.Values.{to_insert, inserted_piece, to_text, to_number, to_quoted, to_decoded, to_template, to_hash, to_constant, to_url, to_special, to_variable, to_owned, to_called, to_range, to_parent, to_important, to_parens, to_brackets, to_sign, to_unary, to_link, to_chain, to_space, to_list, to_pair, marked, sorted, to_named, to_spread, to_arguments, to_stands}
 
 module _ (source : Source) where
@@ -202,7 +202,7 @@ module _ (source : Source) where
   special_brackets = group (just RawBracket) SpecialInside (just RawBracketEnd)
 
   unfoldable pub special_item : Grammar Part Form
-  special_item = alt (skip (just Raw)) (alt insert (alt special_value (alt special_parens special_brackets)))
+  special_item = alt (skip special_texts) (alt insert (alt special_value (alt special_parens special_brackets)))
 
   unfoldable pub special_inside : Grammar Part Form
   special_inside = seq special_item (many special_item)

@@ -73,6 +73,9 @@ pub data Form : Type 0 where
   -- the configuration of `@use`, and that of `@forward`
   Giving : Form
   Passing : Form
+  -- a list without commas, as a bound of `@for` is, and a sum, as in a media query: each is read by itself
+  SpaceList : Form
+  Sum : Form
 
 abbrev pub values_of : List Part → List Expr
 values_of [] = []

@@ -1,6 +1,6 @@
 -- Sets of terminals that the grammar of expressions speaks of.
 use Rattle.std.specs.Prelude.{ℕ, zero, suc, List, [], ◌∷◌, ◌++◌}
-use Rattle.sw_terminals.specs.declared.terminal.Terminal.TheVariants.{Raw, RawParen, RawBracket, Insert, Number, Sign, Quoted, Template, Hash, True, False, Null, Url, UrlTemplate, Special, Dollar, DollarNamed, Owner, Word, WordMinus, WordInsert, Range, Ampersand, Bang, Paren, ConditionParen, Bracket, PrefixPlus, PrefixMinus, PrefixSlash, Not, Ending, Or, And, Equal, NotEqual, Less, LessEqual, Greater, GreaterEqual, Plus, Minus, Times, Divide, Modulo}
+use Rattle.sw_terminals.specs.declared.terminal.Terminal.TheVariants.{Raw, SpecialComma, RawParen, RawBracket, Insert, Number, Sign, Quoted, Template, Hash, True, False, Null, Url, UrlTemplate, Special, Dollar, DollarNamed, Owner, Word, WordMinus, WordInsert, Range, Ampersand, Bang, Paren, ConditionParen, Bracket, PrefixPlus, PrefixMinus, PrefixSlash, Not, Ending, Or, And, Equal, NotEqual, Less, LessEqual, Greater, GreaterEqual, Plus, Minus, Times, Divide, Modulo}
 use Rattle.sw_terminals.specs.Numbers.{these, just}
 
 -- the operators of each chain
@@ -65,12 +65,15 @@ primaries = literals ++ just Special ++ dollars ++ just Owner ++ others
 abbrev pub starts : List ℕ
 starts = prefixes ++ primaries
 
--- those with which a value by itself begins in a special function's text, and any item of that text
+-- text as it stands in a special function's text, with what a value by itself begins there, and any item of that text
+abbrev pub special_texts : List ℕ
+special_texts = these (Raw ∷ SpecialComma ∷ [])
+
 abbrev pub special_values : List ℕ
 special_values = numbers ++ dollars ++ just Owner ++ words
 
 abbrev pub special_starts : List ℕ
-special_starts = these (Raw ∷ Insert ∷ []) ++ special_values ++ these (RawParen ∷ RawBracket ∷ [])
+special_starts = special_texts ++ just Insert ++ special_values ++ these (RawParen ∷ RawBracket ∷ [])
 
 -- what ends a value where it could go on
 abbrev pub endings : List ℕ

@@ -1,11 +1,11 @@
--- The table: what stands in each kind of brackets, and a whole sheet.
+-- The table: what stands in each kind of brackets, a whole sheet, and what is read by itself.
 use Rattle.std.specs.Prelude.{ℕ, [], ◌∷◌, List}
 use Rattle.sw_grammar.specs.Grammar.{Grammar, ahead, seq, many}
 use Rattle.sw_terminals.specs.declared.terminal.Terminal.TheVariants as terminals
 use Rattle.sw_syntax.specs.declared.source.Source.{Source}
 use Rattle.sw_terminals.specs.Numbers.{these}
-use Rattle.sw_syntax.specs.Parts.{Part, Form, Whole, Block, Value, Inside, Items, Arguing, RawInside, SpecialInside, Taking, Condition, Feature, Giving, Passing}
-use Rattle.sw_syntax.specs.Expressions.{expr, inside, items, arguing, special_inside}
+use Rattle.sw_syntax.specs.Parts.{Part, Form, Whole, Block, Value, Inside, Items, Arguing, RawInside, SpecialInside, Taking, Condition, Feature, Giving, Passing, SpaceList, Sum}
+use Rattle.sw_syntax.specs.Expressions.{expr, inside, items, arguing, special_inside, space, sum}
 use Rattle.sw_syntax.specs.Statements.{statement, raw_inside, taking, giving, passing}
 use Rattle.sw_syntax.specs.Queries.{condition, feature_inside}
 
@@ -24,6 +24,8 @@ module _ (source : Source) where
   forms Feature = feature_inside source
   forms Giving = giving source
   forms Passing = passing source
+  forms SpaceList = space source
+  forms Sum = sum source
 
 -- the tokens that open a level, and those that close one
 abbrev pub opening : List ℕ
