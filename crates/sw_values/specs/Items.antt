@@ -1,5 +1,5 @@
--- Any value as a list (Sass reference documentation, "Lists"): a map is a list of its pairs, an argument list one of its
--- items, and any other value a list of itself.
+-- Any value as a list (Sass reference documentation, "Lists"): a map is a list of its pairs, an argument list one of
+-- its items, and any other value a list of itself.
 use Rattle.std.specs.Prelude.{false, List, [], ◌∷◌, map}
 use Rattle.sw_values.specs.declared.plain.Plain.{Plain}
 use Rattle.sw_values.specs.declared.plain.Plain.TheVariants as P

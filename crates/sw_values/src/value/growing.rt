@@ -31,7 +31,8 @@ impl Value {
     }
 
     /// The list with one more item behind its items, joined by this separator. Where nobody else holds the items they
-    /// aren't copied, and it takes constant time but for the list's growth.
+    /// aren't copied, and it takes constant time but for the list's growth. After a fault the list is left to those
+    /// who hold it besides.
     pub fn push_item(
         self,
         alloc: Global,
@@ -41,7 +42,8 @@ impl Value {
         requires { is_list self ≡ true }
         ensures ok { IfOk result (λ value. value ≡ list_with (list_parts (node_of self)) separator item) }
         ensures list { IfOk result (λ value. is_list value ≡ true) }
-        ensures err { IfErr result (λ fault. IsGrowthFault (list_with (list_parts (node_of self)) separator item) fault) }
+        ensures err { IfErr result (λ fault.
+            IsGrowthFault (list_with (list_parts (node_of self)) separator item) fault) }
     {
         let weight = self.weight() + item.weight();
         let nesting = self.nesting().max(item.nesting() + 1);
@@ -80,12 +82,14 @@ impl Value {
     }
 
     /// The map with a value for a key: a key that is there keeps its place and its spelling, and a new one comes last.
-    /// Where nobody else holds the map none of it is copied, and a new key takes constant time but for the map's growth.
+    /// Where nobody else holds the map none of it is copied, and a new key takes constant time but for the map's
+    /// growth. After a fault the map is left to those who hold it besides.
     pub fn set_key(self, alloc: Global, key: &Value, value: &Value) -> Result<Value, ValueFault>
         requires { is_map self ≡ true }
         ensures ok { IfOk result (λ made. made ≡ map_with (map_pairs (node_of self)) key.now value.now) }
         ensures map { IfOk result (λ made. is_map made ≡ true) }
-        ensures err { IfErr result (λ fault. IsGrowthFault (map_with (map_pairs (node_of self)) key.now value.now) fault) }
+        ensures err { IfErr result (λ fault.
+            IsGrowthFault (map_with (map_pairs (node_of self)) key.now value.now) fault) }
     {
         let weight = self.weight() + key.weight() + value.weight();
         let nesting = self.nesting().max(key.nesting().max(value.nesting()) + 1);
@@ -146,7 +150,8 @@ fn set_in(
 fn sized(node: Node, weight: u32, nesting: u16) -> Result<Value, ValueFault>
     requires weight { weight ≡ weigh (plain_of node) }
     requires nesting { nesting ≡ nest (plain_of node) }
-    ensures { MatchResult result (λ value. value ≡ plain_of node) (λ fault. (fault ≡ F.TooLarge) × IsTooLarge (plain_of node)) }
+    ensures { MatchResult result (λ value. value ≡ plain_of node)
+        (λ fault. (fault ≡ F.TooLarge) × IsTooLarge (plain_of node)) }
 {
     if weight > MOST_WEIGHT {
         return Err(ValueFault::TooLarge);

@@ -10,8 +10,8 @@ use std::alloc::Global;
 use sw_text::{List, Memory, Shared};
 
 impl Value {
-    /// The items of the value as a list, each with one more owner: those of a list, the pairs of a map as lists of a key
-    /// and its value with a space between, and any other value itself (Sass reference documentation, "Lists").
+    /// The items of the value, each with one more owner: those of a list, the pairs of a map as lists of a key and its
+    /// value with a space between, and any other value itself (Sass reference documentation, "Lists").
     #[tactic(auto, unfolding(crate::specs::Items::items_of))]
     pub fn items(&self, alloc: Global) -> Result<List<Value>, Memory>
         ensures { IfOk result (λ items. items ≡ items_of self.now) }
@@ -22,6 +22,7 @@ impl Value {
             Node::Colour(_) => alone(alloc, self),
             Node::List { items, .. } => shares(alloc, items.get().as_slice()),
             Node::Map(pairs) => {
+                // The map is neither too heavy nor too deep, so its pairs aren't.
                 let _weight = self.weight();
                 let _nesting = self.nesting();
                 pair_lists(alloc, pairs.as_slice())

@@ -36,6 +36,7 @@ fn push_ascii(out: &mut String, bytes: &[u8]) -> Result<(), Memory>
 fn write_fixed(alloc: Global, out: &mut String, value: Fixed) -> Result<(), Memory>
     ensures { OnOk result (string_bytes out.new ≡ string_bytes out.old ++ fixed_text value) }
 {
+    // It is in its range, so it has few digits.
     let _mantissa = value.mantissa();
     let mut text = Vec::new(alloc);
     value.write_into(&mut text)?;
@@ -122,7 +123,8 @@ fn write_sides(
     levels: u16,
     sides: &(Number, Number),
 ) -> Result<(), Memory>
-    ensures { OnOk result (out.new ≡ appended out.old (number_text levels sides.now.0 ++ codes "/" ++ number_text levels sides.now.1)) }
+    ensures { OnOk result (out.new
+        ≡ appended out.old (number_text levels sides.now.0 ++ codes "/" ++ number_text levels sides.now.1)) }
 {
     write_number(alloc, out, levels, &sides.0)?;
     out.push("/")?;
@@ -218,6 +220,7 @@ fn push_computed(alloc: Global, out: &mut String, colour: &Colour) -> Result<(),
     requires { colour.now.spelt ≡ None }
     ensures { OnOk result (string_bytes out.new ≡ string_bytes out.old ++ colour_text colour.now) }
 {
+    // Each is in its range, so it has few digits.
     let _red = colour.red();
     let _green = colour.green();
     let _blue = colour.blue();

@@ -211,7 +211,8 @@ fn write_list(
     bracketed: bool,
     items: &[Value],
 ) -> Result<(), Memory>
-    ensures { OnOk result (out.new ≡ appended out.old (in_brackets bracketed (pieces (glue_of separator) true (map (shown quotes) items.now)))) }
+    ensures { OnOk result (out.new
+        ≡ appended out.old (in_brackets bracketed (pieces (glue_of separator) true (map (shown quotes) items.now)))) }
 {
     if bracketed {
         out.push("[")?;
@@ -251,7 +252,8 @@ fn write_item(
     item: &Value,
 ) -> Result<bool, Memory>
     ensures { IfOk result (λ after. (rest : List Shown)
-        → appended out.new (pieces glue.now after rest) ≡ appended out.old (pieces glue.now first (shown quotes item.now ∷ rest))) }
+        → appended out.new (pieces glue.now after rest)
+        ≡ appended out.old (pieces glue.now first (shown quotes item.now ∷ rest))) }
 {
     if is_blank(quotes, item) {
         return Ok(first);
