@@ -6,7 +6,7 @@ use Rattle.sw_scan.specs.declared.runs.Class.{Class}
 use Rattle.sw_scan.specs.declared.runs.Class.TheVariants as classes
 use Rattle.sw_scan.specs.Bytes.{sign, byte, is_digit, starts_plainly}
 use Rattle.sw_scan.specs.Runs.{next, run_from, run_end, escape_end, starts_at, begins_name}
-use Rattle.sw_scan.proofs.Bounds.{next_from, next_within, next_past, run_step, run_forward, run_past}
+use Rattle.sw_scan.proofs.Bounds.{next_within, next_past, run_step, run_forward, run_past}
 
 pub either : {A : Type 0} (P : A → Type 0) (b : Bool) (x y : A) → (b ≡ true → P x) → (b ≡ false → P y) → P (if b then x else y)
 either P true x y f g = f refl

@@ -8,7 +8,7 @@ use Rattle.sw_scan.specs.declared.runs.Class.TheVariants as classes
 use Rattle.sw_scan.specs.declared.signs.TheConstants.{END}
 use Rattle.sw_scan.specs.Bytes.{byte, is_quote}
 use Rattle.sw_scan.specs.Runs.{escape_end, run_end}
-use Rattle.sw_scan.specs.Brackets.{closing, is_closing, innermost, over, string_end, Scan, at_place, past_string, scan_step, stopped, scan_by, scan_from, stop_behind, StopsByStep}
+use Rattle.sw_scan.specs.Brackets.{closing, is_closing, innermost, over, string_end, Scan, at_place, past_string, scan_step, stopped, scan_by, scan_from, StopsByStep}
 use Rattle.sw_scan.proofs.Bounds.{in_text, not_end, escape_onward, run_forward}
 use Rattle.sw_scan.proofs.Progress.{either}
 

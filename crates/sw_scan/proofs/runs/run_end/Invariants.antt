@@ -1,5 +1,4 @@
-use Rattle.std.proofs.Common.{◌≡◌, ◌-◌, ◌≤◌, length}
-use Rattle.std.specs.Prelude.{max}
+use Rattle.std.proofs.Common.{◌≡◌, ◌-◌, length}
 use Rattle.sw_scan.specs.Runs.{next, run_end}
 use Rattle.sw_scan.proofs.runs.run_end.Given as goal
 
