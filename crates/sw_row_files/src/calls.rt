@@ -1,4 +1,6 @@
 // Rows that are calls of libraries: a line each, as `nest a ; & b => a b`.
+ghost use Rattle.std.specs.Prelude.{◌≡◌, ◌≢◌, IfOk, IsNone};
+
 use crate::escapes::repeated;
 use crate::files::{file_text, folder, row_files};
 use crate::refusal::{Refusal, told};
@@ -75,21 +77,44 @@ fn difference<L: Libraries>(
     let wanted = repeated(alloc, wanted)?;
     match call.strip_prefix("wrong ") {
         Some(call) => {
-            if seen(alloc, libraries, library, call)? == wanted {
-                return Ok(Some(format!(in alloc;
-                    "  {call} is told wrongly, and gives {wanted}\n"
-                )?));
-            }
-            Ok(None)
+            let seen = seen(alloc, libraries, library, call)?;
+            as_told(alloc, call, wanted.as_str(), seen.as_str())
         }
         None => {
             let seen = seen(alloc, libraries, library, call)?;
-            if seen == wanted {
-                return Ok(None);
-            }
-            Ok(Some(format!(in alloc; "  {call} is to be  {wanted}\n  {call} is        {seen}\n")?))
+            not_as_told(alloc, call, wanted.as_str(), seen.as_str())
         }
     }
+}
+
+// What is to be printed of a call that doesn't give what its line says; `None` only where it does.
+fn not_as_told(
+    alloc: Global,
+    call: &str,
+    wanted: &str,
+    seen: &str,
+) -> Result<Option<String>, AllocError>
+    ensures { IfOk result (λ told. IsNone told → seen.now ≡ wanted.now) }
+{
+    if seen == wanted {
+        return Ok(None);
+    }
+    Ok(Some(format!(in alloc; "  {call} is to be  {wanted}\n  {call} is        {seen}\n")?))
+}
+
+// What is to be printed of a call that gives what its line says, though that is wrong; `None` only where it doesn't.
+fn as_told(
+    alloc: Global,
+    call: &str,
+    wanted: &str,
+    seen: &str,
+) -> Result<Option<String>, AllocError>
+    ensures { IfOk result (λ told. IsNone told → seen.now ≢ wanted.now) }
+{
+    if seen != wanted {
+        return Ok(None);
+    }
+    Ok(Some(format!(in alloc; "  {call} is told wrongly, and gives {wanted}\n")?))
 }
 
 // The call and its answer, which may be empty.
