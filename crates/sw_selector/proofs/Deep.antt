@@ -3,7 +3,6 @@ use Rattle.std.proofs.Common.{◌≡◌, ℕ, zero, suc, ◌+◌, ◌-◌, ◌�
 use Rattle.std.specs.Prelude.{slice_get}
 use Rattle.std.specs.List.{flat_map}
 use Rattle.std.proofs.lemmas.Bool.Decides.{nat_tests}
-use Rattle.sw_scan.specs.Pieces.{piece}
 use Rattle.sw_scan.proofs.Progress.{either}
 use Rattle.sw_selector.specs.declared.reader.TheConstants.{LEVELS}
 use Rattle.sw_selector.specs.declared.selector.Combinator.{Combinator}
@@ -15,7 +14,7 @@ use Rattle.sw_selector.specs.Depth.{greatest_by, part_depth, complex_depth, list
 use Rattle.sw_selector.specs.declared.holds.Sought.TheVariants as soughts
 use Rattle.sw_selector.specs.Holds.{is_reference_by, is_reference, refers, complex_holds}
 use Rattle.sw_selector.specs.Grammar as g
-use Rattle.sw_selector.specs.Grammar.{Inner, Simple, Head, Simples, Compound, Compounds, IsComplex, Argument, Listed, Arguments, IsSelectorList}
+use Rattle.sw_selector.specs.Grammar.{Inner, pseudo_name, Simple, Head, Simples, Compound, Compounds, IsComplex, Argument, Listed, Arguments, IsSelectorList}
 use Rattle.sw_selector.specs.Reading.{complexes_of}
 use Rattle.sw_selector.specs.Nesting.{is_led, ends_in_space, suffixed_by, suffixed_part, last_suffixed, suffixed, opened, spliced_by, part_spliced, parts_spliced, spliced, inner_by, inner_of, part_prepared, parts_prepared, inner_nested, prepared, descended, nested, all_nested, too_deep}
 use Rattle.sw_selector.proofs.Lists.{list_told}
@@ -56,7 +55,7 @@ module _ (bs : List ℕ) (inner : Inner) (n : ℕ) (less : (i j : ℕ) (list : L
   simple_depth i j part (g.Simple.attribute s e) = zero_le n part (depth_closed 0 _)
   simple_depth i j part (g.Simple.pseudo s m e) = zero_le n part (depth_named 0 _)
   simple_depth i j part (g.Simple.pseudo_of {j = m} {k} {list} s name o takes within close) =
-      let e = depth_pseudo 0 (piece bs i m) list in let h = less (m + 1) k list within in omega (arith, e, h)
+      let e = depth_pseudo 0 (pseudo_name bs i m) list in let h = less (m + 1) k list within in omega (arith, e, h)
   simple_depth i j part (g.Simple.pseudo_with s m o takes stop close lt) = zero_le n part (depth_closed 0 _)
 
   head_depth : (i j : ℕ) (part : Part) → Head bs i j part → part_depth 0 part ≤ n

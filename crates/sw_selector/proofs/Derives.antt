@@ -16,10 +16,11 @@ use Rattle.sw_selector.specs.declared.turn.Before.{Before}
 use Rattle.sw_selector.specs.declared.turn.Before.TheVariants as befores
 use Rattle.sw_selector.specs.declared.turn.Turn.TheVariants as turns
 use Rattle.sw_selector.specs.Attributes.{white, name_end, prefix_end, attribute_end}
+use Rattle.sw_selector.specs.Names.{name_text}
 use Rattle.sw_selector.specs.Simples.{text_at, as_part, class_at, placeholder_at, type_behind, type_at, attribute_by, attribute_at, parent_at, takes_selectors, with_argument, argument_text, raw_by, raw_at, colons_end}
 use Rattle.sw_selector.specs.Reading.{Lists, closed_by, argument_at, pseudo_behind, pseudo_at, is_simple, is_joined, head_at, simple_at, combinator_of, ends_complex, simple_turn, plain_turn, joined_turn, spaced_turn, turn_at, complex_from, complex_at}
 use Rattle.sw_selector.specs.Grammar as g
-use Rattle.sw_selector.specs.Grammar.{Inner, Name, Simple, Head, Simples, Compound, Joint, Compounds, Ends, IsComplex}
+use Rattle.sw_selector.specs.Grammar.{Inner, Name, pseudo_name, Simple, Head, Simples, Compound, Joint, Compounds, Ends, IsComplex}
 use Rattle.sw_selector.proofs.Loops.{complex_takes, complex_stops}
 use Rattle.sw_selector.proofs.Lexical.{equal, split, begins_simple, begins_word, begins_type, begins_part, in_or, not_white, not_end, not_sign, sign_not_end, stands, white_forward, white_none, white_twice, name_first, name_forward, name_further, prefix_forward, type_first, any_first, colons_forward, attribute_further}
 
@@ -50,23 +51,23 @@ module _ (bs : List ℕ) (deeper : Lists) (inner : Inner) (fits : Fits bs deeper
   by_byte before i b e = ap (chosen before i) e
 
   -- names
-  text_found : (i k j : ℕ) → Name bs k j → text_at bs i k ≡ Some (piece bs i j, j)
+  text_found : (i k j : ℕ) → Name bs k j → text_at bs i k ≡ Some (name_text bs i k j, j)
   unfolding text_at
-  text_found i k j n = if_true (begins_name bs k) _ None n.0 ∙ ap (λ (m : ℕ). Some (piece bs i m, m)) (sym n.1)
+  text_found i k j n = if_true (begins_name bs k) _ None n.0 ∙ ap (λ (m : ℕ). Some (name_text bs i k m, m)) (sym n.1)
 
   -- a part that is named by a text behind it
   record Told (kind : List ℕ → Part) (i k j : ℕ) (part : Part) : Type 0 where
     name : Name bs k j
-    is : kind (piece bs i j) ≡ part
+    is : kind (name_text bs i k j) ≡ part
 
   text_told : (kind : List ℕ → Part) (i k j : ℕ) (part : Part) → as_part kind (text_at bs i k) ≡ Some (part, j) → Told kind i k j part
   unfolding text_at
   text_told kind i k j part e = go (begins_name bs k) refl e
     where
-      go : (t : Bool) → begins_name bs k ≡ t → as_part kind (if t then Some (piece bs i (name_end bs k), name_end bs k) else None) ≡ Some (part, j) → Told kind i k j part
+      go : (t : Bool) → begins_name bs k ≡ t → as_part kind (if t then Some (name_text bs i k (name_end bs k), name_end bs k) else None) ≡ Some (part, j) → Told kind i k j part
       go true m f =
           let end = same_second f in
-          record { name = (m, sym end); is = ap (λ (x : ℕ). kind (piece bs i x)) (sym end) ∙ same_first f }
+          record { name = (m, sym end); is = ap (λ (x : ℕ). kind (name_text bs i k x)) (sym end) ∙ same_first f }
       go false m f = absurd (cc)
 
   -- simple selectors that may stand behind another
@@ -88,10 +89,10 @@ module _ (bs : List ℕ) (deeper : Lists) (inner : Inner) (fits : Fits bs deeper
       both true b e f = f
       both false b e f = absurd (cc)
 
-  pseudo_found : (i j : ℕ) → Name bs (colons_end bs i) j → pseudo_at deeper bs i ≡ pseudo_behind deeper bs (piece bs i j) j
+  pseudo_found : (i j : ℕ) → Name bs (colons_end bs i) j → pseudo_at deeper bs i ≡ pseudo_behind deeper bs (pseudo_name bs i j) j
   unfolding pseudo_at
   pseudo_found i j n =
-      if_true (begins_name bs (colons_end bs i)) _ None n.0 ∙ ap (λ (m : ℕ). pseudo_behind deeper bs (piece bs i m) m) (sym n.1)
+      if_true (begins_name bs (colons_end bs i)) _ None n.0 ∙ ap (λ (m : ℕ). pseudo_behind deeper bs (pseudo_name bs i m) m) (sym n.1)
 
   behind_plain : (name : List ℕ) (j : ℕ) → (byte bs j == sign "(") ≡ false → pseudo_behind deeper bs name j ≡ Some (parts.Named name, j)
   unfolding pseudo_behind
@@ -106,11 +107,11 @@ module _ (bs : List ℕ) (deeper : Lists) (inner : Inner) (fits : Fits bs deeper
   simple_found before i j part (g.Simple.id s n) = by_byte before i (sign "#") s ∙ ap (as_part parts.Named) (text_found i (i + 1) j n)
   simple_found before i j part (g.Simple.placeholder s n) = by_byte before i (sign "%") s ∙ ap (as_part parts.Placeholder) (text_found i (i + 1) j n)
   simple_found before i j part (g.Simple.attribute s e) = by_byte before i (sign "[") s ∙ ap (attribute_by bs i) e
-  simple_found before i j part (g.Simple.pseudo s n e) = by_byte before i (sign ":") s ∙ pseudo_found i j n ∙ behind_plain (piece bs i j) j e
+  simple_found before i j part (g.Simple.pseudo s n e) = by_byte before i (sign ":") s ∙ pseudo_found i j n ∙ behind_plain (pseudo_name bs i j) j e
   simple_found before i j part (g.Simple.pseudo_of {j = m} {k} {list} s n o takes within close) =
-      by_byte before i (sign ":") s ∙ pseudo_found i m n ∙ behind_open (piece bs i m) m o ∙ argument_found (piece bs i m) (m + 1) k list takes within close
+      by_byte before i (sign ":") s ∙ pseudo_found i m n ∙ behind_open (pseudo_name bs i m) m o ∙ argument_found (pseudo_name bs i m) (m + 1) k list takes within close
   simple_found before i j part (g.Simple.pseudo_with {j = m} {k} s n o takes stop close lt) =
-      by_byte before i (sign ":") s ∙ pseudo_found i m n ∙ behind_open (piece bs i m) m o ∙ raw_found (piece bs i m) (m + 1) k takes stop close lt
+      by_byte before i (sign ":") s ∙ pseudo_found i m n ∙ behind_open (pseudo_name bs i m) m o ∙ raw_found (pseudo_name bs i m) (m + 1) k takes stop close lt
 
   -- what only begins a compound
   abbrev headed : Before → ℕ → ℕ → Option (Part × ℕ)
@@ -143,7 +144,7 @@ module _ (bs : List ℕ) (deeper : Lists) (inner : Inner) (fits : Fits bs deeper
   unfolding parent_at type_behind
   head_found before i j part (g.Head.parent s e) f =
       by_byte before i (sign "&") s ∙ head_is before i ∙ ap (headed before i) s ∙ if_false (is_simple before) None _ f
-      ∙ ap (λ (m : ℕ). Some (parts.Parent (piece bs (i + 1) m), m)) (sym e)
+      ∙ ap (λ (m : ℕ). Some (parts.Parent (name_text bs (i + 1) (i + 1) m), m)) (sym e)
   head_found before i j part (g.Head.type {k} p n) f =
       by_type before i (type_first bs i (ap (begins_name bs) (sym p) ∙ n.0)) f ∙ ap (type_behind bs i) (sym p)
       ∙ if_false (byte bs k == sign "*") _ _ (name_not_star k n.0) ∙ ap (as_part parts.Named) (text_found i k j n)
@@ -207,46 +208,46 @@ module _ (bs : List ℕ) (deeper : Lists) (inner : Inner) (fits : Fits bs deeper
       (e ∙ ap (λ (x : ℕ). Some x) same, ap (λ (x : ℕ). parts.Closed (piece bs i x)) (sym same) ∙ same_first f)
 
   closed_told : (before : Before) (i m j : ℕ) (part : Part) (o : Option (List (List Part) × ℕ)) → byte bs i ≡ sign ":" → Name bs (colons_end bs i) m → byte bs m ≡ sign "("
-      → takes_selectors (piece bs i m) ≡ true → deeper (m + 1) ≡ o → closed_by bs (piece bs i m) o ≡ Some (part, j) → Found before i j part
+      → takes_selectors (pseudo_name bs i m) ≡ true → deeper (m + 1) ≡ o → closed_by bs (pseudo_name bs i m) o ≡ Some (part, j) → Found before i j part
   unfolding closed_by
   closed_told before i m j part None s n p takes e f = absurd (cc)
   closed_told before i m j part (Some x) s n p takes e f =
-      split (byte bs x.1 == sign ")") (Some (parts.Pseudo (piece bs i m) x.0, x.1 + 1)) None (Some (part, j))
+      split (byte bs x.1 == sign ")") (Some (parts.Pseudo (pseudo_name bs i m) x.0, x.1 + 1)) None (Some (part, j))
       (λ close h. subst (λ (k : ℕ). Found before i k part) (same_second h)
       (found_as before i (x.1 + 1) (same_first h) (g.Simple.pseudo_of s n p takes (fits.sound (m + 1) x.1 x.0 e) (equal (byte bs x.1) (sign ")") close))))
       (λ close h. absurd (cc)) f
 
   raw_told : (before : Before) (i m j : ℕ) (part : Part) (o : Option ℕ) → byte bs i ≡ sign ":" → Name bs (colons_end bs i) m → byte bs m ≡ sign "("
-      → takes_selectors (piece bs i m) ≡ false → stop_at stops.Argument bs (m + 1) ≡ o → raw_by bs (piece bs i m) (m + 1) o ≡ Some (part, j) → Found before i j part
+      → takes_selectors (pseudo_name bs i m) ≡ false → stop_at stops.Argument bs (m + 1) ≡ o → raw_by bs (pseudo_name bs i m) (m + 1) o ≡ Some (part, j) → Found before i j part
   unfolding raw_by
   raw_told before i m j part None s n p takes e f = absurd (cc)
   raw_told before i m j part (Some k) s n p takes e f =
-      split ((byte bs k == sign ")") && nat_lt (white bs (m + 1)) k) (Some (parts.Closed (with_argument (piece bs i m) (argument_text bs (m + 1) k)), k + 1)) None (Some (part, j))
+      split ((byte bs k == sign ")") && nat_lt (white bs (m + 1)) k) (Some (parts.Closed (with_argument (pseudo_name bs i m) (argument_text bs (m + 1) k)), k + 1)) None (Some (part, j))
       (λ close h. subst (λ (x : ℕ). Found before i x part) (same_second h)
       (found_as before i (k + 1) (same_first h) (g.Simple.pseudo_with s n p takes e (equal (byte bs k) (sign ")") (and_left (byte bs k == sign ")") _ close))
       (let lt = and_right (byte bs k == sign ")") _ close in grind (arith, nat_tests)))))
       (λ close h. absurd (cc)) f
 
   argument_told : (before : Before) (i m j : ℕ) (part : Part) → byte bs i ≡ sign ":" → Name bs (colons_end bs i) m → byte bs m ≡ sign "("
-      → argument_at deeper bs (piece bs i m) (m + 1) ≡ Some (part, j) → Found before i j part
+      → argument_at deeper bs (pseudo_name bs i m) (m + 1) ≡ Some (part, j) → Found before i j part
   unfolding argument_at
   argument_told before i m j part s n p e =
-      split (takes_selectors (piece bs i m)) (closed_by bs (piece bs i m) (deeper (m + 1))) (raw_at bs (piece bs i m) (m + 1)) (Some (part, j))
+      split (takes_selectors (pseudo_name bs i m)) (closed_by bs (pseudo_name bs i m) (deeper (m + 1))) (raw_at bs (pseudo_name bs i m) (m + 1)) (Some (part, j))
       (λ takes f. closed_told before i m j part (deeper (m + 1)) s n p takes refl f)
       (λ takes f. raw_told before i m j part (stop_at stops.Argument bs (m + 1)) s n p takes refl f) e
 
   behind_told : (before : Before) (i m j : ℕ) (part : Part) → byte bs i ≡ sign ":" → Name bs (colons_end bs i) m
-      → pseudo_behind deeper bs (piece bs i m) m ≡ Some (part, j) → Found before i j part
+      → pseudo_behind deeper bs (pseudo_name bs i m) m ≡ Some (part, j) → Found before i j part
   unfolding pseudo_behind
   behind_told before i m j part s n e =
-      split (byte bs m == sign "(") (argument_at deeper bs (piece bs i m) (m + 1)) (Some (parts.Named (piece bs i m), m)) (Some (part, j))
+      split (byte bs m == sign "(") (argument_at deeper bs (pseudo_name bs i m) (m + 1)) (Some (parts.Named (pseudo_name bs i m), m)) (Some (part, j))
       (λ p f. argument_told before i m j part s n (equal (byte bs m) (sign "(") p) f)
       (λ p f. subst (λ (x : ℕ). Found before i x part) (same_second f) (found_as before i m (same_first f) (g.Simple.pseudo s n p))) e
 
   pseudo_told : (before : Before) (i j : ℕ) (part : Part) → byte bs i ≡ sign ":" → pseudo_at deeper bs i ≡ Some (part, j) → Found before i j part
   unfolding pseudo_at
   pseudo_told before i j part s e =
-      split (begins_name bs (colons_end bs i)) (pseudo_behind deeper bs (piece bs i (name_end bs (colons_end bs i))) (name_end bs (colons_end bs i))) None (Some (part, j))
+      split (begins_name bs (colons_end bs i)) (pseudo_behind deeper bs (pseudo_name bs i (name_end bs (colons_end bs i))) (name_end bs (colons_end bs i))) None (Some (part, j))
       (λ m f. behind_told before i (name_end bs (colons_end bs i)) j part s (m, refl) f) (λ m f. absurd (cc)) e
 
   parent_told : (before : Before) (i j : ℕ) (part : Part) → byte bs i ≡ sign "&" → is_simple before ≡ false → parent_at bs i ≡ Some (part, j) → Found before i j part

@@ -2,6 +2,10 @@ pub mod Loops
 pub mod Turns
 pub mod Pairs
 pub mod Lexical
+pub mod Unclosed
+pub mod Kept
+pub mod Begins
+pub mod Written
 pub mod Derives
 pub mod Lists
 pub mod Whole

@@ -12,6 +12,7 @@ use Rattle.sw_selector.specs.declared.selector.Part.TheVariants as parts
 use Rattle.sw_selector.specs.declared.selector.Combinator.{Combinator}
 use Rattle.sw_selector.specs.declared.selector.Combinator.TheVariants as combinators
 use Rattle.sw_selector.specs.Attributes.{white, name_end, prefix_end, attribute_end}
+use Rattle.sw_selector.specs.Names.{name_text}
 use Rattle.sw_selector.specs.Simples.{takes_selectors, with_argument, argument_text, colons_end}
 use Rattle.sw_selector.specs.Reading.{combinator_of, ends_complex, commas_end}
 
@@ -23,34 +24,41 @@ Inner = ℕ → ℕ → List (List Part) → Type 0
 abbrev pub Name : List ℕ → ℕ → ℕ → Type 0
 Name bs i j = (begins_name bs i ≡ true) × (j ≡ name_end bs i)
 
+-- a pseudo's colons and name
+abbrev pub pseudo_name : List ℕ → ℕ → ℕ → List ℕ
+pseudo_name bs i j = name_text bs i (colons_end bs i) j
+
 -- classes, ids, placeholders, attributes and pseudos
 pub data Simple (inner : Inner) (bs : List ℕ) : ℕ → ℕ → Part → Type 0 where
-  class : {i j : ℕ} → byte bs i ≡ sign "." → Name bs (i + 1) j → Simple inner bs i j (parts.Named (piece bs i j))
-  id : {i j : ℕ} → byte bs i ≡ sign "#" → Name bs (i + 1) j → Simple inner bs i j (parts.Named (piece bs i j))
+  class : {i j : ℕ} → byte bs i ≡ sign "." → Name bs (i + 1) j
+      → Simple inner bs i j (parts.Named (name_text bs i (i + 1) j))
+  id : {i j : ℕ} → byte bs i ≡ sign "#" → Name bs (i + 1) j
+      → Simple inner bs i j (parts.Named (name_text bs i (i + 1) j))
   placeholder : {i j : ℕ} → byte bs i ≡ sign "%" → Name bs (i + 1) j
-      → Simple inner bs i j (parts.Placeholder (piece bs i j))
+      → Simple inner bs i j (parts.Placeholder (name_text bs i (i + 1) j))
   attribute : {i j : ℕ} → byte bs i ≡ sign "[" → attribute_end bs i ≡ Some j
       → Simple inner bs i j (parts.Closed (piece bs i j))
   -- one or two colons and a name
   pseudo : {i j : ℕ} → byte bs i ≡ sign ":" → Name bs (colons_end bs i) j → (byte bs j == sign "(") ≡ false
-      → Simple inner bs i j (parts.Named (piece bs i j))
+      → Simple inner bs i j (parts.Named (pseudo_name bs i j))
   -- with selectors in parentheses
   pseudo_of : {i j k : ℕ} {list : List (List Part)} → byte bs i ≡ sign ":" → Name bs (colons_end bs i) j
       → byte bs j ≡ sign "("
-      → takes_selectors (piece bs i j) ≡ true → inner (j + 1) k list → byte bs k ≡ sign ")"
-      → Simple inner bs i (k + 1) (parts.Pseudo (piece bs i j) list)
+      → takes_selectors (pseudo_name bs i j) ≡ true → inner (j + 1) k list → byte bs k ≡ sign ")"
+      → Simple inner bs i (k + 1) (parts.Pseudo (pseudo_name bs i j) list)
   -- with another text in parentheses, which isn't blank and whose strings and brackets are closed
   pseudo_with : {i j k : ℕ} → byte bs i ≡ sign ":" → Name bs (colons_end bs i) j → byte bs j ≡ sign "("
-      → takes_selectors (piece bs i j) ≡ false → stop_at stops.Argument bs (j + 1) ≡ Some k → byte bs k ≡ sign ")"
+      → takes_selectors (pseudo_name bs i j) ≡ false → stop_at stops.Argument bs (j + 1) ≡ Some k → byte bs k ≡ sign ")"
       → white bs (j + 1) < k
-      → Simple inner bs i (k + 1) (parts.Closed (with_argument (piece bs i j) (argument_text bs (j + 1) k)))
+      → Simple inner bs i (k + 1) (parts.Closed (with_argument (pseudo_name bs i j) (argument_text bs (j + 1) k)))
 
 -- what only begins a compound
 pub data Head (bs : List ℕ) : ℕ → ℕ → Part → Type 0 where
   -- `&` with the name characters behind it
-  parent : {i j : ℕ} → byte bs i ≡ sign "&" → j ≡ name_end bs (i + 1) → Head bs i j (parts.Parent (piece bs (i + 1) j))
+  parent : {i j : ℕ} → byte bs i ≡ sign "&" → j ≡ name_end bs (i + 1)
+      → Head bs i j (parts.Parent (name_text bs (i + 1) (i + 1) j))
   -- a type or `*`, behind a namespace prefix if one stands there
-  type : {i j k : ℕ} → k ≡ prefix_end bs i → Name bs k j → Head bs i j (parts.Named (piece bs i j))
+  type : {i j k : ℕ} → k ≡ prefix_end bs i → Name bs k j → Head bs i j (parts.Named (name_text bs i k j))
   any : {i k : ℕ} → k ≡ prefix_end bs i → byte bs k ≡ sign "*" → Head bs i (k + 1) (parts.Closed (piece bs i (k + 1)))
 
 -- simple selectors with nothing between

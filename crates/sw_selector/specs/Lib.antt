@@ -2,6 +2,7 @@ pub mod Attributes
 pub mod Depth
 pub mod Holds
 pub mod Laws
+pub mod Names
 pub mod Nesting
 pub mod Reading
 pub mod Simples

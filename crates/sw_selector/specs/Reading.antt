@@ -6,7 +6,6 @@ use Rattle.sw_scan.specs.declared.signs.TheConstants.{END}
 use Rattle.sw_scan.specs.declared.runs.Class.TheVariants as classes
 use Rattle.sw_scan.specs.Bytes.{sign, byte}
 use Rattle.sw_scan.specs.Runs.{run_end, begins_name}
-use Rattle.sw_scan.specs.Pieces.{piece}
 use Rattle.sw_selector.specs.declared.reader.TheConstants.{LEVELS, MOST_SELECTORS}
 use Rattle.sw_selector.specs.declared.fault.SelectorFault.{SelectorFault}
 use Rattle.sw_selector.specs.declared.fault.SelectorFault.TheVariants.{BadSelector, NoParent, TooLarge, Memory}
@@ -20,6 +19,7 @@ use Rattle.sw_selector.specs.declared.turn.Before.TheVariants as befores
 use Rattle.sw_selector.specs.declared.turn.Turn.{Turn}
 use Rattle.sw_selector.specs.declared.turn.Turn.TheVariants as turns
 use Rattle.sw_selector.specs.Attributes.{white, name_end}
+use Rattle.sw_selector.specs.Names.{name_text}
 use Rattle.sw_selector.specs.Simples.{class_at, placeholder_at, attribute_at, type_at, parent_at, takes_selectors, raw_at, colons_end}
 
 -- complex selectors and the place behind them, from a place on
@@ -43,7 +43,8 @@ pseudo_behind deeper bs name i =
 unfoldable pub pseudo_at : Lists → List ℕ → ℕ → Option (Part × ℕ)
 pseudo_at deeper bs i =
     if begins_name bs (colons_end bs i)
-    then pseudo_behind deeper bs (piece bs i (name_end bs (colons_end bs i))) (name_end bs (colons_end bs i)) else None
+    then pseudo_behind deeper bs (name_text bs i (colons_end bs i) (name_end bs (colons_end bs i)))
+    (name_end bs (colons_end bs i)) else None
 
 abbrev pub is_simple : Before → Bool
 is_simple befores.Simple = true

@@ -1,5 +1,5 @@
 -- Simple selectors that hold no other selectors.
-use Rattle.std.specs.Prelude.{◌≡◌, ℕ, ◌+◌, List, ◌++◌, Option, Some, None, Result, Ok, Err, Bool, ◌&&◌, ◌||◌, ◌==◌, nat_lt, codes, bytes_eq, if◌then◌else◌}
+use Rattle.std.specs.Prelude.{◌≡◌, ℕ, ◌+◌, ◌-◌, List, ◌++◌, Option, Some, None, Result, Ok, Err, Bool, ◌&&◌, ◌||◌, ◌==◌, nat_lt, codes, bytes_eq, if◌then◌else◌}
 use Rattle.sw_scan.specs.declared.brackets.Stops.TheVariants as stops
 use Rattle.sw_scan.specs.Bytes.{sign, byte}
 use Rattle.sw_scan.specs.Runs.{begins_name}
@@ -10,6 +10,7 @@ use Rattle.sw_selector.specs.declared.fault.SelectorFault.TheVariants.{BadSelect
 use Rattle.sw_selector.specs.declared.selector.Part.{Part}
 use Rattle.sw_selector.specs.declared.selector.Part.TheVariants as parts
 use Rattle.sw_selector.specs.Attributes.{white, name_end, prefix_end, attribute_end}
+use Rattle.sw_selector.specs.Names.{name_text}
 
 -- what was read is what the definition says, and nothing was read exactly where it says none, or for want of memory
 abbrev pub IsRead : {T : Type 0} → Result T SelectorFault → Option T → Type 0
@@ -21,7 +22,7 @@ IsRead (Err TooLarge) said = ⊥
 
 -- what stands from i on up to behind the name that begins at j, and where that ends
 unfoldable pub text_at : List ℕ → ℕ → ℕ → Option (List ℕ × ℕ)
-text_at bs i j = if begins_name bs j then Some (piece bs i (name_end bs j), name_end bs j) else None
+text_at bs i j = if begins_name bs j then Some (name_text bs i j (name_end bs j), name_end bs j) else None
 
 abbrev pub as_part : (List ℕ → Part) → Option (List ℕ × ℕ) → Option (Part × ℕ)
 as_part kind None = None
@@ -52,7 +53,7 @@ attribute_at bs i = attribute_by bs i (attribute_end bs i)
 
 -- `&` with the name characters behind it
 unfoldable pub parent_at : List ℕ → ℕ → Option (Part × ℕ)
-parent_at bs i = Some (parts.Parent (piece bs (i + 1) (name_end bs (i + 1))), name_end bs (i + 1))
+parent_at bs i = Some (parts.Parent (name_text bs (i + 1) (i + 1) (name_end bs (i + 1))), name_end bs (i + 1))
 
 abbrev pub takes_list : List ℕ → Bool
 takes_list name =
@@ -74,9 +75,15 @@ takes_selectors name = takes_list name || takes_scope name
 abbrev pub with_argument : List ℕ → List ℕ → List ℕ
 with_argument name argument = name ++ codes "(" ++ argument ++ codes ")"
 
+-- where an argument from i up to j ends without the white space behind it, but for one behind a `\`
+unfoldable pub argument_end : List ℕ → ℕ → ℕ → ℕ
+argument_end bs i j =
+    if (byte bs (trimmed_end bs i j - 1) == sign "\\") && nat_lt (trimmed_end bs i j) j
+    then trimmed_end bs i j + 1 else trimmed_end bs i j
+
 -- the argument from i up to j without the white space around it
 abbrev pub argument_text : List ℕ → ℕ → ℕ → List ℕ
-argument_text bs i j = piece bs (white bs i) (trimmed_end bs (white bs i) j)
+argument_text bs i j = piece bs (white bs i) (argument_end bs (white bs i) j)
 
 -- another argument is any text that isn't blank and whose strings and brackets are closed
 unfoldable pub raw_by : List ℕ → List ℕ → ℕ → Option ℕ → Option (Part × ℕ)

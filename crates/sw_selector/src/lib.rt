@@ -8,6 +8,7 @@ mod fault;
 mod holds;
 mod laws;
 mod misfits;
+mod name;
 mod nesting;
 mod parents;
 mod prepare;
@@ -20,7 +21,7 @@ mod units;
 mod write;
 
 pub use fault::SelectorFault;
-pub use laws::{nests_in_order, never_too_deep, reads_the_grammar, writes_all_others};
+pub use laws::{keeps_names, nests_in_order, never_too_deep, reads_the_grammar, writes_all_others};
 pub use nesting::nest;
 pub use reader::{LEVELS, MOST_SELECTORS, read};
 pub use selector::Selectors;

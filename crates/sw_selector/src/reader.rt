@@ -5,9 +5,9 @@ ghost use Rattle.sw_selector.specs.Simples.{IsRead};
 ghost use Rattle.sw_selector.specs.Reading.{closed_by, argument_at, pseudo_behind, pseudo_at, head_at, simple_at, simple_turn, plain_turn, combinator_turn, spaced_turn, turn_at, last_turn, complex_at, list_at, selectors_in, commas_end, complexes_of, selectors_of, within_limit, IsAnswer};
 
 use crate::attribute::{name_end, white};
+use crate::name::name_text;
 use crate::simple::{
-    attribute_at, class_at, colons_end, parent_at, placeholder_at, raw_at, takes_selectors,
-    text_of, type_at,
+    attribute_at, class_at, colons_end, parent_at, placeholder_at, raw_at, takes_selectors, type_at,
 };
 use crate::turn::{Before, Turn, combinator_of, ends_complex, is_joined, is_simple};
 use crate::{Combinator, Complex, Part, SelectorFault, Selectors};
@@ -265,7 +265,7 @@ fn pseudo_at(
         return Err(SelectorFault::BadSelector);
     }
     let to = name_end(text.as_bytes(), start);
-    let name = text_of(alloc, text, at, to)?;
+    let name = name_text(alloc, text, at, start, to)?;
     pseudo_behind(alloc, text, levels, name, to)
 }
 

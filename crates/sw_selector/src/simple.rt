@@ -1,21 +1,14 @@
 // Simple selectors that hold no other selectors.
 ghost use Rattle.std.specs.Prelude.{◌≡◌, ◌<◌, ◌++◌, length, IfOk};
 ghost use Rattle.std.specs.String.{string_bytes};
-ghost use Rattle.sw_scan.specs.Pieces.{piece};
-ghost use Rattle.sw_selector.specs.Simples.{IsRead, text_at, class_at, placeholder_at, type_behind, type_at, attribute_at, parent_at, takes_list, takes_scope, takes_selectors, with_argument, argument_text, raw_by, raw_at, colons_end};
+ghost use Rattle.sw_selector.specs.Simples.{IsRead, text_at, class_at, placeholder_at, type_behind, type_at, attribute_at, parent_at, takes_list, takes_scope, takes_selectors, with_argument, argument_end, argument_text, raw_by, raw_at, colons_end};
 
 use crate::attribute::{attribute_end, name_end, prefix_end, white};
+use crate::name::{name_text, text_of};
 use crate::{Part, SelectorFault};
 use std::alloc::Global;
 use sw_scan::{Stops, begins_name, byte_at, piece, signs, stop_at, trimmed_end};
 use sw_text::{Memory, Name};
-
-/// What stands between two places.
-pub fn text_of(alloc: Global, text: &str, from: usize, to: usize) -> Result<Name, Memory>
-    ensures { IfOk result (λ name. name ≡ piece text.now from to) }
-{
-    Name::new(alloc, piece(text, from, to))
-}
 
 #[tactic(auto, unfolding(crate::specs::Simples::text_at))]
 fn text_at(
@@ -30,7 +23,7 @@ fn text_at(
         return Err(SelectorFault::BadSelector);
     }
     let to = name_end(text.as_bytes(), at);
-    let name = text_of(alloc, text, from, to)?;
+    let name = name_text(alloc, text, from, at, to)?;
     Ok((name, to))
 }
 
@@ -95,7 +88,7 @@ pub fn parent_at(alloc: Global, text: &str, at: usize) -> Result<(Part, usize), 
     ensures { IsRead result (parent_at text.now at) }
 {
     let to = name_end(text.as_bytes(), at + 1);
-    let suffix = text_of(alloc, text, at + 1, to)?;
+    let suffix = name_text(alloc, text, at + 1, at + 1, to)?;
     Ok((Part::Parent(suffix), to))
 }
 
@@ -134,11 +127,23 @@ fn with_argument(alloc: Global, name: &str, argument: &str) -> Result<Name, Memo
     Name::new(alloc, text.as_str())
 }
 
+#[tactic(auto, unfolding(crate::specs::Simples::argument_end))]
+fn argument_end(bytes: &[u8], from: usize, to: usize) -> usize
+    ensures { result ≡ argument_end bytes.now from to }
+{
+    let end = trimmed_end(bytes, from, to);
+    if byte_at(bytes, end.saturating_sub(1)) == signs::BACKSLASH && end < to {
+        end + 1
+    } else {
+        end
+    }
+}
+
 fn argument_text(text: &str, from: usize, to: usize) -> &str
     ensures { result.now ≡ argument_text text.now from to }
 {
     let start = white(text.as_bytes(), from);
-    piece(text, start, trimmed_end(text.as_bytes(), start, to))
+    piece(text, start, argument_end(text.as_bytes(), start, to))
 }
 
 #[tactic(auto, unfolding(crate::specs::Simples::raw_by))]
