@@ -1,8 +1,6 @@
 -- Evaluations that were cut off for want of memory.
-use Rattle.std.proofs.Common.{◌≡◌, ℕ, ◌+◌, ◌<◌, ◌≤◌, List, [], ◌∷◌, ◌++◌, length, take, drop, get_or, suc, slice_get, ◌⊎◌, Option, Some, None, Result, Ok, Err, refl, sym, ◌∙◌, ap, subst, append_assoc, append-nil, length-append, arith, inl, inr}
-use Rattle.std.proofs.lemmas.List.{take-append-drop}
+use Rattle.std.proofs.Common.{◌≡◌, ℕ, ◌+◌, ◌<◌, List, [], ◌∷◌, ◌++◌, length, take, drop, get_or, suc, slice_get, ◌⊎◌, Option, Some, None, Ok, refl, sym, ◌∙◌, ap, subst, append_assoc, append-nil, length-append, arith, inl, inr}
 use Rattle.std.proofs.Math.Seq.{take-append_seam}
-use Rattle.sw_text.specs.declared.fault.Fault.{Fault}
 use Rattle.sw_tree.specs.declared.sheet.Sheet.{Sheet}
 use Rattle.sw_values.specs.declared.plain.Plain.{Plain}
 use Rattle.sw_folder.specs.Files.{Files}
@@ -16,14 +14,14 @@ use Rattle.sw_world.specs.Questions.{IsLoad, Fits}
 use Rattle.sw_world.specs.Laws.{EndsInTime}
 use Rattle.sw_world.specs.Progress.{Progress, Waiting, IsBody, Went}
 use Rattle.sw_modules.specs.declared.live.Begin.{Begin}
-use Rattle.sw_modules.specs.declared.live.Begin.TheVariants.{Answered, Open}
+use Rattle.sw_modules.specs.declared.live.Begin.TheVariants.{Open}
 use Rattle.sw_modules.specs.declared.live.Enter.{Enter}
 use Rattle.sw_modules.specs.declared.live.Enter.TheVariants.{Open as Open_entry}
 use Rattle.sw_modules.specs.Uses.{no_uses}
 use Rattle.sw_modules.specs.State.{State, open_at, nothing_loaded}
 use Rattle.sw_modules.specs.Loads.{begun, entered, entry_text}
 use Rattle.sw_modules.specs.Outside.{Outside, plain}
-use Rattle.sw_modules.specs.Fresh.{Setting, Outcome, responds, fresh, room, from_open}
+use Rattle.sw_modules.specs.Fresh.{Setting, Outcome, responds, fresh, room}
 use Rattle.sw_modules.specs.Calls.{HostCall, CallsIn, after_calls, calls_begun, calls_for, calls_read, calls_within, calls_left, calls_open}
 use Rattle.sw_modules.proofs.Calls.{after_calls-append, calls_lead}
 use Rattle.sw_record.specs.declared.again.Replayed.{Replayed}
@@ -35,7 +33,7 @@ use Rattle.sw_record.specs.Replay.{AskedAgain}
 use Rattle.sw_keeper.specs.declared.departure.Departure.{Departure}
 use Rattle.sw_keeper.specs.Compile.{Compile, compiled, compile_by, from_entry, paths_of, CompilesTo, BreaksOff}
 use Rattle.sw_keeper.specs.Keeping.{Keeping, table_of, kept_after}
-use Rattle.sw_keeper.specs.Steps.{Moment, moment_of, Grown, Advances, DidRespond, DidEvaluate, WentOn, Turned, RunsOn, IsSame, ran_at}
+use Rattle.sw_keeper.specs.Steps.{Moment, Grown, Advances, DidRespond, DidEvaluate, WentOn, Turned, RunsOn, IsSame, ran_at}
 use Rattle.sw_keeper.specs.Cuts.{RanMore, CutOff}
 use Rattle.sw_keeper.specs.Replays.{AskedTo, ReplaysOn, DidReplay, behind}
 use Rattle.sw_keeper.specs.Whole.{IsCompiled}

@@ -14,7 +14,7 @@ use Rattle.sw_modules.specs.Fresh.{Setting, Evaluation, Response, responds, goes
 use Rattle.sw_modules.specs.Law.{left_after, runs_of, AreAnswers}
 use Rattle.sw_modules.specs.Calls.{HostCall, after_calls, calls_for, calls_on, calls_read, calls_within, calls_left, calls_open}
 use Rattle.sw_modules.proofs.ComesBy as law
-use Rattle.sw_modules.proofs.Calls.{calls_along, calls_come_by, along_leads, fresh_leads, calls_on-asks, calls_on-ends}
+use Rattle.sw_modules.proofs.Calls.{calls_along, calls_come_by, along_leads, fresh_leads, calls_on-asks}
 use Rattle.sw_keeper.proofs.Pairs.{goes_rest, within}
 
 -- what is outside, as a world has it

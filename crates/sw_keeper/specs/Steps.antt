@@ -6,7 +6,7 @@ use Rattle.sw_tree.specs.declared.sheet.Sheet.{Sheet}
 use Rattle.sw_world.specs.declared.op.Op.{Op}
 use Rattle.sw_world.specs.declared.answer.Answer.{Answer}
 use Rattle.sw_world.specs.declared.end.End.{End}
-use Rattle.sw_world.specs.Body.{Pair, Job, Run, BodyOf}
+use Rattle.sw_world.specs.Body.{Pair, Job, Run}
 use Rattle.sw_world.specs.Progress.{Progress, Running, Ended, IsBody}
 use Rattle.sw_modules.specs.State.{State}
 use Rattle.sw_modules.specs.Outside.{Outside}
