@@ -33,7 +33,8 @@ use Rattle.sw_eval.specs.Did.{Eval}
 use Rattle.sw_eval.specs.declared.state.State.{State}
 use Rattle.sw_eval.specs.declared.state.Level.{Level}
 use Rattle.sw_eval.specs.declared.state.Level.TheVariants.{Top, Block}
-use Rattle.sw_eval.specs.Means.{asking, plain, weighed, owner, target, got, outside, or_outside, variable, is_private, qualified, assigned, span_of, value_one, value_to, is_blank, text_of, lining, declaring, written, opening, block, nested, rule, declaration, does_layer, does_one, does_to, load_at, load_of, top_by, top, tops, entered, begin, ending}
+use Rattle.sw_text.specs.Names.{is_private}
+use Rattle.sw_eval.specs.Means.{asking, plain, weighed, owner, target, got, outside, or_outside, variable, qualified, assigned, span_of, value_one, value_to, is_blank, text_of, lining, declaring, written, opening, block, nested, rule, declaration, does_layer, does_one, does_to, load_at, load_of, top_by, top, tops, entered, begin, ending}
 
 -- whatever it is answered, what it gives is such a thing
 abbrev pub Leaves : {A : Type 0} → (A → Type 0) → Talk A → Type 0

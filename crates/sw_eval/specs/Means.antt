@@ -1,6 +1,7 @@
 -- What a sheet means: the talk that its evaluation is (the Sass specification on variables and modules; places of
 -- faults and limits are this project's own).
 use Rattle.std.specs.Prelude.{ℕ, zero, suc, ◌+◌, Bool, true, false, ◌||◌, ◌==◌, nat_lt, nat_le, if◌then◌else◌, List, [], ◌∷◌, length, take, Option, Some, None}
+use Rattle.sw_text.specs.Names.{is_private}
 use Rattle.sw_text.specs.declared.fault.Fault.{Fault}
 use Rattle.sw_text.specs.declared.fault.FaultCode.{FaultCode}
 use Rattle.sw_text.specs.declared.fault.FaultCode.TheVariants as C
@@ -84,11 +85,6 @@ or_outside site name at None s = outside C.UnknownVariable site None name at at 
 -- a variable without a namespace
 unfoldable pub variable : List ℕ → List ℕ → Span → Eval Plain
 variable site name at s = or_outside site name at (own s name) s
-
--- a member whose name begins with `-` or `_` is private
-abbrev pub is_private : List ℕ → Bool
-is_private [] = false
-is_private (c ∷ cs) = (c == 45) || (c == 95)
 
 -- a variable behind a namespace
 unfoldable pub qualified : List ℕ → Qualified → Eval Plain

@@ -29,7 +29,8 @@ use Rattle.sw_eval.specs.declared.state.State.{State}
 use Rattle.sw_eval.specs.declared.state.Level.{Level}
 use Rattle.sw_eval.specs.declared.state.Level.TheVariants.{Top, Block}
 use Rattle.sw_eval.specs.Scope.{own}
-use Rattle.sw_eval.specs.Means.{asking, plain, weighed, owner, target, got, outside, or_outside, variable, is_private, qualified, assigned, span_of, value_one, value_to, is_blank, text_of, lining, declaring, written, opening, block, nested, rule, declaration, does_layer, does_one, does_to, space_of, load_at, load_of, top_by, top, tops, entered, ending}
+use Rattle.sw_text.specs.Names.{is_private}
+use Rattle.sw_eval.specs.Means.{asking, plain, weighed, owner, target, got, outside, or_outside, variable, qualified, assigned, span_of, value_one, value_to, is_blank, text_of, lining, declaring, written, opening, block, nested, rule, declaration, does_layer, does_one, does_to, space_of, load_at, load_of, top_by, top, tops, entered, ending}
 
 abbrev pub Sourced : {A : Type 0} → List ℕ → List Pair → Talk A → Type 0
 Sourced path seen (Gives a) = Unit {0}

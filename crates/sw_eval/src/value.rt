@@ -1,7 +1,7 @@
 // Expressions.
 ghost use Rattle.std.specs.Prelude.{◌≡◌, IsTrue, None, option_copied};
 ghost use Rattle.sw_eval.specs.Did.{Did, IsReturn, stand};
-ghost use Rattle.sw_eval.specs.Means.{weighed, outside, variable, is_private, qualified, put, assigned, span_of, value_one, value_to, plain};
+ghost use Rattle.sw_eval.specs.Means.{weighed, outside, variable, qualified, put, assigned, span_of, value_one, value_to, plain};
 ghost use Rattle.sw_eval.specs.declared.state.State.{State};
 ghost use Rattle.sw_values.specs.Shape.{plain_of};
 
@@ -33,15 +33,6 @@ fn weighed(node: Node, at: &Span) -> Result<Value, Stop>
         Err(ValueFault::NotCss) => unreachable!(),
         Err(ValueFault::DuplicateKey(_)) => unreachable!(),
         Err(ValueFault::Memory) => Err(Stop::Memory),
-    }
-}
-
-pub(crate) fn is_private(name: &Name) -> bool
-    ensures { result ≡ is_private name.now }
-{
-    match name.as_str().as_bytes() {
-        [] => false,
-        [c, ..] => *c == b'-' || *c == b'_',
     }
 }
 
@@ -119,7 +110,7 @@ fn qualified<W: World>(
     ensures { (s : State)
         → Did W.gives (qualified site.now q.now s) (stand asked.old) world.old result s (stand asked.new) world.new }
 {
-    if is_private(&q.name) {
+    if q.name.is_private() {
         return fails(FaultCode::Private, &q.span);
     }
     let space = q.space.share()?;
@@ -172,7 +163,7 @@ pub(crate) fn assigned<W: World>(
         → Did W.gives (assigned site.now q.now value.now at.now s) (stand asked.old) world.old result s
         (stand asked.new) world.new }
 {
-    if is_private(&q.name) {
+    if q.name.is_private() {
         return fails(FaultCode::Private, &q.span);
     }
     let site = site.share()?;

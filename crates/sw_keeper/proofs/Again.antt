@@ -24,7 +24,7 @@ range_joins xs from to le =
     sym (take-add from (to - from) xs) ∙ ap (λ n. take n xs) e
 
 module _ {W : Type 0} (gives : W → Op → Answer → W → Type 0) (view : W → Outside) (setting : Setting) (is : (w : W) (op : Op) (a : Answer) (t : W) → gives w op a t → plain setting.functions op (view w) ≡ (a, view t)) where
-  again_advances : (k : Kept) (from to : ℕ) (w t : W) → EndsInTime setting.body → IsKept setting.body k → AskedAgain gives k.run.seen from to w t
+  pub again_advances : (k : Kept) (from to : ℕ) (w t : W) → EndsInTime setting.body → IsKept setting.body k → AskedAgain gives k.run.seen from to w t
       → Advances setting (job_of k) (take from k.run.seen) (take to k.run.seen) [] (view w) (view t)
   again_advances k from to w t in_time is_kept again =
       let seen : List Pair = k.run.seen in

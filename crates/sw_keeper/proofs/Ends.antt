@@ -94,7 +94,7 @@ known_differs table path text config k run d same is departs more end =
     cause_at table path run new d.cause same.at
     (differs_by here.pair.0 d.cause run new here.by (record { same_text = same.text_is; same_config = same.config_is; op = here.pair.0; first = first; by = here.by }))
 
-same_job : (table : Table) (path text : List ℕ) (config : List (List ℕ × Plain)) (sheet : Sheet) (k : Kept) (run : Run) → IsSame table path text config run → k.run ≡ run → sheet ≡ k.sheet
+pub same_job : (table : Table) (path text : List ℕ) (config : List (List ℕ × Plain)) (sheet : Sheet) (k : Kept) (run : Run) → IsSame table path text config run → k.run ≡ run → sheet ≡ k.sheet
     → job_of k ≡ record { sheet = sheet; config = config; path = path }
 same_job table path text config sheet k run same is sheet_is =
     let config_is : k.run.config ≡ config = ap (λ (r : Run). r.config) is ∙ same.config_is in

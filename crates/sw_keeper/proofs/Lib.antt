@@ -10,3 +10,4 @@ pub mod Ends
 pub mod Tables
 pub mod Outputs
 pub mod Whole
+pub mod Cuts

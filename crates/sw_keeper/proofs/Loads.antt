@@ -18,7 +18,7 @@ use Rattle.sw_modules.specs.Loads.{begun, ended_by, AnswersLoad}
 use Rattle.sw_modules.specs.Outside.{Functions, Outside}
 use Rattle.sw_modules.specs.Fresh.{Setting, Outcome, Evaluation, Response, responds, load_response, load_ended, at_once, fresh, room, evaluated_by, rest_of}
 use Rattle.sw_record.specs.Ran.{Table}
-use Rattle.sw_keeper.specs.Steps.{Moment, Grown, DidLoad, DidEnd, DidEvaluate, moment, run_of}
+use Rattle.sw_keeper.specs.Steps.{Moment, Grown, DidRespond, DidEnd, DidEvaluate, moment_of, run_of}
 use Rattle.sw_keeper.proofs.Rest.{fresh_opens}
 use Rattle.sw_keeper.proofs.Parts.{grown_none}
 
@@ -38,23 +38,23 @@ responds_load functions inner (Call name args) o is = absurd is
 
 -- a load that was answered at once
 pub did_answered : (table : Table) (functions : Functions) (inner : Evaluation) (op : Op) (a : Answer) (s : State) (o : Moment) → IsLoad op → begun op o.outside.live ≡ (Answered a, s) → length s.opened ≡ length o.outside.live.opened
-    → DidLoad table (responds functions inner op o.outside) a o (moment s o.outside.hosts o.results o.told)
+    → DidRespond table (responds functions inner op o.outside) a o (moment_of s o.outside.hosts o.results o.told)
 did_answered table functions inner op a s o is begins depth =
-    let t : Moment = moment s o.outside.hosts o.results o.told in
+    let t : Moment = moment_of s o.outside.hosts o.results o.told in
     let same : responds functions inner op o.outside ≡ record { answer = a; outside = t.outside; runs = [] } =
     responds_load functions inner op o.outside is ∙ ap (λ p. load_response inner op p o.outside) begins in
-    subst (λ (r : Response). DidLoad table r a o t) (sym same)
+    subst (λ (r : Response). DidRespond table r a o t) (sym same)
     (record { answered = refl; outside = refl; same_depth = depth; grown = grown_none table o t refl refl })
 
 -- a load whose module was evaluated
 pub did_opened : (setting : Setting) (table : Table) (op : Op) (path text : List ℕ) (config : List (List ℕ × Plain)) (end : End) (a : Answer) (m u : State) (o t : Moment)
     → IsLoad op → begun op o.outside.live ≡ (Open path text config, m) → length o.outside.live.opened < 64 → m ≡ open_at path o.outside.live
-    → DidEvaluate setting table path text config end (moment m o.outside.hosts o.results o.told) t
+    → DidEvaluate setting table path text config end (moment_of m o.outside.hosts o.results o.told) t
     → ended_by op (path_in t.outside.live.opened) end t.outside.live ≡ (a, u) → length u.opened + 1 ≡ length t.outside.live.opened
-    → DidLoad table (responds setting.functions (fresh setting (room o.outside.live)) op o.outside) a o (moment u t.outside.hosts t.results t.told)
+    → DidRespond table (responds setting.functions (fresh setting (room o.outside.live)) op o.outside) a o (moment_of u t.outside.hosts t.results t.told)
 did_opened setting table op path text config end a m u o t is begins few opens did ends closes =
     let inner = fresh setting (room o.outside.live) in
-    let v : Moment = moment u t.outside.hosts t.results t.told in
+    let v : Moment = moment_of u t.outside.hosts t.results t.told in
     let one_more : length m.opened ≡ suc (length o.outside.live.opened) = ap (λ (s : State). length s.opened) opens ∙ length-append o.outside.live.opened (record { path = path; uses = no_uses } ∷ []) ∙ omega arith in
     let evaluated : inner (record { live = m; hosts = o.outside.hosts }) path text config ≡ record { outside = t.outside; runs = did.runs; end = end } =
     fresh_opens setting o.outside.live (record { live = m; hosts = o.outside.hosts }) path text config few one_more ∙ did.gives in
@@ -64,7 +64,7 @@ did_opened setting table op path text config end a m u o t is begins few opens d
     ∙ ap (λ (p : Answer × State). at_once t.outside did.runs p) ends in
     let depth : length u.opened ≡ length o.outside.live.opened = omega (arith, closes, did.same_depth, one_more) in
     let grown : Grown table did.runs o v = record { runs = did.grown.runs; grown = did.grown.grown; is = did.grown.is; ran = did.grown.ran; told = did.grown.told } in
-    subst (λ (r : Response). DidLoad table r a o v) (sym same)
+    subst (λ (r : Response). DidRespond table r a o v) (sym same)
     (record { answered = refl; outside = refl; same_depth = depth; grown = grown })
 
 -- a text that reads is evaluated by its body

@@ -1,7 +1,7 @@
 -- Bodies that ran before memory ran out.
 use Rattle.std.proofs.Common.{◌≡◌, ℕ, List, [], ◌++◌, Ok, Err, OnErr, sym, ◌∙◌, ap, append_assoc, append-nil}
 use Rattle.std.specs.declared.result.Result.{Result}
-use Rattle.sw_keeper.specs.Steps.{RanMore}
+use Rattle.sw_keeper.specs.Cuts.{RanMore}
 
 pub on_err : {T E P : Type 0} → (r : Result T E) → P → OnErr r P
 on_err (Ok x) p = tt

@@ -8,12 +8,14 @@ use Rattle.sw_world.specs.Laws.{EndsInTime}
 use Rattle.sw_world.specs.Progress.{Progress, IsBody, Went}
 use Rattle.sw_modules.specs.Outside.{Outside, plain}
 use Rattle.sw_modules.specs.Fresh.{Setting, responds, fresh, room, rest_of}
+use Rattle.sw_modules.specs.Calls.{HostCall, after_calls, calls_within, calls_left}
+use Rattle.sw_modules.proofs.Calls.{calls_along, after_calls-append}
 use Rattle.sw_record.specs.declared.reply.Cause.{Cause}
 use Rattle.sw_record.specs.Ran.{Table, Ran}
 use Rattle.sw_keeper.specs.Compile.{paths_of}
 use Rattle.sw_keeper.specs.Results.{Results}
-use Rattle.sw_keeper.specs.Steps.{Moment, Grown, Advances, DidLoad, WentOn}
-use Rattle.sw_keeper.proofs.Rest.{rest_more, led, led_opened}
+use Rattle.sw_keeper.specs.Steps.{Moment, Grown, Advances, DidRespond, WentOn}
+use Rattle.sw_keeper.proofs.Rest.{rest_more, calls_more, hosts_more, led, led_opened}
 
 pub paths_of-append : (xs ys : List (List ℕ × Cause)) → paths_of (xs ++ ys) ≡ paths_of xs ++ paths_of ys
 paths_of-append xs ys = map-append (λ (one : List ℕ × Cause). one.0) xs ys
@@ -44,22 +46,39 @@ grown_join table new more o m t a b =
     }
 
 pub advances_none : (setting : Setting) (job : Job) (pairs : List Pair) (o : Outside) → Advances setting job pairs pairs [] o o
-advances_none setting job pairs o = record { rest = λ text runs. ap (λ (l : List Run). rest_of setting job text pairs l o) (sym (append-nil runs)); same_depth = refl }
+advances_none setting job pairs o =
+    record {
+      rest = λ text runs. ap (λ (l : List Run). rest_of setting job text pairs l o) (sym (append-nil runs));
+      same_depth = refl;
+      made = [];
+      calls = refl;
+      hosts = refl;
+    }
 
 pub advances_join : (setting : Setting) (job : Job) (ps qs rs : List Pair) (new more : List Run) (o t u : Outside)
     → Advances setting job ps qs new o t → Advances setting job qs rs more t u → Advances setting job ps rs (new ++ more) o u
 advances_join setting job ps qs rs new more o t u a b =
-    record { rest = λ text runs. a.rest text runs ∙ b.rest text (runs ++ new) ∙ ap (λ (l : List Run). rest_of setting job text rs l u) (append_assoc runs new more); same_depth = b.same_depth ∙ a.same_depth }
+    record {
+      rest = λ text runs. a.rest text runs ∙ b.rest text (runs ++ new) ∙ ap (λ (l : List Run). rest_of setting job text rs l u) (append_assoc runs new more);
+      same_depth = b.same_depth ∙ a.same_depth;
+      made = a.made ++ b.made;
+      calls = a.calls ∙ ap (λ (l : List HostCall). a.made ++ l) b.calls ∙ sym (append_assoc a.made b.made (calls_left setting job rs u));
+      hosts = b.hosts ∙ ap (after_calls setting.functions b.made) a.hosts ∙ sym (after_calls-append setting.functions a.made b.made o.hosts);
+    }
 
 -- a load that was answered
 pub advances_load : (setting : Setting) (table : Table) (job : Job) (pairs : List Pair) (op : Op) (a : Answer) (o t : Moment)
-    → EndsInTime setting.body → Goes (setting.body job) [] (pairs ++ (op, a) ∷ []) → DidLoad table (responds setting.functions (fresh setting (room o.outside.live)) op o.outside) a o t
+    → EndsInTime setting.body → Goes (setting.body job) [] (pairs ++ (op, a) ∷ []) → DidRespond table (responds setting.functions (fresh setting (room o.outside.live)) op o.outside) a o t
     → Advances setting job pairs (pairs ++ (op, a) ∷ []) (responds setting.functions (fresh setting (room o.outside.live)) op o.outside).runs o.outside t.outside
 advances_load setting table job pairs op a o t in_time goes did =
-    let r = responds setting.functions (fresh setting (room o.outside.live)) op o.outside in
+    let inner = fresh setting (room o.outside.live) in
+    let r = responds setting.functions inner op o.outside in
     record {
       rest = λ text runs. rest_more setting job text pairs ((op, a) ∷ []) runs o.outside t.outside r.runs in_time goes (sym did.answered, tt) (sym did.outside) (append-nil r.runs) did.same_depth;
       same_depth = did.same_depth;
+      made = calls_along setting.functions inner (calls_within setting (room o.outside.live)) o.outside ((op, a) ∷ []);
+      calls = calls_more setting job pairs ((op, a) ∷ []) o.outside t.outside in_time goes (sym did.answered, tt) (sym did.outside) did.same_depth;
+      hosts = hosts_more setting ((op, a) ∷ []) o.outside t.outside (sym did.outside);
     }
 
 module _ {W : Type 0} (gives : W → Op → Answer → W → Type 0) (view : W → Outside) (setting : Setting) (is : (w : W) (op : Op) (a : Answer) (t : W) → gives w op a t → plain setting.functions op (view w) ≡ (a, view t)) where
@@ -70,7 +89,13 @@ module _ {W : Type 0} (gives : W → Op → Answer → W → Type 0) (view : W �
   advances_asked job pairs asked w t in_time goes leads =
       let opened = led_opened gives view setting.functions is w asked t leads in
       let by = led gives view setting.functions is (fresh setting (room (view w).live)) w asked t leads in
-      record { rest = λ text runs. rest_more setting job text pairs asked runs (view w) (view t) [] in_time goes by.0 by.1 by.2 opened; same_depth = opened }
+      record {
+        rest = λ text runs. rest_more setting job text pairs asked runs (view w) (view t) [] in_time goes by.0 by.1 by.2 opened;
+        same_depth = opened;
+        made = calls_along setting.functions (fresh setting (room (view w).live)) (calls_within setting (room (view w).live)) (view w) asked;
+        calls = calls_more setting job pairs asked (view w) (view t) in_time goes by.0 by.1 opened;
+        hosts = hosts_more setting asked (view w) (view t) by.1;
+      }
 
   -- a body that went on
   pub went_on : (p q : Progress) (w t : W) (taken asked : List Pair)

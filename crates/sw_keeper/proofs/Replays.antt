@@ -15,7 +15,7 @@ use Rattle.sw_keeper.specs.declared.departure.Departure.{Departure}
 use Rattle.sw_keeper.specs.declared.evaluate.Came.{Came}
 use Rattle.sw_keeper.specs.declared.evaluate.Came.TheVariants.{Whole, Next, Upto}
 use Rattle.sw_keeper.specs.Departures.{HasTwoAnswers}
-use Rattle.sw_keeper.specs.Steps.{Moment, Grown, Advances, DidLoad}
+use Rattle.sw_keeper.specs.Steps.{Moment, Grown, Advances, DidRespond}
 use Rattle.sw_keeper.specs.Replays.{AskedTo, DidTurn, DidReplay, ReplaysOn, IsDeparture, IsCame, reached}
 use Rattle.sw_keeper.proofs.Pairs.{goes_departs, fits_at}
 use Rattle.sw_keeper.proofs.Parts.{advances_none, advances_join, advances_load, grown_none, grown_join}
@@ -80,18 +80,18 @@ two_load setting k at a xs p is_kept same here fits differs =
 
 module _ (setting : Setting) (table : Table) (k : Kept) (from at : ℕ) (a : Answer) (r : Replayed) (xs : List Pair) (p : Pair) (o m t : Moment)
     (in_time : EndsInTime setting.body) (is_kept : IsKept setting.body k) (same : xs ≡ k.run.seen) (is : r ≡ Load at) (to : AskedTo setting k from r o.outside m.outside) (results : m.results ≡ o.results) (told : m.told ≡ o.told)
-    (read : p ≡ get_or xs at p) (did : DidLoad table (responds setting.functions (fresh setting (room m.outside.live)) p.0 m.outside) a m t) (fits : Fits p.0 a) where
+    (read : p ≡ get_or xs at p) (did : DidRespond table (responds setting.functions (fresh setting (room m.outside.live)) p.0 m.outside) a m t) (fits : Fits p.0 a) where
   here : slice_get k.run.seen at ≡ Some p
   here = (load_here setting k from at r xs p o m same is to read).1
 
-  advances_here : Advances setting (job_of k) (take from k.run.seen) (take at k.run.seen ++ (p.0, a) ∷ []) (responds setting.functions (fresh setting (room m.outside.live)) p.0 m.outside).runs o.outside t.outside
+  pub advances_here : Advances setting (job_of k) (take from k.run.seen) (take at k.run.seen ++ (p.0, a) ∷ []) (responds setting.functions (fresh setting (room m.outside.live)) p.0 m.outside).runs o.outside t.outside
   advances_here =
       let asked : AskedTo setting k from (Load at) o.outside m.outside = subst (λ (x : Replayed). AskedTo setting k from x o.outside m.outside) is to in
       let goes : Goes (setting.body (job_of k)) [] (take at k.run.seen ++ (p.0, a) ∷ []) = goes_departs (setting.body (job_of k)) k.run.seen at p a is_kept.goes here fits in
       advances_join setting (job_of k) (take from k.run.seen) (take at k.run.seen) (take at k.run.seen ++ (p.0, a) ∷ []) [] (responds setting.functions (fresh setting (room m.outside.live)) p.0 m.outside).runs o.outside m.outside t.outside asked.1.3
       (advances_load setting table (job_of k) (take at k.run.seen) p.0 a m t in_time goes did)
 
-  grown_here : Grown table (responds setting.functions (fresh setting (room m.outside.live)) p.0 m.outside).runs o t
+  pub grown_here : Grown table (responds setting.functions (fresh setting (room m.outside.live)) p.0 m.outside).runs o t
   grown_here = grown_join table [] (responds setting.functions (fresh setting (room m.outside.live)) p.0 m.outside).runs o m t (grown_none table o m results told) did.grown
 
   pub turn_load_differs : (d : Departure) → (p.1 ≡ a → ⊥) → DepartsAt xs at a d → DidTurn setting table k from (Upto d) o t

@@ -14,15 +14,15 @@ use Rattle.sw_record.specs.Kept.{Kept}
 use Rattle.sw_record.specs.Ran.{Table, Ran, IsCause, kept_at}
 use Rattle.sw_keeper.specs.Compile.{paths_of}
 use Rattle.sw_keeper.specs.Results.{Results}
-use Rattle.sw_keeper.specs.Steps.{Moment, Grown, Advances, DidLoad, DidEnd, WentOn, Turned, IsTurned, ran_at, RunsOn, DiffersBy, run_of}
+use Rattle.sw_keeper.specs.Steps.{Moment, Grown, Advances, DidRespond, DidEnd, WentOn, Turned, IsTurned, ran_at, RunsOn, DiffersBy, run_of}
 use Rattle.sw_keeper.proofs.Pairs.{goes_join, goes_first, within}
 use Rattle.sw_keeper.proofs.Rest.{rest_ends}
 use Rattle.sw_keeper.proofs.Parts.{advances_none, advances_join, advances_load, paths_of-append, ran_join, grown_none, grown_join}
 
-at_status : (body : BodyOf) (q : Progress) (s : Status) → IsBody body q → q.status ≡ s → IsAt (body q.job) (answers q.seen) q.left s
+pub at_status : (body : BodyOf) (q : Progress) (s : Status) → IsBody body q → q.status ≡ s → IsAt (body q.job) (answers q.seen) q.left s
 at_status body q s is_q e = subst (λ (v : Status). IsAt (body q.job) (answers q.seen) q.left v) e is_q.place
 
-goes_seen : (body : BodyOf) (q : Progress) → IsBody body q → Goes (body q.job) [] q.seen
+pub goes_seen : (body : BodyOf) (q : Progress) → IsBody body q → Goes (body q.job) [] q.seen
 goes_seen body q is_q = goes_first (body q.job) [] q.seen q.left is_q.goes
 
 goes_given : (body : BodyOf) (q : Progress) (op : Op) (a : Answer) → IsBody body q → q.status ≡ Waiting op → Fits op a → Goes (body q.job) [] (q.seen ++ (op, a) ∷ [])
@@ -52,7 +52,7 @@ is_body_given body q q2 op a is_q waits fits gave =
 -- a turn that answered a load
 pub turned_load : (setting : Setting) (table : Table) (p q q2 : Progress) (op : Op) (a : Answer) (o m t : Moment)
     → EndsInTime setting.body → WentOn setting p q o.outside m.outside → IsBody setting.body q → q.status ≡ Waiting op → q.left ≡ [] → m.results ≡ o.results → m.told ≡ o.told ++ []
-    → DidLoad table (responds setting.functions (fresh setting (room m.outside.live)) op m.outside) a m t → Fits op a
+    → DidRespond table (responds setting.functions (fresh setting (room m.outside.live)) op m.outside) a m t → Fits op a
     → ((o' : Op) × (q.status ≡ Waiting o') × (q2 ≡ given q o' a))
     → Turned setting table p q2 None o t
 turned_load setting table p q q2 op a o m t in_time went is_q waits none results told did fits gave =

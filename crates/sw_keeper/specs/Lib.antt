@@ -4,6 +4,7 @@ pub mod Departures
 pub mod Keeping
 pub mod Results
 pub mod Steps
+pub mod Cuts
 pub mod Replays
 pub mod Whole
 pub mod Latest

@@ -1,18 +1,20 @@
 -- What the steps of a compile do.
-use Rattle.std.specs.Prelude.{◌≡◌, ℕ, ◌<◌, List, [], ◌∷◌, ◌++◌, length, Option, None, Some, Result}
-use Rattle.sw_text.specs.declared.fault.Fault.{Fault}
-use Rattle.sw_tree.specs.declared.sheet.Sheet.{Sheet}
+use Rattle.std.specs.Prelude.{◌≡◌, ℕ, ◌<◌, List, [], ◌∷◌, ◌++◌, length, Option, None, Some}
 use Rattle.sw_values.specs.declared.plain.Plain.{Plain}
 use Rattle.sw_world.specs.Hosts.{HostState}
+use Rattle.sw_tree.specs.declared.sheet.Sheet.{Sheet}
+use Rattle.sw_world.specs.declared.op.Op.{Op}
 use Rattle.sw_world.specs.declared.answer.Answer.{Answer}
 use Rattle.sw_world.specs.declared.end.End.{End}
-use Rattle.sw_world.specs.Body.{Pair, Job, Run, BodyOf}
+use Rattle.sw_world.specs.Body.{Pair, Job, Run}
 use Rattle.sw_world.specs.Progress.{Progress, Running, Ended, IsBody}
 use Rattle.sw_modules.specs.State.{State}
 use Rattle.sw_modules.specs.Outside.{Outside}
-use Rattle.sw_modules.specs.Fresh.{Setting, Response, rest_of, ended, from_open}
+use Rattle.sw_modules.specs.Calls.{HostCall, after_calls, calls_left}
+use Rattle.sw_modules.specs.Fresh.{Setting, Response, responds, fresh, room, rest_of, ended, from_open}
 use Rattle.sw_record.specs.declared.reply.Cause.{Cause}
 use Rattle.sw_record.specs.Ran.{Table, Ran, IsCause, kept_at}
+use Rattle.sw_keeper.specs.declared.context.Opening.{Opening}
 use Rattle.sw_keeper.specs.Compile.{paths_of}
 use Rattle.sw_keeper.specs.Results.{Results}
 
@@ -22,15 +24,13 @@ pub record Moment : Type 0 where
   pub results : Results
   pub told : List (List ℕ)
 
--- what an evaluation rests on, by its parts
-abbrev pub setting_of : (HostState → List ℕ → List Plain → Option Plain) → (HostState → List ℕ → List Plain → HostState)
-    → (List ℕ → List ℕ → Result Sheet Fault) → BodyOf → Setting
-setting_of answer after read body =
-    record { functions = record { answer = answer; after = after }; read = read; body = body }
-
-abbrev pub moment : State → HostState → Results → List (List ℕ) → Moment
-moment live hosts results told =
+abbrev pub moment_of : State → HostState → Results → List (List ℕ) → Moment
+moment_of live hosts results told =
     record { outside = record { live = live; hosts = hosts }; results = results; told = told }
+
+-- what the body of a module that is open runs
+abbrev pub job_at : Sheet → Opening → Job
+job_at sheet opening = record { sheet = sheet; config = opening.config; path = opening.path }
 
 -- a body that ended
 abbrev pub run_of : Job → List ℕ → List Pair → End → Run
@@ -44,19 +44,27 @@ pub record Grown (table : Table) (new : List Run) (old now : Moment) : Type 0 wh
   pub ran : now.results.ran ≡ old.results.ran ++ grown
   pub told : now.told ≡ old.told ++ paths_of grown
 
--- a body that had these pairs behind it has those now, as the evaluation goes
+-- a body that had these pairs behind it has those now, as the evaluation goes, and these calls were made
 pub record Advances (setting : Setting) (job : Job) (before after : List Pair) (new : List Run) (old now : Outside) :
     Type 0 where
-  pub rest : (text : List ℕ) (runs : List Run)
-      → rest_of setting job text before runs old ≡ rest_of setting job text after (runs ++ new) now
+  pub rest : (text : List ℕ) (runs : List Run) → rest_of setting job text before runs old
+      ≡ rest_of setting job text after (runs ++ new) now
   pub same_depth : length now.live.opened ≡ length old.live.opened
+  pub made : List HostCall
+  pub calls : calls_left setting job before old ≡ made ++ calls_left setting job after now
+  pub hosts : now.hosts ≡ after_calls setting.functions made old.hosts
 
--- an answered load
-pub record DidLoad (table : Table) (response : Response) (answer : Answer) (old now : Moment) : Type 0 where
+-- a question was answered so
+pub record DidRespond (table : Table) (response : Response) (answer : Answer) (old now : Moment) : Type 0 where
   pub answered : answer ≡ response.answer
   pub outside : now.outside ≡ response.outside
   pub same_depth : length now.outside.live.opened ≡ length old.outside.live.opened
   pub grown : Grown table response.runs old now
+
+-- an answered load
+abbrev pub DidLoad : Setting → Table → Op → Answer → Moment → Moment → Type 0
+DidLoad setting table op answer old now =
+    DidRespond table (responds setting.functions (fresh setting (room old.outside.live)) op old.outside) answer old now
 
 -- a body that went to its end, from where it had these pairs behind it
 pub record DidEnd (setting : Setting) (table : Table) (job : Job) (text : List ℕ) (known : List Pair) (end : End)
@@ -136,7 +144,3 @@ DiffersBy table path text config known cause =
     (more : List Pair) (end : End)
     → IsCause (kept_at table path) (record
     { path = path; text = text; config = config; seen = known ++ more; end = end }) cause
-
--- some bodies ran, whichever they are
-abbrev pub RanMore : List (List ℕ) → List (List ℕ) → Type 0
-RanMore old now = (more : List (List ℕ)) × (now ≡ old ++ more)

@@ -1,25 +1,25 @@
 // The evaluation of modules, each by its kept run as far as that goes, and then by its body.
-ghost use Rattle.std.specs.Prelude.{◌≡◌, ◌≤◌, ◌<◌, ◌++◌, [], Ok, length, IfOk, OnErr};
+ghost use Rattle.std.specs.Prelude.{◌≡◌, ◌≤◌, ◌<◌, ◌++◌, [], Ok, length, take, IfOk, OnErr};
 ghost use Rattle.sw_folder.specs.Files.{most_bytes};
 ghost use Rattle.sw_world.specs.Questions.{IsLoad, Fits};
 ghost use Rattle.sw_world.specs.Body.{Goes};
 ghost use Rattle.sw_world.specs.Progress.{Running, IsBody};
-ghost use Rattle.sw_modules.specs.Fresh.{responds, fresh, room};
-ghost use Rattle.sw_keeper.specs.Steps.{DidLoad, DidEnd, DidEvaluate, Turned, RanMore, DiffersBy, moment, setting_of};
+ghost use Rattle.sw_modules.specs.Fresh.{setting_of};
+ghost use Rattle.sw_record.specs.Kept.{job_of};
+ghost use Rattle.sw_keeper.specs.Steps.{DidLoad, DidEnd, DidEvaluate, Turned, DiffersBy, job_at, moment_of};
+ghost use Rattle.sw_keeper.specs.Cuts.{LoadCut, BodyCut, OpenCut};
 ghost use Rattle.sw_keeper.specs.Replays.{DidTurn, DidReplay};
 
 use crate::Reader;
+use crate::context::{Moment, Opening, Start, Within};
 use crate::departure::{Departure, departure_of};
-use crate::kept::KeptRuns;
 use crate::outside::{go_outside, replay_outside};
 use crate::reading::{cause_anew, read_sheet, same_run};
-use crate::results::{Results, run_ended};
-use std::alloc::Global;
-use sw_modules::{Begin, Live};
-use sw_record::{Cause, Replayed, Run};
-use sw_text::{Memory, Name, Shared};
-use sw_tree::Sheet;
-use sw_world::{Answer, Config, End, Engine, Hosts, Op, Turn};
+use crate::results::run_ended;
+use sw_modules::Begin;
+use sw_record::{Replayed, Run};
+use sw_text::Memory;
+use sw_world::{Answer, End, Engine, Hosts, Op, Turn};
 
 /// How far a replay came.
 #[derive(Drop)]
@@ -35,33 +35,29 @@ pub enum Came {
 /// Answers a load, by an evaluation where it opens a module.
 #[cycle(evaluate)]
 fn load<R: Reader, E: Engine, H: Hosts>(
-    alloc: Global,
-    reader: &R,
-    live: &mut Live<'_>,
+    within: &Within<'_, R, E>,
+    moment: &mut Moment<'_, R, E>,
     hosts: &mut H,
     engine: &mut E,
-    kept: &KeptRuns<R, E>,
-    results: &mut Results<R, E>,
     op: &Op,
 ) -> Result<Answer, Memory>
     requires { IsLoad op.now }
-    ensures did { IfOk result (λ answer. DidLoad kept.now
-        (responds (record { answer = H.answer; after = H.after })
-        (fresh (setting_of H.answer H.after R.reads E.body) (room live.old)) op.now
-        (record { live = live.old; hosts = H.state hosts.old }))
-        answer (moment live.old (H.state hosts.old) results.old (E.ran engine.old))
-        (moment live.new (H.state hosts.new) results.new (E.ran engine.new))) }
+    ensures did { IfOk result (λ answer. DidLoad (setting_of H.answer H.after R.reads E.body) within.now.kept.now
+        op.now answer
+        (moment_of moment.old.live (H.state hosts.old) moment.old.results (E.ran engine.old))
+        (moment_of moment.new.live (H.state hosts.new) moment.new.results (E.ran engine.new))) }
     ensures fits { IfOk result (λ answer. Fits op.now answer) }
-    ensures depth { IfOk result (λ _. length live.new.opened ≡ length live.old.opened) }
-    ensures grew { OnErr result (RanMore (E.ran engine.old) (E.ran engine.new)) }
+    ensures depth { IfOk result (λ _. length moment.new.live.opened ≡ length moment.old.live.opened) }
+    ensures cut { OnErr result (LoadCut (setting_of H.answer H.after R.reads E.body) op.now
+        (moment_of moment.old.live (H.state hosts.old) moment.old.results (E.ran engine.old))
+        (moment_of moment.new.live (H.state hosts.new) moment.new.results (E.ran engine.new))) }
 {
-    match live.begin(op)? {
+    match moment.live.begin(op)? {
         Begin::Answered(answer) => Ok(answer),
         Begin::Open { path, text, config } => {
-            let end = evaluate(
-                alloc, reader, live, hosts, engine, kept, results, &path, &text, &config,
-            )?;
-            let answer = live.end(op, &end)?;
+            let opening = Opening { path, text, config };
+            let end = evaluate(within, moment, hosts, engine, &opening)?;
+            let answer = moment.live.end(op, &end)?;
             Ok(answer)
         }
     }
@@ -70,28 +66,35 @@ fn load<R: Reader, E: Engine, H: Hosts>(
 /// One turn of a body: up to a load and its answer, or to its end.
 #[cycle(evaluate)]
 fn turn<R: Reader, E: Engine, H: Hosts>(
-    alloc: Global,
-    reader: &R,
-    live: &mut Live<'_>,
+    within: &Within<'_, R, E>,
+    moment: &mut Moment<'_, R, E>,
     hosts: &mut H,
     engine: &mut E,
-    kept: &KeptRuns<R, E>,
-    results: &mut Results<R, E>,
     body: &mut E::Body,
 ) -> Result<Option<End>, Memory>
     requires runs { (E.progress body.old).status ≡ Running }
     requires is_body { IsBody E.body (E.progress body.old) }
     ensures is_body { IfOk result (λ _. IsBody E.body (E.progress body.new)) }
-    ensures turned { IfOk result (λ end. Turned (setting_of H.answer H.after R.reads E.body) kept.now
+    ensures turned { IfOk result (λ end. Turned (setting_of H.answer H.after R.reads E.body) within.now.kept.now
         (E.progress body.old) (E.progress body.new) end
-        (moment live.old (H.state hosts.old) results.old (E.ran engine.old))
-        (moment live.new (H.state hosts.new) results.new (E.ran engine.new))) }
-    ensures depth { IfOk result (λ _. length live.new.opened ≡ length live.old.opened) }
-    ensures grew { OnErr result (RanMore (E.ran engine.old) (E.ran engine.new)) }
+        (moment_of moment.old.live (H.state hosts.old) moment.old.results (E.ran engine.old))
+        (moment_of moment.new.live (H.state hosts.new) moment.new.results (E.ran engine.new))) }
+    ensures depth { IfOk result (λ _. length moment.new.live.opened ≡ length moment.old.live.opened) }
+    ensures cut { OnErr result (BodyCut (setting_of H.answer H.after R.reads E.body) (E.progress body.old).job
+        ((E.progress body.old).seen ++ (E.progress body.old).left)
+        (moment_of moment.old.live (H.state hosts.old) moment.old.results (E.ran engine.old))
+        (moment_of moment.new.live (H.state hosts.new) moment.new.results (E.ran engine.new))) }
 {
-    match go_outside(alloc, reader, live, hosts, engine, body)? {
+    match go_outside(
+        within.alloc,
+        within.reader,
+        &mut moment.live,
+        hosts,
+        engine,
+        body,
+    )? {
         Turn::Load(op) => {
-            let answer = load(alloc, reader, live, hosts, engine, kept, results, &op)?;
+            let answer = load(within, moment, hosts, engine, &op)?;
             engine.give(body, answer);
             Ok(None)
         }
@@ -102,38 +105,41 @@ fn turn<R: Reader, E: Engine, H: Hosts>(
 /// Runs a body to its end, from where the known pairs are behind it.
 #[cycle(evaluate)]
 fn run_body<R: Reader, E: Engine, H: Hosts>(
-    alloc: Global,
-    reader: &R,
-    live: &mut Live<'_>,
+    within: &Within<'_, R, E>,
+    moment: &mut Moment<'_, R, E>,
     hosts: &mut H,
     engine: &mut E,
-    kept: &KeptRuns<R, E>,
-    results: &mut Results<R, E>,
-    path: &Name,
-    text: &Name,
-    sheet: &Shared<Sheet>,
-    config: &Config,
-    known: &[(Op, Answer)],
-    cause: Cause,
+    opening: &Opening,
+    start: &Start<'_>,
 ) -> Result<End, Memory>
-    requires reads { R.reads path.now text.now ≡ Ok sheet.now }
-    requires goes { Goes (E.body (record { sheet = sheet.now; config = config.now; path = path.now })) [] known.now }
-    requires differs { DiffersBy kept.now path.now text.now config.now known.now cause }
-    ensures did { IfOk result (λ end. DidEnd (setting_of H.answer H.after R.reads E.body) kept.now
-        (record { sheet = sheet.now; config = config.now; path = path.now }) text.now known.now end
-        (moment live.old (H.state hosts.old) results.old (E.ran engine.old))
-        (moment live.new (H.state hosts.new) results.new (E.ran engine.new))) }
-    ensures depth { IfOk result (λ _. length live.new.opened ≡ length live.old.opened) }
-    ensures grew { OnErr result (RanMore (E.ran engine.old) (E.ran engine.new)) }
+    requires reads { R.reads opening.now.path opening.now.text ≡ Ok start.now.sheet.now }
+    requires goes { Goes (E.body (job_at start.now.sheet.now opening.now)) [] start.now.known.now }
+    requires differs { DiffersBy within.now.kept.now opening.now.path opening.now.text opening.now.config
+        start.now.known.now start.now.cause }
+    ensures did { IfOk result (λ end. DidEnd (setting_of H.answer H.after R.reads E.body) within.now.kept.now
+        (job_at start.now.sheet.now opening.now) opening.now.text start.now.known.now end
+        (moment_of moment.old.live (H.state hosts.old) moment.old.results (E.ran engine.old))
+        (moment_of moment.new.live (H.state hosts.new) moment.new.results (E.ran engine.new))) }
+    ensures depth { IfOk result (λ _. length moment.new.live.opened ≡ length moment.old.live.opened) }
+    ensures cut { OnErr result (BodyCut (setting_of H.answer H.after R.reads E.body)
+        (job_at start.now.sheet.now opening.now) start.now.known.now
+        (moment_of moment.old.live (H.state hosts.old) moment.old.results (E.ran engine.old))
+        (moment_of moment.new.live (H.state hosts.new) moment.new.results (E.ran engine.new))) }
 {
-    let mut body = engine.start(alloc, sheet, config, path, known)?;
+    let mut body = engine.start(
+        within.alloc,
+        start.sheet,
+        &opening.config,
+        &opening.path,
+        start.known,
+    )?;
     loop {
-        if let Some(end) = turn(alloc, reader, live, hosts, engine, kept, results, &mut body)? {
+        if let Some(end) = turn(within, moment, hosts, engine, &mut body)? {
             let seen = engine.close(body);
             let ended = end.share()?;
-            let named = path.share()?;
-            let run = run_ended(alloc, path, text, sheet, config, seen, end)?;
-            results.add(named, run, cause)?;
+            let named = opening.path.share()?;
+            let run = run_ended(within.alloc, opening, start.sheet, seen, end)?;
+            moment.results.add(named, run, start.cause)?;
             return Ok(ended);
         }
     }
@@ -142,37 +148,45 @@ fn run_body<R: Reader, E: Engine, H: Hosts>(
 /// One turn of a replay: up to a load and its answer.
 #[cycle(evaluate)]
 fn replay_turn<R: Reader, E: Engine, H: Hosts>(
-    alloc: Global,
-    reader: &R,
-    live: &mut Live<'_>,
+    within: &Within<'_, R, E>,
+    moment: &mut Moment<'_, R, E>,
     hosts: &mut H,
     engine: &mut E,
-    kept: &KeptRuns<R, E>,
-    results: &mut Results<R, E>,
     run: &Run<E>,
     from: usize,
 ) -> Result<Came, Memory>
     requires { from ≤ length run.now.run.seen }
-    ensures did { IfOk result (λ came. DidTurn (setting_of H.answer H.after R.reads E.body) kept.now run.now from came
-        (moment live.old (H.state hosts.old) results.old (E.ran engine.old))
-        (moment live.new (H.state hosts.new) results.new (E.ran engine.new))) }
-    ensures depth { IfOk result (λ _. length live.new.opened ≡ length live.old.opened) }
-    ensures grew { OnErr result (RanMore (E.ran engine.old) (E.ran engine.new)) }
+    ensures did { IfOk result (λ came. DidTurn (setting_of H.answer H.after R.reads E.body) within.now.kept.now run.now
+        from came
+        (moment_of moment.old.live (H.state hosts.old) moment.old.results (E.ran engine.old))
+        (moment_of moment.new.live (H.state hosts.new) moment.new.results (E.ran engine.new))) }
+    ensures depth { IfOk result (λ _. length moment.new.live.opened ≡ length moment.old.live.opened) }
+    ensures cut { OnErr result (BodyCut (setting_of H.answer H.after R.reads E.body) (job_of run.now)
+        (take from run.now.run.seen)
+        (moment_of moment.old.live (H.state hosts.old) moment.old.results (E.ran engine.old))
+        (moment_of moment.new.live (H.state hosts.new) moment.new.results (E.ran engine.new))) }
 {
     let seen = run.seen();
-    match replay_outside(alloc, reader, live, hosts, run, from)? {
+    match replay_outside(
+        within.alloc,
+        within.reader,
+        &mut moment.live,
+        hosts,
+        run,
+        from,
+    )? {
         Replayed::Same => Ok(Came::Whole),
         Replayed::Differs { at, answer } => {
-            let departure = departure_of(alloc, seen, at, answer)?;
+            let departure = departure_of(within.alloc, seen, at, answer)?;
             Ok(Came::Upto(departure))
         }
         Replayed::Load(at) => {
             let (op, before) = &seen[at];
-            let answer = load(alloc, reader, live, hosts, engine, kept, results, op)?;
+            let answer = load(within, moment, hosts, engine, op)?;
             if before.same(&answer) {
                 Ok(Came::Next(at + 1))
             } else {
-                let departure = departure_of(alloc, seen, at, answer)?;
+                let departure = departure_of(within.alloc, seen, at, answer)?;
                 Ok(Came::Upto(departure))
             }
         }
@@ -182,26 +196,25 @@ fn replay_turn<R: Reader, E: Engine, H: Hosts>(
 /// Asks the questions of a kept run again: none where all was as before, else where that ended.
 #[cycle(evaluate)]
 fn replay_all<R: Reader, E: Engine, H: Hosts>(
-    alloc: Global,
-    reader: &R,
-    live: &mut Live<'_>,
+    within: &Within<'_, R, E>,
+    moment: &mut Moment<'_, R, E>,
     hosts: &mut H,
     engine: &mut E,
-    kept: &KeptRuns<R, E>,
-    results: &mut Results<R, E>,
     run: &Run<E>,
 ) -> Result<Option<Departure>, Memory>
-    ensures did { IfOk result (λ departure. DidReplay (setting_of H.answer H.after R.reads E.body) kept.now run.now
-        departure
-        (moment live.old (H.state hosts.old) results.old (E.ran engine.old))
-        (moment live.new (H.state hosts.new) results.new (E.ran engine.new))) }
-    ensures depth { IfOk result (λ _. length live.new.opened ≡ length live.old.opened) }
-    ensures grew { OnErr result (RanMore (E.ran engine.old) (E.ran engine.new)) }
+    ensures did { IfOk result (λ departure. DidReplay (setting_of H.answer H.after R.reads E.body) within.now.kept.now
+        run.now departure
+        (moment_of moment.old.live (H.state hosts.old) moment.old.results (E.ran engine.old))
+        (moment_of moment.new.live (H.state hosts.new) moment.new.results (E.ran engine.new))) }
+    ensures depth { IfOk result (λ _. length moment.new.live.opened ≡ length moment.old.live.opened) }
+    ensures cut { OnErr result (BodyCut (setting_of H.answer H.after R.reads E.body) (job_of run.now) []
+        (moment_of moment.old.live (H.state hosts.old) moment.old.results (E.ran engine.old))
+        (moment_of moment.new.live (H.state hosts.new) moment.new.results (E.ran engine.new))) }
 {
     let _seen = run.seen();
     let mut at = 0;
     loop {
-        match replay_turn(alloc, reader, live, hosts, engine, kept, results, run, at)? {
+        match replay_turn(within, moment, hosts, engine, run, at)? {
             Came::Whole => return Ok(None),
             Came::Next(to) => at = to,
             Came::Upto(departure) => return Ok(Some(departure)),
@@ -213,72 +226,52 @@ fn replay_all<R: Reader, E: Engine, H: Hosts>(
 /// and from there on by its body.
 #[cycle(evaluate)]
 pub(crate) fn evaluate<R: Reader, E: Engine, H: Hosts>(
-    alloc: Global,
-    reader: &R,
-    live: &mut Live<'_>,
+    within: &Within<'_, R, E>,
+    moment: &mut Moment<'_, R, E>,
     hosts: &mut H,
     engine: &mut E,
-    kept: &KeptRuns<R, E>,
-    results: &mut Results<R, E>,
-    path: &Name,
-    text: &Name,
-    config: &Config,
+    opening: &Opening,
 ) -> Result<End, Memory>
-    requires { length text.now ≤ most_bytes }
-    ensures did { IfOk result (λ end. DidEvaluate (setting_of H.answer H.after R.reads E.body) kept.now path.now
-        text.now config.now end
-        (moment live.old (H.state hosts.old) results.old (E.ran engine.old))
-        (moment live.new (H.state hosts.new) results.new (E.ran engine.new))) }
-    ensures depth { IfOk result (λ _. length live.new.opened ≡ length live.old.opened) }
-    ensures grew { OnErr result (RanMore (E.ran engine.old) (E.ran engine.new)) }
+    requires { length opening.now.text ≤ most_bytes }
+    ensures did { IfOk result (λ end. DidEvaluate (setting_of H.answer H.after R.reads E.body) within.now.kept.now
+        opening.now.path opening.now.text opening.now.config end
+        (moment_of moment.old.live (H.state hosts.old) moment.old.results (E.ran engine.old))
+        (moment_of moment.new.live (H.state hosts.new) moment.new.results (E.ran engine.new))) }
+    ensures depth { IfOk result (λ _. length moment.new.live.opened ≡ length moment.old.live.opened) }
+    ensures cut { OnErr result (OpenCut (setting_of H.answer H.after R.reads E.body) opening.now.path opening.now.text
+        opening.now.config
+        (moment_of moment.old.live (H.state hosts.old) moment.old.results (E.ran engine.old))
+        (moment_of moment.new.live (H.state hosts.new) moment.new.results (E.ran engine.new))) }
 {
-    let Some(same) = same_run(kept, path, text, config) else {
-        return match read_sheet(alloc, reader, kept, path, text)? {
+    let Some(same) = same_run(within.kept, opening) else {
+        return match read_sheet(within.alloc, within.reader, within.kept, opening)? {
             Ok(sheet) => {
-                let cause = cause_anew(kept, path, text, config);
-                let end = run_body(
-                    alloc,
-                    reader,
-                    live,
-                    hosts,
-                    engine,
-                    kept,
-                    results,
-                    path,
-                    text,
-                    &sheet,
-                    config,
-                    &[],
+                let cause = cause_anew(within.kept, opening);
+                let start = Start {
+                    sheet: &sheet,
+                    known: &[],
                     cause,
-                )?;
+                };
+                let end = run_body(within, moment, hosts, engine, opening, &start)?;
                 Ok(end)
             }
             Err(fault) => Ok(End::Fault(fault)),
         };
     };
     let run = same.run();
-    match replay_all(alloc, reader, live, hosts, engine, kept, results, run)? {
+    match replay_all(within, moment, hosts, engine, run)? {
         Some(departure) => {
             let known = departure.known.as_slice();
-            let end = run_body(
-                alloc,
-                reader,
-                live,
-                hosts,
-                engine,
-                kept,
-                results,
-                path,
-                text,
-                run.sheet(),
-                config,
+            let start = Start {
+                sheet: run.sheet(),
                 known,
-                departure.cause,
-            )?;
+                cause: departure.cause,
+            };
+            let end = run_body(within, moment, hosts, engine, opening, &start)?;
             Ok(end)
         }
         None => {
-            let end = results.take_over(same)?;
+            let end = moment.results.take_over(same)?;
             Ok(end)
         }
     }

@@ -3,12 +3,13 @@ ghost use Rattle.std.specs.Prelude.{◌≡◌, ◌++◌, ◌≤◌, [], Ok, Err,
 ghost use Rattle.std.specs.FinMap as files;
 ghost use Rattle.sw_folder.specs.Edits.{after_put, after_removal, IsFaultOf};
 ghost use Rattle.sw_record.specs.Ran.{Ran};
-ghost use Rattle.sw_keeper.specs.Compile.{compiled, paths_of};
+ghost use Rattle.sw_keeper.specs.Compile.{compiled, CompilesTo, BreaksOff};
 ghost use Rattle.sw_keeper.specs.Keeping.{table_of, with_runs, kept_after};
-ghost use Rattle.sw_keeper.specs.Steps.{RanMore, setting_of};
-ghost use Rattle.sw_keeper.specs.Whole.{IsCompiled};
+ghost use Rattle.sw_modules.specs.Fresh.{setting_of};
+ghost use Rattle.sw_keeper.specs.Whole.{IsCompiled, CompileCut};
 
 use crate::Reader;
+use crate::context::{Moment, Opening, Within};
 use crate::evaluate::evaluate;
 use crate::kept::{KeptRun, KeptRuns};
 use crate::outcome::outcome_of;
@@ -85,8 +86,8 @@ impl<R: Reader, E: Engine> Keeper<R, E> {
     /// Compiles an entry with these load paths: the messages and the CSS or the fault that the evaluation of the files
     /// as they are gives from nothing. Of the bodies of that evaluation those run whose run isn't the kept one, each
     /// with its cause, and the engine tells of just these; the runs that ended well are kept from then on. After
-    /// `Memory` folder and kept runs are as before, the engine has told of some bodies more, and the host's state is
-    /// the one after the calls that were made.
+    /// `Memory` folder and kept runs are as before, the engine has told of some bodies more, and the host's functions
+    /// are as they are after the first calls of that evaluation, so many as were made.
     pub fn compile<H: Hosts>(
         &mut self,
         reader: &R,
@@ -95,49 +96,25 @@ impl<R: Reader, E: Engine> Keeper<R, E> {
         engine: &mut E,
         hosts: &mut H,
     ) -> Result<Reply, Memory>
-        ensures says { IfOk result (λ reply. reply.says
-            ≡ (compiled (record {
-              functions = record { answer = H.answer; after = H.after };
-              read = R.reads;
-              body = E.body;
-            }) self.old.folder paths.now entry.now (H.state hosts.old)).says) }
-        ensures outcome { IfOk result (λ reply. reply.outcome
-            ≡ (compiled (record {
-              functions = record { answer = H.answer; after = H.after };
-              read = R.reads;
-              body = E.body;
-            }) self.old.folder paths.now entry.now (H.state hosts.old)).outcome) }
-        ensures hosts { OnOk result (H.state hosts.new
-            ≡ (compiled (record {
-              functions = record { answer = H.answer; after = H.after };
-              read = R.reads;
-              body = E.body;
-            }) self.old.folder paths.now entry.now (H.state hosts.old)).hosts) }
-        ensures ran { IfOk result (λ reply. Ran (table_of self.old.kept entry.now)
-            (compiled (record {
-              functions = record { answer = H.answer; after = H.after };
-              read = R.reads;
-              body = E.body;
-            }) self.old.folder paths.now entry.now (H.state hosts.old)).runs reply.ran) }
-        ensures told { IfOk result (λ reply. E.ran engine.new ≡ E.ran engine.old ++ paths_of reply.ran) }
-        ensures grew { OnErr result (RanMore (E.ran engine.old) (E.ran engine.new)) }
-        ensures kept { OnOk result (self.new.kept
-            ≡ kept_after self.old.kept entry.now
-            (compiled (record {
-              functions = record { answer = H.answer; after = H.after };
-              read = R.reads;
-              body = E.body;
-            }) self.old.folder paths.now entry.now (H.state hosts.old)).runs) }
+        ensures ok { IfOk result (λ reply. CompilesTo
+            (compiled (setting_of H.answer H.after R.reads E.body) self.old.folder paths.now entry.now
+            (H.state hosts.old))
+            entry.now reply self.old self.new (H.state hosts.new) (E.ran engine.old) (E.ran engine.new)) }
+        ensures err { OnErr result (BreaksOff (setting_of H.answer H.after R.reads E.body) self.old.folder paths.now
+            entry.now (H.state hosts.old) (H.state hosts.new) (E.ran engine.old) (E.ran engine.new)) }
         ensures folder { self.new.folder ≡ self.old.folder }
         ensures unchanged { OnErr result (self.new ≡ self.old) }
     {
         let none = KeptRuns::new(self.alloc);
         let kept = kept_of(&self.kept, &none, entry);
-        let Compiled { reply, runs } = compile_folder(
-            self.alloc,
-            &self.folder,
-            kept,
+        let within = Within {
+            alloc: self.alloc,
             reader,
+            kept,
+        };
+        let Compiled { reply, runs } = compile_folder(
+            &within,
+            &self.folder,
             entry,
             paths,
             engine,
@@ -208,10 +185,8 @@ fn kept_of<'k, R: Reader, E: Engine>(
 }
 
 fn compile_folder<R: Reader, E: Engine, H: Hosts>(
-    alloc: Global,
+    within: &Within<'_, R, E>,
     folder: &Folder,
-    kept: &KeptRuns<R, E>,
-    reader: &R,
     entry: &Name,
     paths: &[Name],
     engine: &mut E,
@@ -219,9 +194,11 @@ fn compile_folder<R: Reader, E: Engine, H: Hosts>(
 ) -> Result<Compiled<R, E>, Memory>
     ensures did { IfOk result (λ given. IsCompiled
         (compiled (setting_of H.answer H.after R.reads E.body) folder.now paths.now entry.now (H.state hosts.old))
-        kept.now given.reply given.runs (H.state hosts.new) (E.ran engine.old) (E.ran engine.new)) }
-    ensures grew { OnErr result (RanMore (E.ran engine.old) (E.ran engine.new)) }
+        within.now.kept.now given.reply given.runs (H.state hosts.new) (E.ran engine.old) (E.ran engine.new)) }
+    ensures cut { OnErr result (CompileCut (setting_of H.answer H.after R.reads E.body) folder.now paths.now entry.now
+        (H.state hosts.old) (H.state hosts.new) (E.ran engine.old) (E.ran engine.new)) }
 {
+    let alloc = within.alloc;
     let mut live = Live::new(alloc, folder, paths);
     match live.enter(entry)? {
         Enter::Refused(fault) => Ok(Compiled {
@@ -234,19 +211,11 @@ fn compile_folder<R: Reader, E: Engine, H: Hosts>(
         }),
         Enter::Open { path, text } => {
             let config = Shared::new(alloc, List::new(alloc))?;
-            let mut results = Results::new(alloc);
-            let end = evaluate(
-                alloc,
-                reader,
-                &mut live,
-                hosts,
-                engine,
-                kept,
-                &mut results,
-                &path,
-                &text,
-                &config,
-            )?;
+            let opening = Opening { path, text, config };
+            let results = Results::new(alloc);
+            let mut moment = Moment { live, results };
+            let end = evaluate(within, &mut moment, hosts, engine, &opening)?;
+            let Moment { mut live, results } = moment;
             live.leave(&end)?;
             let Finished { says, outputs: _ } = live.finish();
             let (runs, ran) = results.into_parts();

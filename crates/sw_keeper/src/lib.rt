@@ -2,6 +2,7 @@
 //! a fault flow out.
 #![tactic(auto)]
 
+mod context;
 mod departure;
 mod evaluate;
 mod keeper;

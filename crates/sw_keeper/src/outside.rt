@@ -1,7 +1,10 @@
 // What is outside the bodies, lent for the questions that are no loads.
-ghost use Rattle.std.specs.Prelude.{◌≡◌, ◌≤◌, ◌++◌, [], length, IfOk, OnErr};
+ghost use Rattle.std.specs.Prelude.{◌≡◌, ◌≤◌, ◌++◌, ℕ, List, [], length, take, IfOk, OnErr};
 ghost use Rattle.sw_world.specs.Progress.{Running, IsBody, stops, ran_by};
-ghost use Rattle.sw_keeper.specs.Steps.{WentOn, RanMore, setting_of};
+ghost use Rattle.sw_modules.specs.Fresh.{setting_of};
+ghost use Rattle.sw_record.specs.Kept.{job_of};
+ghost use Rattle.sw_keeper.specs.Steps.{WentOn};
+ghost use Rattle.sw_keeper.specs.Cuts.{RestCut};
 ghost use Rattle.sw_keeper.specs.Replays.{AskedTo};
 
 use crate::Reader;
@@ -32,7 +35,13 @@ fn go_asked<R: Reader, E: Engine, H: Hosts>(
         × ((E.progress body.new).left ≡ [])) }
     ensures ran { IfOk result (λ turn. E.ran engine.new
         ≡ E.ran engine.old ++ ran_by turn (E.progress body.new).job.path) }
-    ensures grew { OnErr result (RanMore (E.ran engine.old) (E.ran engine.new)) }
+    ensures cut { OnErr result (RestCut (setting_of H.answer H.after R.reads E.body) (E.progress body.old).job
+        ((E.progress body.old).seen ++ (E.progress body.old).left)
+        (record { live = asked.old.live.now; hosts = H.state asked.old.hosts.now })
+        (record { live = asked.new.live.now; hosts = H.state asked.new.hosts.now })
+        (E.ran engine.old) (E.ran engine.new)) }
+    ensures err_live { OnErr result (asked.new.live.ghost_name ≡ asked.old.live.ghost_name) }
+    ensures err_hosts { OnErr result (asked.new.hosts.ghost_name ≡ asked.old.hosts.ghost_name) }
 {
     let turn = engine.go(alloc, body, asked)?;
     Ok(turn)
@@ -59,7 +68,11 @@ pub(crate) fn go_outside<R: Reader, E: Engine, H: Hosts>(
         × ((E.progress body.new).left ≡ [])) }
     ensures ran { IfOk result (λ turn. E.ran engine.new
         ≡ E.ran engine.old ++ ran_by turn (E.progress body.new).job.path) }
-    ensures grew { OnErr result (RanMore (E.ran engine.old) (E.ran engine.new)) }
+    ensures cut { OnErr result (RestCut (setting_of H.answer H.after R.reads E.body) (E.progress body.old).job
+        ((E.progress body.old).seen ++ (E.progress body.old).left)
+        (record { live = live.old; hosts = H.state hosts.old })
+        (record { live = live.new; hosts = H.state hosts.new })
+        (E.ran engine.old) (E.ran engine.new)) }
 {
     let mut asked = Asked { live, hosts };
     let turn = go_asked(alloc, reader, &mut asked, engine, body)?;
@@ -79,6 +92,12 @@ fn replay_asked<R: Reader, E: Engine, H: Hosts>(
         (record { live = asked.old.live.now; hosts = H.state asked.old.hosts.now })
         (record { live = asked.new.live.now; hosts = H.state asked.new.hosts.now })) }
     ensures same_live { IfOk result (λ _. asked.new.live.ghost_name ≡ asked.old.live.ghost_name) }
+    ensures cut { OnErr result ((told : List (List ℕ)) → RestCut (setting_of H.answer H.after R.reads E.body)
+        (job_of run.now) (take from run.now.run.seen)
+        (record { live = asked.old.live.now; hosts = H.state asked.old.hosts.now })
+        (record { live = asked.new.live.now; hosts = H.state asked.new.hosts.now }) told told) }
+    ensures err_live { OnErr result (asked.new.live.ghost_name ≡ asked.old.live.ghost_name) }
+    ensures err_hosts { OnErr result (asked.new.hosts.ghost_name ≡ asked.old.hosts.ghost_name) }
     ensures same_hosts { IfOk result (λ _. asked.new.hosts.ghost_name ≡ asked.old.hosts.ghost_name) }
 {
     let _seen = run.seen();
@@ -99,6 +118,10 @@ pub(crate) fn replay_outside<R: Reader, E: Engine, H: Hosts>(
     ensures to { IfOk result (λ replayed. AskedTo (setting_of H.answer H.after R.reads E.body) run.now from replayed
         (record { live = live.old; hosts = H.state hosts.old })
         (record { live = live.new; hosts = H.state hosts.new })) }
+    ensures cut { OnErr result ((told : List (List ℕ)) → RestCut (setting_of H.answer H.after R.reads E.body)
+        (job_of run.now) (take from run.now.run.seen)
+        (record { live = live.old; hosts = H.state hosts.old })
+        (record { live = live.new; hosts = H.state hosts.new }) told told) }
     ensures depth { IfOk result (λ _. length live.new.opened ≡ length live.old.opened) }
 {
     let mut asked = Asked { live, hosts };

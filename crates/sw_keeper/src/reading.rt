@@ -4,6 +4,7 @@ ghost use Rattle.sw_folder.specs.Files.{most_bytes};
 ghost use Rattle.sw_keeper.specs.Steps.{IsSame, NoneSame, DiffersBy};
 
 use crate::Reader;
+use crate::context::Opening;
 use crate::kept::{KeptRun, KeptRuns};
 use std::alloc::Global;
 use sw_record::Cause;
@@ -15,18 +16,16 @@ use sw_world::{Config, Engine};
 /// The kept run of a module, where it is of the same text and configuration.
 pub(crate) fn same_run<'k, R: Reader, E: Engine>(
     kept: &'k KeptRuns<R, E>,
-    path: &Name,
-    text: &Name,
-    config: &Config,
+    opening: &Opening,
 ) -> Option<&'k KeptRun<R, E>>
-    ensures { MatchOption result (NoneSame kept.now path.now text.now config.now)
-        (λ one. IsSame kept.now path.now text.now config.now one.now) }
+    ensures { MatchOption result (NoneSame kept.now opening.now.path opening.now.text opening.now.config)
+        (λ one. IsSame kept.now opening.now.path opening.now.text opening.now.config one.now) }
 {
-    let Some(one) = kept.get(path) else {
+    let Some(one) = kept.get(&opening.path) else {
         return None;
     };
     let run = one.run();
-    if run.text().same(text) && same_config(run.config(), config) {
+    if run.text().same(&opening.text) && same_config(run.config(), &opening.config) {
         Some(one)
     } else {
         None
@@ -38,35 +37,29 @@ pub(crate) fn read_sheet<R: Reader, E: Engine>(
     alloc: Global,
     reader: &R,
     kept: &KeptRuns<R, E>,
-    path: &Name,
-    text: &Name,
+    opening: &Opening,
 ) -> Result<Result<Shared<Sheet>, Fault>, Memory>
-    requires { length text.now ≤ most_bytes }
-    ensures { IfOk result (λ reading. reading ≡ R.reads path.now text.now) }
+    requires { length opening.now.text ≤ most_bytes }
+    ensures { IfOk result (λ reading. reading ≡ R.reads opening.now.path opening.now.text) }
 {
-    if let Some(one) = kept.get(path) {
+    if let Some(one) = kept.get(&opening.path) {
         let run = one.run();
-        if run.text().same(text) {
+        if run.text().same(&opening.text) {
             return Ok(Ok(run.sheet().share()?));
         }
     }
-    reader.read(alloc, path, text)
+    reader.read(alloc, &opening.path, &opening.text)
 }
 
 /// Why the body of a module has to run of which no run with this text and this configuration is kept.
-pub(crate) fn cause_anew<R: Reader, E: Engine>(
-    kept: &KeptRuns<R, E>,
-    path: &Name,
-    text: &Name,
-    config: &Config,
-) -> Cause
-    requires { NoneSame kept.now path.now text.now config.now }
-    ensures { DiffersBy kept.now path.now text.now config.now [] result }
+pub(crate) fn cause_anew<R: Reader, E: Engine>(kept: &KeptRuns<R, E>, opening: &Opening) -> Cause
+    requires { NoneSame kept.now opening.now.path opening.now.text opening.now.config }
+    ensures { DiffersBy kept.now opening.now.path opening.now.text opening.now.config [] result }
 {
-    let Some(one) = kept.get(path) else {
+    let Some(one) = kept.get(&opening.path) else {
         return Cause::First;
     };
-    if one.run().text().same(text) {
+    if one.run().text().same(&opening.text) {
         Cause::Config
     } else {
         Cause::Text

@@ -1,40 +1,35 @@
 // What a compile has come to so far.
 ghost use Rattle.std.specs.Prelude.{◌≡◌, ◌++◌, ◌∷◌, [], Ok, IfOk, OnOk};
 ghost use Rattle.sw_world.specs.Body.{Goes, Ends, answers};
+ghost use Rattle.sw_keeper.specs.Steps.{job_at, run_of};
 
 use crate::Reader;
+use crate::context::Opening;
 use crate::kept::KeptRun;
 use std::alloc::Global;
 use std::marker::Model;
 use sw_record::{Cause, Run};
 use sw_text::{List, Memory, Name, Shared};
 use sw_tree::Sheet;
-use sw_world::{Answer, Config, End, Engine, Op, Share};
+use sw_world::{Answer, End, Engine, Op, Share};
 
 /// The run of a body that ended.
 pub(crate) fn run_ended<E: Engine>(
     alloc: Global,
-    path: &Name,
-    text: &Name,
+    opening: &Opening,
     sheet: &Shared<Sheet>,
-    config: &Config,
     seen: List<(Op, Answer)>,
     end: End,
 ) -> Result<Run<E>, Memory>
-    requires goes { Goes (E.body (record { sheet = sheet.now; config = config.now; path = path.now })) [] seen }
-    requires ends { E.body (record { sheet = sheet.now; config = config.now; path = path.now }) (answers seen)
-        ≡ Ends end }
+    requires goes { Goes (E.body (job_at sheet.now opening.now)) [] seen }
+    requires ends { E.body (job_at sheet.now opening.now) (answers seen) ≡ Ends end }
     ensures { IfOk result (λ run. run
-        ≡ record {
-          sheet = sheet.now;
-          run =
-              record { path = path.now; text = text.now; config = config.now; seen = seen; end = end };
-        }) }
+        ≡ record { sheet = sheet.now; run = run_of (job_at sheet.now opening.now) opening.now.text seen end }) }
 {
-    let path = path.share()?;
-    let text = text.share()?;
+    let path = opening.path.share()?;
+    let text = opening.text.share()?;
     let sheet = sheet.share()?;
-    let config = config.share()?;
+    let config = opening.config.share()?;
     let seen = Shared::new(alloc, seen)?;
     Run::new(alloc, path, text, sheet, config, seen, end)
 }

@@ -1,10 +1,11 @@
 -- The evaluation of a module from nothing (this project's own rule: what a compile has to give is what this gives).
-use Rattle.std.specs.Prelude.{ℕ, zero, suc, ◌-◌, List, [], ◌∷◌, ◌++◌, length, Result, Ok, Err}
+use Rattle.std.specs.Prelude.{ℕ, zero, suc, ◌-◌, List, [], ◌∷◌, ◌++◌, length, Option, Result, Ok, Err}
 use Rattle.sw_text.specs.Starts.{start_of}
 use Rattle.sw_text.specs.declared.fault.Fault.{Fault}
 use Rattle.sw_text.specs.declared.fault.FaultCode.TheVariants.{Turns}
 use Rattle.sw_tree.specs.declared.sheet.Sheet.{Sheet}
 use Rattle.sw_values.specs.declared.plain.Plain.{Plain}
+use Rattle.sw_world.specs.Hosts.{HostState}
 use Rattle.sw_world.specs.declared.op.Op.{Op}
 use Rattle.sw_world.specs.declared.op.Op.TheVariants.{Load, Find, Get, Put, Say, Call}
 use Rattle.sw_world.specs.declared.answer.Answer.{Answer}
@@ -23,6 +24,11 @@ pub record Setting : Type 0 where
   pub functions : Functions
   pub read : List ℕ → List ℕ → Result Sheet Fault
   pub body : BodyOf
+
+abbrev pub setting_of : (HostState → List ℕ → List Plain → Option Plain)
+    → (HostState → List ℕ → List Plain → HostState) → (List ℕ → List ℕ → Result Sheet Fault) → BodyOf → Setting
+setting_of answer after read body =
+    record { functions = record { answer = answer; after = after }; read = read; body = body }
 
 -- what is outside when a body has ended, the runs that ended until then, and how it ended
 pub record Outcome : Type 0 where

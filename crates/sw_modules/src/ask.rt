@@ -1,7 +1,7 @@
 // Questions that are no loads.
 ghost use Rattle.std.specs.Prelude.{◌≡◌, ◌++◌, ◌∷◌, [], bytes_eq, IfOk, OnOk, OnErr, None, Some};
 ghost use Rattle.std.specs.Map.{lookup};
-ghost use Rattle.std.specs.Option.{option_copied};
+ghost use Rattle.std.specs.Option.{option_map};
 ghost use Rattle.sw_world.specs.Questions.{IsLoad, Fits};
 ghost use Rattle.sw_world.specs.declared.answer.Answer.TheVariants.{Value as Value_answer};
 ghost use Rattle.sw_modules.specs.Names.{found, used_member, loaded_member, public_member, member_of, value_of, no_value};
@@ -9,9 +9,10 @@ ghost use Rattle.sw_text.specs.Names.{is_private};
 ghost use Rattle.sw_modules.specs.Outside.{plain};
 ghost use Rattle.sw_modules.specs.State.{path_in, uses_in, with_variable};
 
-use crate::Live;
+use crate::live::Recent;
 use crate::loads::{is_innermost, use_of};
-use crate::names::variable_of;
+use crate::names::{Found, variable_of};
+use crate::{Live, Used};
 use std::alloc::Global;
 use sw_text::{Memory, Name, Span};
 use sw_tree::Kind;
@@ -36,7 +37,7 @@ impl<'a> Live<'a> {
                 space,
                 kind,
                 name,
-            } => self.found(site, space, *kind, name),
+            } => self.find(site, space, *kind, name),
             Op::Get { owner, name } => Ok(Answer::Value(self.value_of(owner, name)?)),
             Op::Put { owner, name, value } => {
                 self.put(owner, name, value)?;
@@ -53,70 +54,112 @@ impl<'a> Live<'a> {
         }
     }
 
+    /// What a name means. Where it was found is where the next one is looked for first.
+    fn find(
+        &mut self,
+        site: &Name,
+        space: &Option<Name>,
+        kind: Kind,
+        name: &Name,
+    ) -> Result<Answer, Memory>
+        ensures found { IfOk result (λ answer. answer ≡ found self.old site.now space.now kind name.now) }
+        ensures same { self.new ≡ self.old }
+    {
+        let Found { answer, recent } = self.found(site, space, kind, name)?;
+        self.recent = recent;
+        Ok(answer)
+    }
+
     fn found(
         &self,
         site: &Name,
         space: &Option<Name>,
         kind: Kind,
         name: &Name,
-    ) -> Result<Answer, Memory>
-        ensures { IfOk result (λ answer. answer ≡ found self.now site.now space.now kind name.now) }
+    ) -> Result<Found, Memory>
+        ensures { IfOk result (λ it. it.answer ≡ found self.now site.now space.now kind name.now) }
     {
         if is_innermost(self.opened(), site) {
             return self.used_now(space, kind, name);
         }
         match self.loaded().get(site) {
-            None => Ok(Answer::NoMember),
+            None => Ok(self.missed(Answer::NoMember)),
             Some(held) => match space {
-                None => self.member_of(kind, name, site),
-                Some(space) => self.public_member(kind, name, held.uses.named.get(space)),
+                None => self.member_of(kind, name, site, self.recent),
+                Some(space) => {
+                    let used = held.uses.named.find(space, self.recent.space);
+                    self.public_member(kind, name, used)
+                }
             },
         }
     }
 
-    fn used_now(&self, space: &Option<Name>, kind: Kind, name: &Name) -> Result<Answer, Memory>
-        ensures { IfOk result (λ answer. answer
+    fn used_now(&self, space: &Option<Name>, kind: Kind, name: &Name) -> Result<Found, Memory>
+        ensures { IfOk result (λ it. it.answer
             ≡ used_member self.now (uses_in self.now.opened) space.now kind name.now) }
     {
         match space {
-            None => Ok(Answer::NoMember),
-            Some(space) => self.public_member(kind, name, use_of(self.opened(), space)),
+            None => Ok(self.missed(Answer::NoMember)),
+            Some(space) => {
+                let used = use_of(self.opened(), space, self.recent.space);
+                self.public_member(kind, name, used)
+            }
         }
     }
 
-    fn public_member(&self, kind: Kind, name: &Name, path: Option<&Name>) -> Result<Answer, Memory>
-        ensures { IfOk result (λ answer. answer ≡ public_member self.now kind name.now (option_copied path.entry)) }
+    fn public_member(
+        &self,
+        kind: Kind,
+        name: &Name,
+        used: Option<(usize, &Used)>,
+    ) -> Result<Found, Memory>
+        ensures { IfOk result (λ it. it.answer
+            ≡ public_member self.now kind name.now (option_map (λ found. found.1.now) used.entry)) }
     {
-        match path {
-            None => Ok(Answer::NoNamespace),
-            Some(path) => {
+        match used {
+            None => Ok(self.missed(Answer::NoNamespace)),
+            Some((place, used)) => {
                 if name.is_private() {
-                    Ok(Answer::NoMember)
+                    Ok(self.missed(Answer::NoMember))
                 } else {
-                    self.member_of(kind, name, path)
+                    let recent = Recent {
+                        space: place,
+                        module: used.near,
+                        variable: self.recent.variable,
+                    };
+                    self.member_of(kind, name, used.path(), recent)
                 }
             }
         }
     }
 
-    fn member_of(&self, kind: Kind, name: &Name, path: &Name) -> Result<Answer, Memory>
-        ensures { IfOk result (λ answer. answer ≡ member_of self.now kind name.now path.now) }
+    fn member_of(&self, kind: Kind, name: &Name, path: &Name, near: Recent) -> Result<Found, Memory>
+        ensures { IfOk result (λ it. it.answer ≡ member_of self.now kind name.now path.now) }
     {
         match kind {
-            Kind::Variable => variable_of(path, name, self.loaded().get(path)),
-            Kind::Function => Ok(Answer::NoMember),
-            Kind::Mixin => Ok(Answer::NoMember),
+            Kind::Variable => variable_of(self.loaded(), path, name, near),
+            Kind::Function => Ok(self.missed(Answer::NoMember)),
+            Kind::Mixin => Ok(self.missed(Answer::NoMember)),
+        }
+    }
+
+    fn missed(&self, answer: Answer) -> Found
+        ensures { result.answer ≡ answer }
+    {
+        Found {
+            answer,
+            recent: self.recent,
         }
     }
 
     fn value_of(&self, owner: &Name, name: &Name) -> Result<Value, Memory>
         ensures { IfOk result (λ value. value ≡ value_of self.now owner.now name.now) }
     {
-        match self.loaded().get(owner) {
+        match self.loaded().find(owner, self.recent.module) {
             None => Ok(Value::null()),
-            Some(held) => match held.variables.get(name) {
+            Some((_, held)) => match held.variables.find(name, self.recent.variable) {
                 None => Ok(Value::null()),
-                Some(value) => value.share(),
+                Some((_, value)) => value.share(),
             },
         }
     }

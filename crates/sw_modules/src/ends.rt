@@ -121,7 +121,7 @@ impl<'a> Live<'a> {
         let path = path.share()?;
         let count = self.opened.len();
         if count > 1 {
-            use_at(&mut self.opened, count - 2, how, path)
+            use_at(&mut self.opened, count - 2, how, path, self.loaded.len())
         } else {
             Ok(())
         }

@@ -18,5 +18,5 @@ pub use laws::{calls_lead, comes_by, ends_by_bodies};
 pub use live::{Begin, Enter, Finished, Live};
 pub use loaded::Loaded;
 pub use module::{Module, Opened};
-pub use uses::{Use, Uses};
+pub use uses::{Use, Used, Uses};
 pub use variables::Variables;

@@ -48,6 +48,14 @@ pub struct Finished {
     pub outputs: List<Shared<CssTree>>,
 }
 
+/// The places at which the latest question found a namespace, a module and a variable: where the next one looks first.
+#[derive(Clone, Copy, Drop)]
+pub(crate) struct Recent {
+    pub(crate) space: usize,
+    pub(crate) module: usize,
+    pub(crate) variable: usize,
+}
+
 /// The state of one compile over a folder: the loaded modules, the open loads, the messages and the outputs.
 #[derive(Drop)]
 pub struct Live<'a> {
@@ -58,6 +66,7 @@ pub struct Live<'a> {
     pub(crate) opened: Vec<Opened>,
     says: List<Saying>,
     pub(crate) outputs: List<Shared<CssTree>>,
+    pub(crate) recent: Recent,
 }
 
 impl<'a> Model for Live<'a> {
@@ -97,6 +106,11 @@ impl<'a> Live<'a> {
             opened: Vec::new(alloc),
             says: List::new(alloc),
             outputs: List::new(alloc),
+            recent: Recent {
+                space: 0,
+                module: 0,
+                variable: 0,
+            },
         }
     }
 
@@ -113,6 +127,7 @@ impl<'a> Live<'a> {
             opened: _,
             says,
             outputs,
+            recent: _,
         } = self;
         Finished { says, outputs }
     }
@@ -197,8 +212,11 @@ impl<'a> Live<'a> {
         if self.opened.len() >= MOST_OPEN {
             return Ok(Begin::Answered(refused(FaultCode::Depth, span)?));
         }
-        match self.loaded.get(&path) {
-            Some(_) => Ok(Begin::Answered(self.begin_loaded(path, span, how, config)?)),
+        match self.loaded.find(&path, self.recent.module) {
+            Some((near, _)) => {
+                let answer = self.begin_loaded(path, near, span, how, config)?;
+                Ok(Begin::Answered(answer))
+            }
             None => self.begin_new(path, span, config),
         }
     }
@@ -206,6 +224,7 @@ impl<'a> Live<'a> {
     fn begin_loaded(
         &mut self,
         path: Name,
+        near: usize,
         span: &Span,
         how: &How,
         config: &[Given],
@@ -221,7 +240,7 @@ impl<'a> Live<'a> {
             return refused(FaultCode::AlreadyLoaded, span);
         }
         let none = Shared::new(self.alloc, List::new(self.alloc))?;
-        self.used_as(how, path, none, span)
+        self.used_as(how, path, near, none, span)
     }
 
     fn begin_new(&mut self, path: Name, span: &Span, config: &[Given]) -> Result<Begin, Memory>
@@ -250,6 +269,7 @@ impl<'a> Live<'a> {
         &mut self,
         how: &How,
         path: Name,
+        near: usize,
         taken: Shared<List<Name>>,
         span: &Span,
     ) -> Result<Answer, Memory>
@@ -265,7 +285,7 @@ impl<'a> Live<'a> {
             path: path.share()?,
             taken,
         };
-        add_use(&mut self.opened, how, path)?;
+        add_use(&mut self.opened, how, path, near)?;
         Ok(answer)
     }
 

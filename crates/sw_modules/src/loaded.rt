@@ -1,7 +1,7 @@
 // The loaded modules.
-ghost use Rattle.std.specs.Prelude.{◌≡◌, [], bytes_eq, OnOk, OnErr};
+ghost use Rattle.std.specs.Prelude.{◌≡◌, [], bytes_eq, length, OnOk, OnErr};
 ghost use Rattle.std.specs.Map.{lookup};
-ghost use Rattle.std.specs.Option.{option_copied};
+ghost use Rattle.std.specs.Option.{option_copied, option_map};
 ghost use Rattle.indexmap.specs.IndexMap.{insert_entry};
 ghost use Rattle.sw_modules.specs.Uses.{no_uses};
 ghost use Rattle.sw_modules.specs.State.{module_of, used_by, with_variable};
@@ -12,7 +12,7 @@ use std::alloc::Global;
 use std::marker::Model;
 use sw_text::{Memory, Name, Shared};
 use sw_values::Value;
-use sw_world::Finish;
+use sw_world::{Finish, find_in};
 
 /// The loaded modules by their paths. Contracts see the list of the entries.
 #[derive(Drop)]
@@ -49,6 +49,21 @@ impl Loaded {
         ensures { option_copied result ≡ lookup (bytes_eq path.now) self.now }
     {
         self.entries.get(path)
+    }
+
+    /// The module at a path, and its place. The place `near` and the one behind it are looked at first; what is found
+    /// is the same for every guess.
+    pub(crate) fn find(&self, path: &Name, near: usize) -> Option<(usize, &Module)>
+        ensures { option_map (λ found. found.1.now) result ≡ lookup (bytes_eq path.now) self.now }
+    {
+        find_in(&self.entries, path, near)
+    }
+
+    /// How many are loaded.
+    pub(crate) fn len(&self) -> usize
+        ensures { result ≡ length self.now }
+    {
+        self.entries.len()
     }
 
     /// Adds the module at a path that this body left behind, as yet without its uses. After `Memory` the modules are as

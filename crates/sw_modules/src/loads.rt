@@ -2,12 +2,12 @@
 ghost use Rattle.std.specs.Prelude.{◌≡◌, ◌<◌, ◌&&◌, ◌∷◌, [], not, length, bytes_eq, IfOk, OnOk, OnErr, None, Some};
 ghost use Rattle.std.specs.List.{list_any};
 ghost use Rattle.std.specs.Map.{lookup};
-ghost use Rattle.std.specs.Option.{option_copied};
+ghost use Rattle.std.specs.Option.{option_copied, option_map};
 ghost use Rattle.sw_modules.specs.State.{below, changed_at, path_in, uses_in, with_use};
 ghost use Rattle.sw_modules.specs.Uses.{is_taken, no_uses, with_one, without_last};
 ghost use Rattle.sw_modules.specs.Loads.{refused, is_open, config_of, is_explicit, first_untaken};
 
-use crate::Opened;
+use crate::{Opened, Used};
 use std::alloc::Global;
 use sw_text::{Fault, FaultCode, List, Memory, Name, Shared, Span};
 use sw_world::{Answer, Config, Given, How, Table};
@@ -37,12 +37,17 @@ pub(crate) fn is_innermost(opened: &[Opened], path: &Name) -> bool
     }
 }
 
-/// The path that a namespace of the innermost open load stands for.
-pub(crate) fn use_of<'o>(opened: &'o [Opened], space: &Name) -> Option<&'o Name>
-    ensures { option_copied result ≡ lookup (bytes_eq space.now) (uses_in opened.now).named }
+/// The module that a namespace of the innermost open load stands for, and the place of that namespace, which is looked
+/// for near another place first.
+pub(crate) fn use_of<'o>(
+    opened: &'o [Opened],
+    space: &Name,
+    near: usize,
+) -> Option<(usize, &'o Used)>
+    ensures { option_map (λ found. found.1.now) result ≡ lookup (bytes_eq space.now) (uses_in opened.now).named }
 {
     match opened.last() {
-        Some(load) => load.uses.named.get(space),
+        Some(load) => load.uses.named.find(space, near),
         None => None,
     }
 }
@@ -65,7 +70,12 @@ fn none_takes(how: &How) -> bool
 }
 
 /// The innermost open load uses a module too. After `Memory` the uses are as before.
-pub(crate) fn add_use(opened: &mut [Opened], how: &How, path: Name) -> Result<(), Memory>
+pub(crate) fn add_use(
+    opened: &mut [Opened],
+    how: &How,
+    path: Name,
+    near: usize,
+) -> Result<(), Memory>
     ensures ok { OnOk result (opened.new ≡ with_use how.now path opened.old) }
     ensures err { OnErr result (opened.new ≡ opened.old) }
     ensures same_count { length opened.new ≡ length opened.old }
@@ -73,7 +83,7 @@ pub(crate) fn add_use(opened: &mut [Opened], how: &How, path: Name) -> Result<()
     let count = opened.len();
     if count > 0 {
         let load = &mut opened[count - 1];
-        load.uses.add(how, path)?;
+        load.uses.add(how, path, near)?;
     }
     Ok(())
 }
@@ -91,6 +101,7 @@ pub(crate) fn use_at(
     at: usize,
     how: &How,
     path: Name,
+    near: usize,
 ) -> Result<(), Memory>
     requires { at < length opened.old.items }
     ensures ok { OnOk result (opened.new.items ≡ changed_at at (with_one how.now path) opened.old.items) }
@@ -98,7 +109,7 @@ pub(crate) fn use_at(
     ensures same_count { length opened.new.items ≡ length opened.old.items }
 {
     let load = &mut opened[at];
-    load.uses.add(how, path)
+    load.uses.add(how, path, near)
 }
 
 /// The last use of this kind of the open load at a place is taken back.

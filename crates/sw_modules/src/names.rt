@@ -1,27 +1,52 @@
 // What a name means.
-ghost use Rattle.std.specs.Prelude.{◌≡◌, IfOk};
-ghost use Rattle.std.specs.Option.{option_copied};
+ghost use Rattle.std.specs.Prelude.{◌≡◌, bytes_eq, IfOk};
+ghost use Rattle.std.specs.Map.{lookup};
 ghost use Rattle.sw_modules.specs.Names.{variable_of};
 
-use crate::Module;
+use crate::Loaded;
+use crate::live::Recent;
 use sw_text::{Memory, Name};
 use sw_world::Answer;
 
-/// The answer that the module at a path has a variable, or hasn't.
-pub(crate) fn variable_of(path: &Name, name: &Name, held: Option<&Module>) -> Result<Answer, Memory>
-    ensures { IfOk result (λ answer. answer ≡ variable_of path.now name.now (option_copied held.entry)) }
+/// What a name means, and the places at which that was found.
+#[derive(Drop)]
+pub struct Found {
+    pub answer: Answer,
+    pub(crate) recent: Recent,
+}
+
+/// The answer that the module at a path has a variable, or hasn't. Both are looked for near these places first.
+pub(crate) fn variable_of(
+    loaded: &Loaded,
+    path: &Name,
+    name: &Name,
+    near: Recent,
+) -> Result<Found, Memory>
+    ensures { IfOk result (λ it. it.answer
+        ≡ variable_of path.now name.now (lookup (bytes_eq path.now) loaded.now)) }
 {
-    match held {
-        None => Ok(Answer::NoMember),
-        Some(held) => {
-            if held.variables.get(name).is_some() {
-                Ok(Answer::Owner {
-                    path: path.share()?,
-                    name: name.share()?,
-                })
-            } else {
-                Ok(Answer::NoMember)
-            }
+    let Some((module, held)) = loaded.find(path, near.module) else {
+        return Ok(Found {
+            answer: Answer::NoMember,
+            recent: near,
+        });
+    };
+    match held.variables.find(name, near.variable) {
+        None => Ok(Found {
+            answer: Answer::NoMember,
+            recent: near,
+        }),
+        Some((variable, _)) => {
+            let recent = Recent {
+                space: near.space,
+                module,
+                variable,
+            };
+            let answer = Answer::Owner {
+                path: path.share()?,
+                name: name.share()?,
+            };
+            Ok(Found { answer, recent })
         }
     }
 }

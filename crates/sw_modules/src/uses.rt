@@ -3,8 +3,38 @@ ghost use Rattle.std.specs.Prelude.{◌≡◌, ◌++◌, ◌∷◌, [], OnOk, On
 ghost use Rattle.sw_modules.specs.Uses.{no_uses, is_taken, with_one, without_last};
 
 use std::alloc::Global;
+use std::marker::Model;
 use sw_text::{List, Memory, Name};
 use sw_world::{How, Table};
+
+/// The path of a module that is used, with a guess of its place among the loaded ones. Contracts see the path.
+#[derive(Drop)]
+pub struct Used {
+    pub(crate) path: Name,
+    pub(crate) near: usize,
+}
+
+impl Model for Used {
+    ghost use Rattle.std.specs.Prelude.{List, ℕ};
+
+    ghost Value = { List ℕ };
+
+    ghost view = { λ used. used.path };
+}
+
+impl Used {
+    pub(crate) fn new(path: Name, near: usize) -> Used
+        ensures { result ≡ path }
+    {
+        Used { path, near }
+    }
+
+    pub(crate) fn path(&self) -> &Name
+        ensures { result.now ≡ self.now }
+    {
+        &self.path
+    }
+}
 
 /// A module that is used, and how.
 #[derive(Drop)]
@@ -17,7 +47,7 @@ pub struct Use {
 /// whose members are its own or become so.
 #[derive(Drop)]
 pub struct Uses {
-    pub named: Table<Name>,
+    pub named: Table<Used>,
     pub others: List<Use>,
 }
 
@@ -43,13 +73,15 @@ impl Uses {
         }
     }
 
-    /// One more module is used. After `Memory` the uses are as before.
-    pub(crate) fn add(&mut self, how: &How, path: Name) -> Result<(), Memory>
+    /// One more module is used, which is near this place among the loaded ones. After `Memory` the uses are as before.
+    pub(crate) fn add(&mut self, how: &How, path: Name, near: usize) -> Result<(), Memory>
         ensures ok { OnOk result (self.new ≡ with_one how.now path self.old) }
         ensures err { OnErr result (self.new ≡ self.old) }
     {
         match how {
-            How::Use { space: Some(space) } => self.named.add(space.share()?, path),
+            How::Use { space: Some(space) } => self
+                .named
+                .add(space.share()?, Used::new(path, near)),
             How::Use { space: None } => self.add_other(how, path),
             How::Forward { .. } => self.add_other(how, path),
         }

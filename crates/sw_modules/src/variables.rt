@@ -1,7 +1,7 @@
 // The variables of a loaded module.
 ghost use Rattle.std.specs.Prelude.{◌≡◌, bytes_eq, IfOk, OnOk, OnErr};
 ghost use Rattle.std.specs.Map.{lookup, set_value};
-ghost use Rattle.std.specs.Option.{option_copied};
+ghost use Rattle.std.specs.Option.{option_map};
 
 use std::alloc::Global;
 use std::marker::Model;
@@ -42,13 +42,14 @@ impl Variables {
         })
     }
 
-    /// The value of a name.
-    pub fn get(&self, name: &Name) -> Option<&Value>
-        ensures { option_copied result ≡ lookup (bytes_eq name.now) self.now }
+    /// The value of a name, and its place. The place `near` and the one behind it are looked at first; what is found is
+    /// the same for every guess.
+    pub fn find(&self, name: &Name, near: usize) -> Option<(usize, &Value)>
+        ensures { option_map (λ found. found.1.now) result ≡ lookup (bytes_eq name.now) self.now }
     {
         match &self.own {
-            Some(own) => own.get(name),
-            None => self.finish.get().variables.get(name),
+            Some(own) => own.find(name, near),
+            None => self.finish.get().variables.find(name, near),
         }
     }
 

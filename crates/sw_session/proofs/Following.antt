@@ -46,9 +46,9 @@ all_answered setting most stop bytes before now left ran ran_now hosts hosts_now
 edit_mark : (mark other : Mark) → IsEditMark mark → IsEditMark other → mark ≡ other
 edit_mark Edited Edited a b = refl
 edit_mark Edited (Answered ran) a b = absurd b
-edit_mark Edited (Refused ran hosts) a b = absurd b
+edit_mark Edited (Refused ran calls) a b = absurd b
 edit_mark (Answered ran) other a b = absurd a
-edit_mark (Refused ran hosts) other a b = absurd a
+edit_mark (Refused ran calls) other a b = absurd a
 
 some_same : (a b : Refusal) → Some a ≡ Some b → a ≡ b
 some_same a b e = cc
@@ -59,11 +59,11 @@ compile_mark setting h entry paths Edited other a b e = absurd a
 compile_mark setting h entry paths (Answered ran) Edited a b e = absurd b
 compile_mark setting h entry paths (Answered ran) (Answered other) a b e =
     ap (λ (x : List (List ℕ × Cause)). Answered x) (ran_is_one (table_of h.kept entry) (compiled setting h.folder paths entry h.hosts).runs ran other a b)
-compile_mark setting h entry paths (Answered ran) (Refused bodies hosts) a b e = cc
-compile_mark setting h entry paths (Refused ran hosts) Edited a b e = absurd b
-compile_mark setting h entry paths (Refused ran hosts) (Answered other) a b e = cc
-compile_mark setting h entry paths (Refused ran hosts) (Refused bodies others) a b e =
-    ap (λ (x : Refusal). Refused x.ran x.hosts) (some_same (record { ran = ran; hosts = hosts }) (record { ran = bodies; hosts = others }) e)
+compile_mark setting h entry paths (Answered ran) (Refused bodies calls) a b e = cc
+compile_mark setting h entry paths (Refused ran calls) Edited a b e = absurd b
+compile_mark setting h entry paths (Refused ran calls) (Answered other) a b e = cc
+compile_mark setting h entry paths (Refused ran calls) (Refused bodies others) a b e =
+    ap (λ (x : Refusal). Refused x.ran x.calls) (some_same (record { ran = ran; calls = calls }) (record { ran = bodies; calls = others }) e)
 
 one_mark : (setting : Setting) → OneMark (session setting) refusal
 one_mark setting h (Put path bytes) mark other a b e = edit_mark mark other a b

@@ -16,10 +16,8 @@ use Rattle.sw_world.specs.declared.op.Saying.{Saying}
 use Rattle.sw_modules.specs.Fresh.{Setting}
 use Rattle.sw_record.specs.declared.reply.Outcome.{Outcome}
 use Rattle.sw_record.specs.declared.reply.Reply.{Reply}
-use Rattle.sw_record.specs.Ran.{Ran}
-use Rattle.sw_keeper.specs.Compile.{Compile as Compiled, compiled, paths_of}
-use Rattle.sw_keeper.specs.Keeping.{Tables, Keeping, table_of, kept_after}
-use Rattle.sw_keeper.specs.Steps.{RanMore}
+use Rattle.sw_keeper.specs.Compile.{Compile as Compiled, compiled, CompilesTo, BreaksOff}
+use Rattle.sw_keeper.specs.Keeping.{Tables, Keeping}
 use Rattle.sw_protocol.specs.declared.stop.Stop.{Stop}
 use Rattle.sw_protocol.specs.declared.stop.Stop.TheVariants.{Ended, Wrong, CutOff, SourceFailed, SinkFailed, Memory, OutsideFailed, Over as Over_stop}
 use Rattle.sw_protocol.specs.Protocol.{Turn}
@@ -129,22 +127,16 @@ module _ (setting : Setting) (event : Event) (mark : Mark) (before after : Stand
 held_same : (f f' : Files) (k k' : Tables) (h h' : HostState) → f ≡ f' → k ≡ k' → h ≡ h' → held f k h ≡ held f' k' h'
 held_same f f' k k' h h' a b c = ap (λ (x : Files). held x k h) a ∙ ap (λ (x : Tables). held f' x h) b ∙ ap (λ (x : HostState). held f' k' x) c
 
--- a compile of this entry gave this and was answered so
-pub record IsCompiled (c : Compiled) (entry : List ℕ) (reply : Reply) (before after : Standing Held) : Type 0 where
-  pub says : reply.says ≡ c.says
-  pub outcome : reply.outcome ≡ c.outcome
-  pub ran : Ran (table_of before.held.kept entry) c.runs reply.ran
-  pub told : after.ran ≡ before.ran ++ paths_of reply.ran
-  pub hosts : after.held.hosts ≡ c.hosts
-  pub kept : after.held.kept ≡ kept_after before.held.kept entry c.runs
-  pub folder : after.held.folder ≡ before.held.folder
+-- the folder and the kept runs of what is held
+abbrev pub keeping : Held → Keeping
+keeping h = record { folder = h.folder; kept = h.kept }
 
 reply_is : (reply : Reply) (c : Compiled) → reply.says ≡ c.says → reply.outcome ≡ c.outcome → reply_text reply ≡ reply_text (record { says = c.says; ran = reply.ran; outcome = c.outcome })
 reply_is reply c a b = ap (λ (x : List Saying). says_text x ++ ran_text reply.ran ++ outcome_text reply.outcome) a
     ∙ ap (λ (x : Outcome). says_text c.says ++ ran_text reply.ran ++ outcome_text x) b
 
 module _ (setting : Setting) (entry : List ℕ) (paths : List (List ℕ)) (before after : Standing Held) (reply : Reply) (written now : Option (List ℕ))
-    (c : IsCompiled (compiled setting before.held.folder paths entry before.held.hosts) entry reply before after) where
+    (c : CompilesTo (compiled setting before.held.folder paths entry before.held.hosts) entry reply (keeping before.held) (keeping after.held) after.held.hosts before.ran after.ran) where
   pub compile_says : Appends written now (reply_text reply) → Says (session setting) (Compile entry paths) before after written now
   compile_says a =
       says setting (Compile entry paths) (Answered reply.ran) before after (compile_turn setting before.held entry paths (Answered reply.ran))
@@ -171,18 +163,18 @@ module _ (setting : Setting) (entry : List ℕ) (paths : List (List ℕ)) (befor
 
 -- a compile was refused for want of memory
 module _ (setting : Setting) (entry : List ℕ) (paths : List (List ℕ)) (before after : Keeping) (hosts hosts_now : HostState) (ran ran_now : List (List ℕ)) (written now : Option (List ℕ)) (reply : List ℕ)
-    (k : after ≡ before) (m : RanMore ran ran_now) (e : reply ≡ memory_text) where
+    (k : after ≡ before) (m : BreaksOff setting before.folder paths entry hosts hosts_now ran ran_now) (e : reply ≡ memory_text) where
   pub refusal_says : Appends written now reply → Says (session setting) (Compile entry paths) (standing (holding before hosts) ran) (standing (holding after hosts_now) ran_now) written now
   refusal_says a =
-      says setting (Compile entry paths) (Refused m.0 hosts_now) (standing (holding before hosts) ran) (standing (holding after hosts_now) ran_now)
-      (compile_turn setting (holding before hosts) entry paths (Refused m.0 hosts_now)) (compile_is setting (holding before hosts) entry paths (Refused m.0 hosts_now)) tt
-      (ap (λ (x : Keeping). holding x hosts_now) k) m.1 written now reply e a
+      says setting (Compile entry paths) (Refused m.more m.count) (standing (holding before hosts) ran) (standing (holding after hosts_now) ran_now)
+      (compile_turn setting (holding before hosts) entry paths (Refused m.more m.count)) (compile_is setting (holding before hosts) entry paths (Refused m.more m.count)) m.few
+      (ap (λ (x : Keeping). holding x hosts_now) k ∙ ap (λ (x : HostState). holding before x) m.hosts) m.told written now reply e a
 
   pub refusal_says_some : SendsSome reply written now → SaysSome (session setting) (Compile entry paths) (standing (holding before hosts) ran) (standing (holding after hosts_now) ran_now) written now
   refusal_says_some s =
-      says_some setting (Compile entry paths) (Refused m.0 hosts_now) (standing (holding before hosts) ran) (standing (holding after hosts_now) ran_now)
-      (compile_turn setting (holding before hosts) entry paths (Refused m.0 hosts_now)) (compile_is setting (holding before hosts) entry paths (Refused m.0 hosts_now)) tt
-      (ap (λ (x : Keeping). holding x hosts_now) k) m.1 written now reply e s
+      says_some setting (Compile entry paths) (Refused m.more m.count) (standing (holding before hosts) ran) (standing (holding after hosts_now) ran_now)
+      (compile_turn setting (holding before hosts) entry paths (Refused m.more m.count)) (compile_is setting (holding before hosts) entry paths (Refused m.more m.count)) m.few
+      (ap (λ (x : Keeping). holding x hosts_now) k ∙ ap (λ (x : HostState). holding before x) m.hosts) m.told written now reply e s
 
 -- an edit that was judged
 module _ (setting : Setting) (hosts : HostState) (ran : List (List ℕ)) (before after : Keeping) (written now : Option (List ℕ)) (path reply : List ℕ) (kept : after.kept ≡ before.kept) where

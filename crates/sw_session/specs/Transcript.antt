@@ -1,5 +1,5 @@
 -- What comes of each request of a session. This project's own rule.
-use Rattle.std.specs.Prelude.{ℕ, List, [], ◌∷◌, Option, None, Some, Result, ⊤}
+use Rattle.std.specs.Prelude.{ℕ, ◌≤◌, List, length, [], ◌∷◌, Option, None, Some, Result, ⊤}
 use Rattle.sw_folder.specs.Files.{Files}
 use Rattle.sw_folder.specs.Edits.{after_put, after_removal, folder_after}
 use Rattle.sw_folder.specs.declared.edit.EditFault.{EditFault}
@@ -9,7 +9,7 @@ use Rattle.sw_modules.specs.Fresh.{Setting}
 use Rattle.sw_record.specs.declared.reply.Cause.{Cause}
 use Rattle.sw_record.specs.declared.reply.Reply.{Reply}
 use Rattle.sw_record.specs.Ran.{Ran}
-use Rattle.sw_keeper.specs.Compile.{Compile as Compiled, compiled, paths_of}
+use Rattle.sw_keeper.specs.Compile.{Compile as Compiled, compiled, paths_of, after_first}
 use Rattle.sw_keeper.specs.Keeping.{Tables, Keeping, table_of, kept_after}
 use Rattle.sw_protocol.specs.declared.stop.Stop.{Stop}
 use Rattle.sw_protocol.specs.declared.stop.Stop.TheVariants.{Ended, Wrong, CutOff, SourceFailed, SinkFailed, Memory, OutsideFailed, Over}
@@ -29,12 +29,12 @@ abbrev pub holding : Keeping → HostState → Held
 holding keeper hosts = held keeper.folder keeper.kept hosts
 
 -- what follows of a request from no definition. An edit has one mark alone. A compile was answered, and these bodies
--- ran, each for its cause; or it was refused for want of memory: the bodies that ran before, and what the host's
--- functions are then
+-- ran, each for its cause; or it was refused for want of memory: the bodies that ran before, and how many calls of the
+-- host's functions were made
 pub data Mark : Type 0 where
   Edited : Mark
   Answered : (ran : List (List ℕ × Cause)) → Mark
-  Refused : (ran : List (List ℕ)) → (hosts : HostState) → Mark
+  Refused : (ran : List (List ℕ)) → (calls : ℕ) → Mark
 
 -- an edit runs no body, and the kept runs stay
 abbrev pub edit_turn : Held → Result Files EditFault → Turn Held Reply
@@ -54,13 +54,22 @@ answered_turn h entry c ran = record {
   held = held h.folder (kept_after h.kept entry c.runs) c.hosts;
 }
 
--- a compile edits nothing; one that is refused leaves the kept runs too
+-- a compile that is refused leaves the kept runs too; the host's functions are then as the first calls left them
+abbrev pub refused_turn : Setting → Held → Compiled → List (List ℕ) → ℕ → Turn Held Reply
+refused_turn setting h c ran calls = record {
+  text = memory_text;
+  told = [];
+  ran = ran;
+  held = held h.folder h.kept (after_first setting c calls h.hosts);
+}
+
+-- a compile edits nothing
 abbrev pub compile_turn : Setting → Held → List ℕ → List (List ℕ) → Mark → Turn Held Reply
 compile_turn setting h entry paths Edited = record { text = []; told = []; ran = []; held = h }
 compile_turn setting h entry paths (Answered ran) =
     answered_turn h entry (compiled setting h.folder paths entry h.hosts) ran
-compile_turn setting h entry paths (Refused ran hosts) =
-    record { text = memory_text; told = []; ran = ran; held = held h.folder h.kept hosts }
+compile_turn setting h entry paths (Refused ran calls) =
+    refused_turn setting h (compiled setting h.folder paths entry h.hosts) ran calls
 
 -- what comes of one request
 unfoldable pub turn_of : Setting → Held → Event → Mark → Turn Held Reply
@@ -71,15 +80,16 @@ turn_of setting h (Compile entry paths) mark = compile_turn setting h entry path
 abbrev pub IsEditMark : Mark → Type 0
 IsEditMark Edited = ⊤
 IsEditMark (Answered ran) = ⊥
-IsEditMark (Refused ran hosts) = ⊥
+IsEditMark (Refused ran calls) = ⊥
 
 -- the bodies that an answered compile's mark tells of are the runs of its evaluation that aren't the kept ones of its
--- entry, in order, each with its cause
+-- entry, in order, each with its cause; a refused one made no more calls than its evaluation
 abbrev pub IsCompileMark : Setting → Held → List ℕ → List (List ℕ) → Mark → Type 0
 IsCompileMark setting h entry paths Edited = ⊥
 IsCompileMark setting h entry paths (Answered ran) =
     Ran (table_of h.kept entry) (compiled setting h.folder paths entry h.hosts).runs ran
-IsCompileMark setting h entry paths (Refused ran hosts) = ⊤
+IsCompileMark setting h entry paths (Refused ran calls) =
+    calls ≤ length (compiled setting h.folder paths entry h.hosts).calls
 
 abbrev pub IsMark : Setting → Held → Event → Mark → Type 0
 IsMark setting h (Put path bytes) mark = IsEditMark mark
@@ -90,7 +100,7 @@ IsMark setting h (Compile entry paths) mark = IsCompileMark setting h entry path
 abbrev pub IsAnswered : Mark → Type 0
 IsAnswered Edited = ⊥
 IsAnswered (Answered ran) = ⊤
-IsAnswered (Refused ran hosts) = ⊥
+IsAnswered (Refused ran calls) = ⊥
 
 -- for want of memory the reply to a compile that was answered can be left out
 abbrev pub IsLeft : Stop → Mark → Type 0
@@ -106,12 +116,12 @@ IsLeft Over mark = ⊥
 abbrev pub session : Setting → Protocol Event Mark Held Reply
 session setting = record { grammar = grammar; turn_of = turn_of setting; IsMark = IsMark setting; IsLeft = IsLeft }
 
--- what is free in a mark: what a refused compile ran, and what it left of the host's functions
+-- what is free in a mark: what a refused compile ran, and how many calls it made
 pub record Refusal : Type 0 where
   pub ran : List (List ℕ)
-  pub hosts : HostState
+  pub calls : ℕ
 
 abbrev pub refusal : Mark → Option Refusal
 refusal Edited = None
 refusal (Answered ran) = None
-refusal (Refused ran hosts) = Some (record { ran = ran; hosts = hosts })
+refusal (Refused ran calls) = Some (record { ran = ran; calls = calls })

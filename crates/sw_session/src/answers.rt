@@ -3,11 +3,11 @@ ghost use Rattle.std.specs.Prelude.{◌≡◌, ◌≤◌, List, ℕ, length, IfE
 ghost use Rattle.std.specs.Io.KnownBytes.{Appends};
 ghost use Rattle.sw_io.specs.Causes.{HasCause};
 ghost use Rattle.sw_world.specs.Hosts.{HostState};
-ghost use Rattle.sw_modules.specs.Fresh.{Setting};
+ghost use Rattle.sw_modules.specs.Fresh.{Setting, setting_of};
 ghost use Rattle.sw_wire.specs.Replies.{reply_text};
 ghost use Rattle.sw_protocol.specs.Turns.{place, standing, Says, SaysSome, SayStops, Cause};
 ghost use Rattle.sw_session.specs.Script.{Compile, Remove};
-ghost use Rattle.sw_session.specs.Sheets.{setting_of};
+ghost use Rattle.sw_session.specs.Sheets.{sheet_at};
 ghost use Rattle.sw_session.specs.Transcript.{holding, session};
 ghost use Rattle.sw_session.specs.Edits.{PutAnswers, PutStops, SendEnds};
 
@@ -33,11 +33,12 @@ impl<E: Engine> Session<E> {
         engine: &mut E,
         hosts: &mut H,
     ) -> Result<(), Stop>
-        ensures ok { OnOk result (Says (session (setting_of E.body H.answer H.after)) (Compile entry.now paths.now)
+        ensures ok { OnOk result (Says (session (setting_of H.answer H.after sheet_at E.body))
+            (Compile entry.now paths.now)
             (standing (holding self.old.keeper (H.state hosts.old)) (E.ran engine.old))
             (standing (holding self.new.keeper (H.state hosts.new)) (E.ran engine.new)) (K.written sink.old)
             (K.written sink.new)) }
-        ensures err { IfErr result (λ stop. SayStops (session (setting_of E.body H.answer H.after)) stop
+        ensures err { IfErr result (λ stop. SayStops (session (setting_of H.answer H.after sheet_at E.body)) stop
             (Compile entry.now paths.now)
             (standing (holding self.old.keeper (H.state hosts.old)) (E.ran engine.old))
             (standing (holding self.new.keeper (H.state hosts.new)) (E.ran engine.new)) (K.written sink.old)

@@ -7,7 +7,7 @@ ghost use Rattle.sw_scss_parse.specs.SheetReading.{sheet_of};
 use std::alloc::Global;
 use sw_keeper::Reader;
 use sw_scss_parse::{ReadEnd, read_sheet};
-use sw_text::{Fault, FaultCode, Memory, Name, Pos, Shared, SheetText, Span};
+use sw_text::{Fault, FaultCode, Memory, Name, Shared, SheetText, Span};
 use sw_tree::Sheet;
 
 /// Reads each file by the extension of its path. A file that isn't `.scss` gives `Syntax` at its first place.
@@ -73,12 +73,7 @@ fn is_scss(path: &Name) -> bool
 fn unread(path: &Name) -> Result<Result<Shared<Sheet>, Fault>, Memory>
     ensures { IfOk result (λ reading. reading ≡ Err (unread path.now)) }
 {
-    let start = Pos { line: 1, column: 1 };
-    let span = Span {
-        file: path.share()?,
-        from: start,
-        to: start,
-    };
+    let span = Span::start_of(path)?;
     let code = FaultCode::Syntax;
     Ok(Err(Fault { code, span }))
 }

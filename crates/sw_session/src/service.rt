@@ -1,7 +1,8 @@
 // A whole session.
 ghost use Rattle.std.specs.Prelude.{◌≡◌};
 ghost use Rattle.sw_io.specs.Causes.{Rose};
-ghost use Rattle.sw_session.specs.Sheets.{setting_of};
+ghost use Rattle.sw_modules.specs.Fresh.{setting_of};
+ghost use Rattle.sw_session.specs.Sheets.{sheet_at};
 ghost use Rattle.sw_session.specs.Served.{surroundings, Served, ServedWith};
 
 use crate::session::Session;
@@ -23,7 +24,7 @@ pub fn serve<S: Source, K: Sink, E: Engine, H: Hosts>(
     engine: &mut E,
     hosts: &mut H,
 ) -> u8
-    ensures served { ServedWith (setting_of E.body H.answer H.after) result
+    ensures served { ServedWith (setting_of H.answer H.after sheet_at E.body) result
         (surroundings (S.left source.old) (K.written sink.old) (E.ran engine.old) (H.state hosts.old))
         (surroundings (S.left source.new) (K.written sink.new) (E.ran engine.new) (H.state hosts.new)) }
     ensures source_fault { result ≡ 4 → Rose (S.faults source.old) (S.faults source.new) }
@@ -41,7 +42,7 @@ pub fn serve_within<S: Source, K: Sink, E: Engine, H: Hosts>(
     engine: &mut E,
     hosts: &mut H,
 ) -> Stop
-    ensures served { Served (setting_of E.body H.answer H.after) most result
+    ensures served { Served (setting_of H.answer H.after sheet_at E.body) most result
         (surroundings (S.left source.old) (K.written sink.old) (E.ran engine.old) (H.state hosts.old))
         (surroundings (S.left source.new) (K.written sink.new) (E.ran engine.new) (H.state hosts.new)) }
     ensures source_fault { result ≡ Stop.SourceFailed → Rose (S.faults source.old) (S.faults source.new) }

@@ -3,7 +3,8 @@ ghost use Rattle.std.specs.Prelude.{◌≡◌, ◌≤◌, [], length, IfErr, OnO
 ghost use Rattle.std.specs.FinMap as files;
 ghost use Rattle.sw_protocol.specs.Turns.{place, standing, Answers, TurnEnds, Cause};
 ghost use Rattle.sw_session.specs.Script.{grammar};
-ghost use Rattle.sw_session.specs.Sheets.{setting_of};
+ghost use Rattle.sw_modules.specs.Fresh.{setting_of};
+ghost use Rattle.sw_session.specs.Sheets.{sheet_at};
 ghost use Rattle.sw_session.specs.Transcript.{holding, session as protocol};
 
 use crate::reading::SheetReader;
@@ -38,7 +39,8 @@ impl<E: Engine, H: Hosts> Protocol<E, H> for Session<E> {
     ghost use Rattle.sw_record.specs.declared.reply.Reply.{Reply};
     ghost use Rattle.sw_session.specs.Script.{Event};
     ghost use Rattle.sw_session.specs.Transcript.{Mark, Held, holding, session};
-    ghost use Rattle.sw_session.specs.Sheets.{setting_of};
+    ghost use Rattle.sw_modules.specs.Fresh.{setting_of};
+    ghost use Rattle.sw_session.specs.Sheets.{sheet_at};
 
     ghost Event = { Event };
 
@@ -48,7 +50,7 @@ impl<E: Engine, H: Hosts> Protocol<E, H> for Session<E> {
 
     ghost Reply = { Reply };
 
-    ghost rules = { session (setting_of E.body H.answer H.after) };
+    ghost rules = { session (setting_of H.answer H.after sheet_at E.body) };
 
     ghost held = { λ s hosts. holding s.keeper (H.state hosts) };
 
@@ -86,13 +88,13 @@ fn turn<S: Source, K: Sink, E: Engine, H: Hosts>(
 ) -> Result<(), Stop>
     requires { length lines.old.reader ≤ 4096 }
     ensures ok { OnOk result (Answers (grammar.front lines.old.line.items)
-        (protocol (setting_of E.body H.answer H.after))
+        (protocol (setting_of H.answer H.after sheet_at E.body))
         (place lines.old.reader (S.left source.old) (K.written sink.old))
         (standing (holding session.old.keeper (H.state hosts.old)) (E.ran engine.old))
         (place lines.new.reader (S.left source.new) (K.written sink.new))
         (standing (holding session.new.keeper (H.state hosts.new)) (E.ran engine.new))) }
     ensures err { IfErr result (λ stop. TurnEnds (grammar.front lines.old.line.items)
-        (protocol (setting_of E.body H.answer H.after)) stop
+        (protocol (setting_of H.answer H.after sheet_at E.body)) stop
         (place lines.old.reader (S.left source.old) (K.written sink.old))
         (standing (holding session.old.keeper (H.state hosts.old)) (E.ran engine.old))
         (place lines.new.reader (S.left source.new) (K.written sink.new))

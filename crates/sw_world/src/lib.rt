@@ -19,5 +19,5 @@ pub use hosts::{Hosts, NoHosts};
 pub use op::{Filter, Given, How, Member, Op, SayKind, Saying};
 pub use parts::share_pairs;
 pub use share::Share;
-pub use table::Table;
+pub use table::{Table, find_in};
 pub use world::World;

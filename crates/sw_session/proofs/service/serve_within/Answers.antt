@@ -3,7 +3,8 @@ use Rattle.sw_keeper.specs.Keeping.{Keeping}
 use Rattle.sw_protocol.specs.Served as protocol
 use Rattle.sw_protocol.specs.Turns.{standing}
 use Rattle.sw_protocol.proofs.Serving.{no_lines}
-use Rattle.sw_session.specs.Sheets.{setting_of}
+use Rattle.sw_modules.specs.Fresh.{setting_of}
+use Rattle.sw_session.specs.Sheets.{sheet_at}
 use Rattle.sw_session.specs.Transcript.{holding, session}
 use Rattle.sw_session.specs.Served.{nothing_held}
 use Rattle.sw_session.proofs.service.serve_within.Goals as goal
@@ -12,7 +13,7 @@ pub returns-in-Err-clause-served : goal.returns-in-Err-clause-served
 returns-in-Err-clause-served g c = record {
   holds = nothing_held (g.H.Hosts.state c.args.hosts.now);
   hosts = refl;
-  served = no_lines (session (setting_of g.E.Engine.body g.H.Hosts.answer g.H.Hosts.after)) c.args.most (standing (nothing_held (g.H.Hosts.state c.args.hosts.now)) (g.E.Engine.ran c.args.engine.now)) _ _;
+  served = no_lines (session (setting_of g.H.Hosts.answer g.H.Hosts.after sheet_at g.E.Engine.body)) c.args.most (standing (nothing_held (g.H.Hosts.state c.args.hosts.now)) (g.E.Engine.ran c.args.engine.now)) _ _;
 }
 
 pub returns-in-Ok-clause-served : goal.returns-in-Ok-clause-served
@@ -22,7 +23,7 @@ returns-in-Ok-clause-served g c =
     record {
       holds = holds;
       hosts = refl;
-      served = subst (λ (k : Keeping). protocol.Served (session (setting_of g.E.Engine.body g.H.Hosts.answer g.H.Hosts.after)) c.args.most c.answer_all.result
+      served = subst (λ (k : Keeping). protocol.Served (session (setting_of g.H.Hosts.answer g.H.Hosts.after sheet_at g.E.Engine.body)) c.args.most c.answer_all.result
           (protocol.surroundings (g.S.Source.left c.args.source.now) (g.K.Sink.written c.args.sink.now) (holding k hosts) (g.E.Engine.ran c.args.engine.now))
           (protocol.surroundings (g.S.Source.left c.answer_all.new.source) (g.K.Sink.written c.answer_all.new.sink) holds (g.E.Engine.ran c.answer_all.new.engine)))
           c.new-protocol.ensures c.answer_all.ensures.served;

@@ -4,14 +4,15 @@ use Rattle.sw_wire.specs.Requests.{request_of}
 use Rattle.sw_protocol.specs.Turns.{place, standing}
 use Rattle.sw_protocol.proofs.Fronts.{on_ok, if_err}
 use Rattle.sw_session.specs.Script.{Remove, Compile}
-use Rattle.sw_session.specs.Sheets.{setting_of}
+use Rattle.sw_modules.specs.Fresh.{setting_of}
+use Rattle.sw_session.specs.Sheets.{sheet_at}
 use Rattle.sw_session.specs.Transcript.{holding}
 use Rattle.sw_session.proofs.Turning.{line_answers, line_breaks, put_answers, put_ends, not_source}
 use Rattle.sw_session.proofs.session.turn.Goals as goal
 
 pub returns-in-Compile-clause-ok : goal.returns-in-Compile-clause-ok
 returns-in-Compile-clause-ok g c =
-    on_ok c.compile.result (line_answers (setting_of g.E.Engine.body g.H.Hosts.answer g.H.Hosts.after) c.args.lines.now.line.items c.args.lines.now.reader (g.S.Source.left c.args.source.now)
+    on_ok c.compile.result (line_answers (setting_of g.H.Hosts.answer g.H.Hosts.after sheet_at g.E.Engine.body) c.args.lines.now.line.items c.args.lines.now.reader (g.S.Source.left c.args.source.now)
     (g.K.Sink.written c.args.sink.now) (g.K.Sink.written c.compile.new.sink)
     (standing (holding c.args.session.now.keeper (g.H.Hosts.state c.args.hosts.now)) (g.E.Engine.ran c.args.engine.now))
     (standing (holding c.compile.new.self.keeper (g.H.Hosts.state c.compile.new.hosts)) (g.E.Engine.ran c.compile.new.engine))
@@ -20,7 +21,7 @@ returns-in-Compile-clause-ok g c =
 
 pub returns-in-Compile-clause-err : goal.returns-in-Compile-clause-err
 returns-in-Compile-clause-err g c =
-    if_err c.compile.result (λ stop. line_breaks (setting_of g.E.Engine.body g.H.Hosts.answer g.H.Hosts.after) c.args.lines.now.line.items c.args.lines.now.reader (g.S.Source.left c.args.source.now)
+    if_err c.compile.result (λ stop. line_breaks (setting_of g.H.Hosts.answer g.H.Hosts.after sheet_at g.E.Engine.body) c.args.lines.now.line.items c.args.lines.now.reader (g.S.Source.left c.args.source.now)
     (g.K.Sink.written c.args.sink.now) (g.K.Sink.written c.compile.new.sink)
     (standing (holding c.args.session.now.keeper (g.H.Hosts.state c.args.hosts.now)) (g.E.Engine.ran c.args.engine.now))
     (standing (holding c.compile.new.self.keeper (g.H.Hosts.state c.compile.new.hosts)) (g.E.Engine.ran c.compile.new.engine))
@@ -29,31 +30,31 @@ returns-in-Compile-clause-err g c =
 
 pub returns-in-Remove-clause-ok : goal.returns-in-Remove-clause-ok
 returns-in-Remove-clause-ok g c =
-    on_ok c.remove.result (λ x. line_answers (setting_of g.E.Engine.body g.H.Hosts.answer g.H.Hosts.after) c.args.lines.now.line.items c.args.lines.now.reader (g.S.Source.left c.args.source.now)
+    on_ok c.remove.result (λ x. line_answers (setting_of g.H.Hosts.answer g.H.Hosts.after sheet_at g.E.Engine.body) c.args.lines.now.line.items c.args.lines.now.reader (g.S.Source.left c.args.source.now)
     (g.K.Sink.written c.args.sink.now) (g.K.Sink.written c.remove.new.sink)
     (standing (holding c.args.session.now.keeper (g.H.Hosts.state c.args.hosts.now)) (g.E.Engine.ran c.args.engine.now))
     (standing (holding c.remove.new.self.keeper (g.H.Hosts.state c.args.hosts.now)) (g.E.Engine.ran c.args.engine.now))
     (Remove_line c.in-Remove.path) (Remove c.in-Remove.path)
-    (sym (ap request_of c.deref.ensures.value) ∙ c.in_ok-request_in.ensures.ok ∙ ap Some c.in-Remove.is) (λ rest. refl) (x (setting_of g.E.Engine.body g.H.Hosts.answer g.H.Hosts.after) (g.H.Hosts.state c.args.hosts.now) (g.E.Engine.ran c.args.engine.now))) c.remove.ensures.ok
+    (sym (ap request_of c.deref.ensures.value) ∙ c.in_ok-request_in.ensures.ok ∙ ap Some c.in-Remove.is) (λ rest. refl) (x (setting_of g.H.Hosts.answer g.H.Hosts.after sheet_at g.E.Engine.body) (g.H.Hosts.state c.args.hosts.now) (g.E.Engine.ran c.args.engine.now))) c.remove.ensures.ok
 
 pub returns-in-Remove-clause-err : goal.returns-in-Remove-clause-err
 returns-in-Remove-clause-err g c =
-    if_err c.remove.result (λ stop x. line_breaks (setting_of g.E.Engine.body g.H.Hosts.answer g.H.Hosts.after) c.args.lines.now.line.items c.args.lines.now.reader (g.S.Source.left c.args.source.now)
+    if_err c.remove.result (λ stop x. line_breaks (setting_of g.H.Hosts.answer g.H.Hosts.after sheet_at g.E.Engine.body) c.args.lines.now.line.items c.args.lines.now.reader (g.S.Source.left c.args.source.now)
     (g.K.Sink.written c.args.sink.now) (g.K.Sink.written c.remove.new.sink)
     (standing (holding c.args.session.now.keeper (g.H.Hosts.state c.args.hosts.now)) (g.E.Engine.ran c.args.engine.now))
     (standing (holding c.remove.new.self.keeper (g.H.Hosts.state c.args.hosts.now)) (g.E.Engine.ran c.args.engine.now))
     (Remove_line c.in-Remove.path) (Remove c.in-Remove.path)
-    (sym (ap request_of c.deref.ensures.value) ∙ c.in_ok-request_in.ensures.ok ∙ ap Some c.in-Remove.is) (λ rest. refl) stop c.requires (x (setting_of g.E.Engine.body g.H.Hosts.answer g.H.Hosts.after) (g.H.Hosts.state c.args.hosts.now) (g.E.Engine.ran c.args.engine.now))) c.remove.ensures.err
+    (sym (ap request_of c.deref.ensures.value) ∙ c.in_ok-request_in.ensures.ok ∙ ap Some c.in-Remove.is) (λ rest. refl) stop c.requires (x (setting_of g.H.Hosts.answer g.H.Hosts.after sheet_at g.E.Engine.body) (g.H.Hosts.state c.args.hosts.now) (g.E.Engine.ran c.args.engine.now))) c.remove.ensures.err
 
 pub returns-in-Remove-clause-source_cause : goal.returns-in-Remove-clause-source_cause
 returns-in-Remove-clause-source_cause g c = record {
   later = omega arith;
-  rose = not_source _ c.remove.result (λ x. x (setting_of g.E.Engine.body g.H.Hosts.answer g.H.Hosts.after) (g.H.Hosts.state c.args.hosts.now) (g.E.Engine.ran c.args.engine.now)) c.remove.ensures.err;
+  rose = not_source _ c.remove.result (λ x. x (setting_of g.H.Hosts.answer g.H.Hosts.after sheet_at g.E.Engine.body) (g.H.Hosts.state c.args.hosts.now) (g.E.Engine.ran c.args.engine.now)) c.remove.ensures.err;
 }
 
 pub returns-in-Put-clause-ok : goal.returns-in-Put-clause-ok
 returns-in-Put-clause-ok g c =
-    on_ok c.put.result (put_answers (setting_of g.E.Engine.body g.H.Hosts.answer g.H.Hosts.after) (g.H.Hosts.state c.args.hosts.now) (g.E.Engine.ran c.args.engine.now) c.args.lines.now.line.items c.in-Put.path c.in-Put.length
+    on_ok c.put.result (put_answers (setting_of g.H.Hosts.answer g.H.Hosts.after sheet_at g.E.Engine.body) (g.H.Hosts.state c.args.hosts.now) (g.E.Engine.ran c.args.engine.now) c.args.lines.now.line.items c.in-Put.path c.in-Put.length
     (sym (ap request_of c.deref.ensures.value) ∙ c.in_ok-request_in.ensures.ok ∙ ap Some c.in-Put.is)
     (place c.args.lines.now.reader (g.S.Source.left c.args.source.now) (g.K.Sink.written c.args.sink.now))
     (place c.put.new.reader (g.S.Source.left c.put.new.source) (g.K.Sink.written c.put.new.sink))
@@ -61,7 +62,7 @@ returns-in-Put-clause-ok g c =
 
 pub returns-in-Put-clause-err : goal.returns-in-Put-clause-err
 returns-in-Put-clause-err g c =
-    if_err c.put.result (put_ends (setting_of g.E.Engine.body g.H.Hosts.answer g.H.Hosts.after) (g.H.Hosts.state c.args.hosts.now) (g.E.Engine.ran c.args.engine.now) c.args.lines.now.line.items c.in-Put.path c.in-Put.length
+    if_err c.put.result (put_ends (setting_of g.H.Hosts.answer g.H.Hosts.after sheet_at g.E.Engine.body) (g.H.Hosts.state c.args.hosts.now) (g.E.Engine.ran c.args.engine.now) c.args.lines.now.line.items c.in-Put.path c.in-Put.length
     (sym (ap request_of c.deref.ensures.value) ∙ c.in_ok-request_in.ensures.ok ∙ ap Some c.in-Put.is)
     (place c.args.lines.now.reader (g.S.Source.left c.args.source.now) (g.K.Sink.written c.args.sink.now))
     (place c.put.new.reader (g.S.Source.left c.put.new.source) (g.K.Sink.written c.put.new.sink))

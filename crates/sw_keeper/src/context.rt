@@ -1,0 +1,41 @@
+// What the functions of an evaluation are handed.
+use crate::Reader;
+use crate::kept::KeptRuns;
+use crate::results::Results;
+use std::alloc::Global;
+use sw_modules::Live;
+use sw_record::Cause;
+use sw_text::{Name, Shared};
+use sw_tree::Sheet;
+use sw_world::{Answer, Config, Engine, Op};
+
+/// What stays as it is during a compile: how texts are read, and the runs that are kept of its entry.
+#[derive(Drop)]
+pub(crate) struct Within<'c, R: Reader, E: Engine> {
+    pub(crate) alloc: Global,
+    pub(crate) reader: &'c R,
+    pub(crate) kept: &'c KeptRuns<R, E>,
+}
+
+/// What a compile changes: the state outside the bodies, and what it has come to so far.
+#[derive(Drop)]
+pub(crate) struct Moment<'f, R: Reader, E: Engine> {
+    pub(crate) live: Live<'f>,
+    pub(crate) results: Results<R, E>,
+}
+
+/// A module whose path is open: its path, its text and its configuration.
+#[derive(Drop)]
+pub struct Opening {
+    pub path: Name,
+    pub text: Name,
+    pub config: Config,
+}
+
+/// From where a body runs: its sheet, the known pairs, and why it runs.
+#[derive(Drop)]
+pub(crate) struct Start<'s> {
+    pub(crate) sheet: &'s Shared<Sheet>,
+    pub(crate) known: &'s [(Op, Answer)],
+    pub(crate) cause: Cause,
+}
