@@ -47,7 +47,7 @@ fn within(text: Name, quoted: bool) -> Result<Value, OpFault>
         Err(ValueFault::TooLarge) => Err(OpFault::TooLarge),
         Err(ValueFault::NotCss) => unreachable!(),
         Err(ValueFault::DuplicateKey(_)) => unreachable!(),
-        Err(ValueFault::Memory) => Err(OpFault::Memory),
+        Err(ValueFault::Memory) => unreachable!(),
     }
 }
 

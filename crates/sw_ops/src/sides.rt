@@ -118,7 +118,7 @@ fn within(number: Number) -> Result<Value, OpFault>
         Err(ValueFault::TooLarge) => Err(OpFault::TooLarge),
         Err(ValueFault::NotCss) => unreachable!(),
         Err(ValueFault::DuplicateKey(_)) => unreachable!(),
-        Err(ValueFault::Memory) => Err(OpFault::Memory),
+        Err(ValueFault::Memory) => unreachable!(),
     }
 }
 
