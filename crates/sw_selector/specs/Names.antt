@@ -1,7 +1,7 @@
 -- Names as they are kept. A hexadecimal escape takes one white space behind it (CSS Syntax, "Consume an escaped code
 -- point"). Where a name ends in one without it, a space is added, so that nothing that is written behind the name joins
 -- it.
-use Rattle.std.specs.Prelude.{ℕ, zero, suc, ◌+◌, ◌-◌, List, ◌++◌, length, Bool, false, ◌&&◌, ◌==◌, nat_lt, codes, if◌then◌else◌}
+use Rattle.std.specs.Prelude.{ℕ, zero, suc, ◌-◌, List, ◌++◌, length, Bool, false, ◌&&◌, ◌==◌, nat_lt, codes, if◌then◌else◌}
 use Rattle.sw_scan.specs.declared.runs.Class.TheVariants as classes
 use Rattle.sw_scan.specs.Bytes.{sign, byte, is_hex_digit}
 use Rattle.sw_scan.specs.Runs.{escape_end, next}
