@@ -1,0 +1,13 @@
+//! Operands that hold expressions: what stands in parentheses and brackets, strings and urls with `#{}`, words, calls,
+//! and what belongs to a namespace. Each reader takes the one that reads space lists as a parameter.
+#![tactic(auto)]
+
+mod call;
+mod group;
+mod owned;
+mod template;
+
+pub use call::called_at;
+pub use group::{brackets_at, parens_at};
+pub use owned::owned_at;
+pub use template::{template_at, url_template_at};
