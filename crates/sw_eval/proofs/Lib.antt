@@ -1,9 +1,10 @@
-pub mod Goes_on
+pub mod Answered
+pub mod Steps
 pub mod Loops
-pub mod Places
-pub mod Opens
 pub mod Depth
+pub mod Opens
 pub mod Weighs
 pub mod Tops
 pub mod Turns
 pub mod Engines
+pub mod Names

@@ -1,38 +1,40 @@
--- The laws of the body of a sheet.
-use Rattle.std.proofs.Common.{◌≡◌, List, [], refl, arith}
-use Rattle.sw_world.specs.Laws.{EndsForGood, EndsInTime, AsksFromSources, NamesOnce, EndsRefused, most_asked}
-use Rattle.sw_eval.specs.Laws.{run_ends, run_keeps, run_refused}
-use Rattle.sw_eval.specs.Sources.{ending_sourced, run_sourced}
-use Rattle.sw_eval.specs.Leaves.{names, ending_names, run_leaves, once_after}
-use Rattle.sw_tree.specs.Globals.{globals}
+-- The laws of the body of a sheet: they are laws of every talk.
+use Rattle.std.proofs.Common.{◌≡◌, ℕ, List, [], ◌∙◌, ap, refl, arith}
 use Rattle.sw_tree.specs.declared.statement.Statement.{Statement}
-use Rattle.sw_eval.specs.Means.{body, ending, begin}
+use Rattle.sw_world.specs.Body.{Job}
+use Rattle.sw_world.specs.Laws.{EndsForGood, EndsInTime, AsksFromSources, NamesOnce, EndsRefused, EachOnce, most_asked}
+use Rattle.sw_tree.specs.Globals.{globals}
+use Rattle.sw_eval.specs.Laws.{run_ends, run_keeps, run_refused, run_gives, run_sourced}
+use Rattle.sw_eval.specs.Left.{finish_of, end_of, names, names-left, once_after}
+use Rattle.sw_eval.specs.Talk.{Talk}
+use Rattle.sw_eval.specs.Means.{body, begin, tops}
+use Rattle.sw_eval.specs.declared.state.State.{State}
 
 pub ends_in_time : EndsInTime body
 unfolding body
-ends_in_time job given e = run_ends most_asked (ending job.path 0 job.sheet.statements begin) given (omega (arith, e))
+ends_in_time job given e = run_ends (end_of job.sheet) job.path most_asked [] (tops 0 job.sheet.statements begin)
+    given (omega (arith, e))
 
 pub ends_for_good : EndsForGood body
 unfolding body
-ends_for_good job given more end e =
-    run_keeps most_asked (ending job.path 0 job.sheet.statements begin) given more end e
+ends_for_good job given more end e = run_keeps (end_of job.sheet) job.path most_asked []
+    (tops 0 job.sheet.statements begin) given more end e
 
 pub ends_refused : EndsRefused body
 unfolding body
-ends_refused job given op fault load e =
-    run_refused most_asked (ending job.path 0 job.sheet.statements begin) given op fault e
+ends_refused job given op fault load e = run_refused (end_of job.sheet) job.path most_asked []
+    (tops 0 job.sheet.statements begin) given op fault e
 
 pub asks_from_sources : AsksFromSources body
 unfolding body
-asks_from_sources job seen op goes e =
-    run_sourced most_asked (ending job.path 0 job.sheet.statements begin) job.path [] seen op
-    (ending_sourced job.path 0 job.sheet.statements [] begin) goes e
+asks_from_sources job seen op goes e = run_sourced (end_of job.sheet) job.path most_asked []
+    (tops 0 job.sheet.statements begin) seen op goes e
 
 pub names_once : NamesOnce body
-unfolding body
+unfolding body finish_of
 names_once job given finish e =
     let xs : List Statement = job.sheet.statements in
+    let is = run_gives (end_of job.sheet) job.path most_asked [] (tops 0 job.sheet.statements begin) given finish e in
     let same : names finish.variables ≡ globals xs =
-    run_leaves (λ f. names f.variables ≡ globals xs) most_asked (ending job.path 0 xs begin) given finish
-    (ending_names job.path xs) e in
+    ap (λ f. names f.variables) is.1 ∙ names-left is.0.1.scopes xs [] in
     λ name. rw same (once_after [] xs (λ n. refl) name)

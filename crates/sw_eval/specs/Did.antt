@@ -8,6 +8,7 @@ use Rattle.sw_eval.specs.declared.state.State.{State}
 use Rattle.sw_eval.specs.declared.stop.Stop.{Stop}
 use Rattle.sw_eval.specs.declared.stop.Stop.TheVariants.{Memory, Fault}
 use Rattle.sw_eval.specs.declared.asked.Asked.{Asked}
+use Rattle.sw_eval.specs.declared.walk.Walk.{Walk}
 
 -- an evaluation, from a state
 abbrev pub Eval : Type 0 → Type 0
@@ -27,4 +28,9 @@ pub record Did {W A : Type 0} (gives : W → Op → Answer → W → Type 0) (t 
   pub is_return : IsReturn r s last
 
 abbrev pub stand : Asked → Stand
-stand a = record { pairs = a.pairs.items; at = a.at }
+stand a = record { path = a.path; pairs = a.pairs.items; at = a.at }
+
+-- the same of a whole walk: it went on with an evaluation from its state
+abbrev pub Goes_on : {W A : Type 0} → (W → Op → Answer → W → Type 0) → Eval A → Walk → W → Result A Stop → Walk → W
+    → Type 0
+Goes_on gives e a w r b x = Did gives (e a.state) (stand a.asked) w r b.state (stand b.asked) x

@@ -8,14 +8,15 @@ use Rattle.sw_world.specs.Questions.{IsLoad}
 use Rattle.sw_world.specs.Body.{Pair, Job, Next, Asks, Ends, Leads, Goes, answers}
 use Rattle.sw_world.specs.Progress.{Status, Running, Waiting, Ended, Progress}
 use Rattle.sw_eval.specs.Told.{IsRest}
-use Rattle.sw_eval.specs.Means.{body, ending}
+use Rattle.sw_eval.specs.Left.{end_of}
+use Rattle.sw_eval.specs.Means.{body, tops}
 use Rattle.sw_eval.specs.declared.state.State.{State}
 use Rattle.sw_eval.specs.declared.place.Place.{Place}
 use Rattle.sw_eval.specs.declared.place.Place.TheVariants.{Running as At_Running, Waiting as At_Waiting, Ended as At_Ended}
 
 -- the rest of the body, from where its evaluation stands
 pub record IsResume (job : Job) (pairs : List Pair) (at next : ℕ) (s : State) : Type 0 where
-  pub rest : IsRest (body job) pairs at (ending job.path next (drop next job.sheet.statements) s)
+  pub rest : IsRest (end_of job.sheet) job.path (body job) pairs at (tops next (drop next job.sheet.statements) s)
   pub within : at ≤ length pairs
 
 abbrev pub HasRoom : Place → ℕ → ℕ → Type 0
@@ -29,8 +30,8 @@ pub record Keeps (job : Job) (pairs : List Pair) (at next : ℕ) (s : State) (pl
     pub room : HasRoom place len capacity
 
 -- what a turn of a body did
-pub record TurnDid {W : Type 0} (gives : W → Op → Answer → W → Type 0) (b : List Answer → Next) (ps : List Pair) (w : W)
-    (qs : List Pair) (x : W) : Type 0 where
+pub record TurnDid {W : Type 0} (gives : W → Op → Answer → W → Type 0) (b : List Answer → Next) (ps : List Pair)
+    (w : W) (qs : List Pair) (x : W) : Type 0 where
   pub asked : List Pair
   pub grew : qs ≡ ps ++ asked
   pub led : Leads gives w asked x

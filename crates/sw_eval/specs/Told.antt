@@ -1,25 +1,28 @@
 -- What a walk through a talk tells of the body that the talk is the rest of.
-use Rattle.std.proofs.Common.{◌≡◌, ℕ, zero, suc, ◌+◌, ◌-◌, ◌<◌, ◌≤◌, List, [], ◌∷◌, ◌++◌, length, take, slice_get, Some, refl, sym, ◌∙◌, ap, subst, append_assoc, append-nil, length-append, add-one, arith}
+use Rattle.std.proofs.Common.{◌≡◌, ℕ, zero, suc, ◌+◌, ◌-◌, ◌<◌, ◌≤◌, List, [], ◌∷◌, ◌++◌, length, take, slice_get, Option, Some, None, refl, sym, ◌∙◌, ap, subst, append_assoc, append-nil, length-append, add-one, arith}
+use Rattle.std.proofs.lemmas.List.{length-take-le}
 use Rattle.sw_world.specs.declared.op.Op.{Op}
 use Rattle.sw_world.specs.declared.answer.Answer.{Answer}
 use Rattle.sw_world.specs.declared.end.Finish.{Finish}
 use Rattle.sw_text.specs.declared.place.Span.{Span}
 use Rattle.sw_world.specs.Body.{Pair, Next, Asks, answers, Goes, Leads}
 use Rattle.sw_world.specs.Laws.{most_asked}
-use Rattle.sw_eval.specs.Talk.{Talk, Fails, Asking, answered, too_many, run}
-use Rattle.sw_eval.specs.Ran.{Stand, Ran, still, takes, asks, full}
+use Rattle.sw_eval.specs.Talk.{Question, Talk, Fails, Asking, answered, too_many, no_owner, op_of, next_by, run}
+use Rattle.sw_eval.specs.Ran.{Stand, Ran, still, takes, asks, full, lost, op_at}
 
 -- after so many answers of these pairs the body is the talk
-abbrev pub IsRest : (List Answer → Next) → List Pair → ℕ → Talk Finish → Type 0
-IsRest b ps n t = (more : List Answer) → b (answers (take n ps) ++ more) ≡ run (most_asked - n) t more
+abbrev pub IsRest : {A : Type 0} → (A → Finish) → List ℕ → (List Answer → Next) → List Pair → ℕ → Talk A → Type 0
+IsRest end path b ps n t = (more : List Answer)
+    → b (answers (take n ps) ++ more) ≡ run end path (most_asked - n) (answers (take n ps)) t more
 
-pub record Told {W : Type 0} (gives : W → Op → Answer → W → Type 0) (b : List Answer → Next) (ps : List Pair) (w : W)
-    (u : Talk Finish) (s : Stand) (x : W) : Type 0 where
+pub record Told {W A : Type 0} (gives : W → Op → Answer → W → Type 0) (end : A → Finish) (path : List ℕ)
+    (b : List Answer → Next) (ps : List Pair) (w : W) (u : Talk A) (s : Stand) (x : W) : Type 0 where
   pub asked : List Pair
   pub grew : s.pairs ≡ ps ++ asked
+  pub same_path : s.path ≡ path
   pub led : Leads gives w asked x
   pub goes : Goes b (answers ps) asked
-  pub rest : IsRest b s.pairs s.at u
+  pub rest : IsRest end path b s.pairs s.at u
   pub within : s.at ≤ length s.pairs
 
 pub answers-append : (ps qs : List Pair) → answers (ps ++ qs) ≡ answers ps ++ answers qs
@@ -52,70 +55,114 @@ slice_get_within [] n p e = absurd cc
 slice_get_within (q ∷ ps) zero p e = omega arith
 slice_get_within (q ∷ ps) (suc n) p e = omega (arith, slice_get_within ps n p e)
 
--- one answer more
-step : (b : List Answer → Next) (before : List Answer) (n : ℕ) (op : Op) (at : Span) (k : Answer → Talk Finish)
-    (a : Answer) → n < most_asked
-    → ((more : List Answer) → b (before ++ more) ≡ run (most_asked - n) (Asking op at k) more) → (more : List Answer)
-    → b ((before ++ a ∷ []) ++ more) ≡ run (most_asked - (n + 1)) (answered k a) more
-unfolding run
-step b before n op at k a few is more =
-    let e : most_asked - n ≡ suc (most_asked - (n + 1)) = omega arith in
-    ap b (append_assoc before (a ∷ []) more) ∙ is (a ∷ more) ∙ ap (λ m. run m (Asking op at k) (a ∷ more)) e
+length-answers : (ps : List Pair) → length (answers ps) ≡ length ps
+length-answers [] = refl
+length-answers (p ∷ ps) = ap suc (length-answers ps)
 
-begins : (b : List Answer → Next) (before : List Answer) (n : ℕ) (op : Op) (at : Span) (k : Answer → Talk Finish)
-    → n < most_asked
-    → ((more : List Answer) → b (before ++ more) ≡ run (most_asked - n) (Asking op at k) more) → b before ≡ Asks op
-unfolding run
-begins b before n op at k few is =
-    let e : most_asked - n ≡ suc (most_asked - (n + 1)) = omega arith in
-    ap b (sym (append-nil before)) ∙ is [] ∙ ap (λ m. run m (Asking op at k) []) e
+length-taken : (ps : List Pair) (n : ℕ) → n ≤ length ps → length (answers (take n ps)) ≡ n
+length-taken ps n le = length-answers (take n ps) ∙ length-take-le n ps le
 
-over : (b : List Answer → Next) (before : List Answer) (n : ℕ) (op : Op) (at : Span) (k : Answer → Talk Finish)
-    → most_asked ≤ n
-    → ((more : List Answer) → b (before ++ more) ≡ run (most_asked - n) (Asking op at k) more) → (more : List Answer)
-    → b (before ++ more) ≡ run (most_asked - n) (Fails (too_many at)) more
-unfolding run
-over b before n op at k many is more =
-    let e : most_asked - n ≡ 0 =
-    omega arith in
-    is more ∙ ap (λ m. run m (Asking op at k) more) e ∙ sym (ap (λ m. run m (Fails (too_many at)) more) e)
+module _ {A : Type 0} (end : A → Finish) (path : List ℕ) (b : List Answer → Next) where
+  -- one answer more
+  step : (before : List Answer) (n : ℕ) (q : Question) (op : Op) (at : Span) (k : ℕ → Answer → Talk A) (a : Answer)
+      → n < most_asked → length before ≡ n → op_of path before q ≡ Some op
+      → ((more : List Answer) → b (before ++ more) ≡ run end path (most_asked - n) before (Asking q at k) more)
+      → (more : List Answer) → b ((before ++ a ∷ []) ++ more) ≡ run end path (most_asked - (n + 1)) (before ++ a ∷ [])
+      (answered (k n) a) more
+  unfolding run
+  step before n q op at k a few long known is more =
+      let e : most_asked - n ≡ suc (most_asked - (n + 1)) = omega arith in
+      let on : Answer → List Answer → Next =
+      λ c rest. run end path (most_asked - (n + 1)) (before ++ c ∷ []) (answered (k (length before)) c) rest in
+      ap b (append_assoc before (a ∷ []) more) ∙ is (a ∷ more)
+      ∙ ap (λ m. run end path m before (Asking q at k) (a ∷ more)) e ∙ ap (λ o. next_by o at (a ∷ more) on) known
+      ∙ ap (λ m. run end path (most_asked - (n + 1)) (before ++ a ∷ []) (answered (k m) a) more) long
 
-pub tells : {W : Type 0} {gives : W → Op → Answer → W → Type 0} (b : List Answer → Next) (t u : Talk Finish)
-    (ps : List Pair) (n : ℕ) (s : Stand) (w x : W) → n ≤ length ps → IsRest b ps n t
-    → Ran gives t (record { pairs = ps; at = n }) w u s x → Told gives b ps w u s x
-tells b _ _ ps n _ _ _ le is (still t s w) =
-    record { asked = []; grew = sym (append-nil ps); led = refl; goes = tt; rest = is; within = le }
-tells b _ _ _ _ _ _ _ le is (takes op at k ps n w p u s x few here ran) =
-    let before : (more : List Answer)
-    → b ((answers (take n ps) ++ p.1 ∷ []) ++ more) ≡ run (most_asked - (n + 1)) (answered k p.1) more =
-    step b (answers (take n ps)) n op at k p.1 few is in
+  begins : (before : List Answer) (n : ℕ) (q : Question) (op : Op) (at : Span) (k : ℕ → Answer → Talk A)
+      → n < most_asked → op_of path before q ≡ Some op
+      → ((more : List Answer) → b (before ++ more) ≡ run end path (most_asked - n) before (Asking q at k) more)
+      → b before ≡ Asks op
+  unfolding run
+  begins before n q op at k few known is =
+      let e : most_asked - n ≡ suc (most_asked - (n + 1)) = omega arith in
+      let on : Answer → List Answer → Next =
+      λ c rest. run end path (most_asked - (n + 1)) (before ++ c ∷ []) (answered (k (length before)) c) rest in
+      ap b (sym (append-nil before)) ∙ is [] ∙ ap (λ m. run end path m before (Asking q at k) []) e
+      ∙ ap (λ o. next_by o at [] on) known
+
+  over : (before : List Answer) (n : ℕ) (q : Question) (at : Span) (k : ℕ → Answer → Talk A) → most_asked ≤ n
+      → ((more : List Answer) → b (before ++ more) ≡ run end path (most_asked - n) before (Asking q at k) more)
+      → (more : List Answer) → b (before ++ more) ≡ run end path (most_asked - n) before (Fails (too_many at)) more
+  unfolding run
+  over before n q at k many is more =
+      let e : most_asked - n ≡ 0 = omega arith in is more ∙ ap (λ m. run end path m before (Asking q at k) more) e
+      ∙ sym (ap (λ m. run end path m before (Fails (too_many at)) more) e)
+
+  gone : (before : List Answer) (n : ℕ) (q : Question) (at : Span) (k : ℕ → Answer → Talk A) → n < most_asked
+      → op_of path before q ≡ None
+      → ((more : List Answer) → b (before ++ more) ≡ run end path (most_asked - n) before (Asking q at k) more)
+      → (more : List Answer) → b (before ++ more) ≡ run end path (most_asked - n) before (Fails (no_owner at)) more
+  unfolding run
+  gone before n q at k few known is more =
+      let e : most_asked - n ≡ suc (most_asked - (n + 1)) = omega arith in
+      let on : Answer → List Answer → Next =
+      λ c rest. run end path (most_asked - (n + 1)) (before ++ c ∷ []) (answered (k (length before)) c) rest in
+      is more ∙ ap (λ m. run end path m before (Asking q at k) more) e ∙ ap (λ o. next_by o at more on) known
+
+pub tells : {W A : Type 0} {gives : W → Op → Answer → W → Type 0} (end : A → Finish) (path : List ℕ) (b : List Answer
+    → Next) (t u : Talk A) (ps : List Pair) (n : ℕ) (s : Stand) (w x : W) → n ≤ length ps → IsRest end path b ps n t
+    → Ran gives t (record { path = path; pairs = ps; at = n }) w u s x → Told gives end path b ps w u s x
+tells end path b _ _ ps n _ _ _ le is (still t s w) =
+    record { asked = []; grew = sym (append-nil ps); same_path = refl; led = refl; goes = tt; rest = is; within = le }
+tells end path b _ _ _ _ _ _ _ le is (takes q op at k path' ps n w p u s x few known here ran) =
+    let long : length (answers (take n ps)) ≡ n = length-taken ps n le in
+    let before : (more : List Answer) → b ((answers (take n ps) ++ p.1 ∷ []) ++ more) ≡ run end path
+    (most_asked - (n + 1)) (answers (take n ps) ++ p.1 ∷ []) (answered (k n) p.1) more =
+    step end path b (answers (take n ps)) n q op at k p.1 few long known is in
     let e : answers (take (n + 1) ps) ≡ answers (take n ps) ++ p.1 ∷ [] =
     rw add-one (ap answers (take_more ps n p here) ∙ answers-append (take n ps) (p ∷ [])) in
-    tells b (answered k p.1) u ps (n + 1) s w x (omega (arith, slice_get_within ps n p here))
-    (λ more. ap (λ l. b (l ++ more)) e ∙ before more) ran
-tells b _ _ _ _ _ _ _ le is (asks op at k ps w a v u s x few plain given fits ran) =
+    let is' : IsRest end path b ps (n + 1) (answered (k n) p.1) =
+    subst (λ (l : List Answer). (more : List Answer)
+    → b (l ++ more) ≡ run end path (most_asked - (n + 1)) l (answered (k n) p.1) more) (sym e) before in
+    tells end path b (answered (k n) p.1) u ps (n + 1) s w x (omega (arith, slice_get_within ps n p here)) is' ran
+tells end path b _ _ _ _ _ _ _ le is (asks q op at k path' ps w a v u s x few asked plain given fits ran) =
     let all : take (length ps) ps ≡ ps = take_all ps (length ps) (omega arith) in
-    let here : (more : List Answer) → b (answers ps ++ more) ≡ run (most_asked - length ps) (Asking op at k) more =
-    λ more. ap (λ l. b (answers l ++ more)) (sym all) ∙ is more in
+    let here : (more : List Answer) → b (answers ps ++ more) ≡ run end path (most_asked - length ps) (answers ps)
+    (Asking q at k) more =
+    subst (λ (l : List Pair). (more : List Answer)
+    → b (answers l ++ more) ≡ run end path (most_asked - length ps) (answers l) (Asking q at k) more) all is in
+    let asked' : op_of path (answers ps) q ≡ Some op =
+    subst (λ (l : List Pair). op_of path (answers l) q ≡ Some op) all asked in
     let e : answers (take (length ps + 1) (ps ++ (op, a) ∷ [])) ≡ answers ps ++ a ∷ [] =
     ap answers (take_all (ps ++ (op, a) ∷ []) (length ps + 1) (omega (arith, length-append ps ((op, a) ∷ []))))
     ∙ answers-append ps ((op, a) ∷ []) in
-    let on : Told _ b (ps ++ (op, a) ∷ []) v u s x =
-    tells b (answered k a) u (ps ++ (op, a) ∷ []) (length ps + 1) s v x (omega (arith, length-append ps ((op, a) ∷ [])))
-    (λ more. ap (λ l. b (l ++ more)) e ∙ step b (answers ps) (length ps) op at k a few here more) ran in
+    let later : (more : List Answer) → b ((answers ps ++ a ∷ []) ++ more) ≡ run end path
+    (most_asked - (length ps + 1)) (answers ps ++ a ∷ []) (answered (k (length ps)) a) more =
+    step end path b (answers ps) (length ps) q op at k a few (length-answers ps) asked' here in
+    let is' : IsRest end path b (ps ++ (op, a) ∷ []) (length ps + 1) (answered (k (length ps)) a) =
+    subst (λ (l : List Answer). (more : List Answer)
+    → b (l ++ more) ≡ run end path (most_asked - (length ps + 1)) l (answered (k (length ps)) a) more) (sym e)
+    later in
+    let on : Told _ end path b (ps ++ (op, a) ∷ []) v u s x =
+    tells end path b (answered (k (length ps)) a) u (ps ++ (op, a) ∷ []) (length ps + 1) s v x
+    (omega (arith, length-append ps ((op, a) ∷ []))) is' ran in
     record {
       asked = (op, a) ∷ on.asked;
       grew = on.grew ∙ append_assoc ps ((op, a) ∷ []) on.asked;
+      same_path = on.same_path;
       led = (plain, (v, given, on.led));
       goes = (
-        begins b (answers ps) (length ps) op at k few here,
+        begins end path b (answers ps) (length ps) q op at k few asked' here,
         fits,
-        subst (λ (l : List Answer). Goes b l on.asked)
-            (answers-append ps ((op, a) ∷ [])) on.goes,
+        subst
+            (λ (l : List Answer). Goes b l on.asked) (answers-append ps ((op, a) ∷ [])) on.goes,
       );
       rest = on.rest;
       within = on.within;
     }
-tells b _ _ _ _ _ _ _ le is (full op at k s' w u s x many ran) =
-    tells b (Fails (too_many at)) u s'.pairs s'.at s w x le
-    (over b (answers (take s'.at s'.pairs)) s'.at op at k many is) ran
+tells end path b _ _ _ _ _ _ _ le is (full q at k s' w u s x many ran) =
+    tells end path b (Fails (too_many at)) u s'.pairs s'.at s w x le
+    (over end path b (answers (take s'.at s'.pairs)) s'.at q at k many is) ran
+tells end path b _ _ _ _ _ _ _ le is (lost q at k s' w u s x few asked ran) =
+    tells end path b (Fails (no_owner at)) u s'.pairs s'.at s w x le
+    (gone end path b (answers (take s'.at s'.pairs)) s'.at q at k few asked is) ran

@@ -11,6 +11,7 @@ use crate::asked::Asked;
 use crate::place::Place;
 use crate::state::State;
 use crate::turn::turn;
+use crate::walk::Walk;
 use std::alloc::Global;
 use std::marker::Model;
 use std::mem;
@@ -23,11 +24,9 @@ use sw_world::{Answer, Config, Engine, Op, Turn, World, share_pairs};
 pub struct Evaluation {
     sheet: Shared<Sheet>,
     config: Config,
-    path: Name,
-    asked: Asked,
+    walk: Walk,
     started: bool,
     place: Place,
-    state: State,
     next: usize,
 }
 
@@ -43,23 +42,19 @@ impl Model for Evaluation {
     ghost coded = { Prim.hlevel (codes, s.the_row.coded, p.the_row.coded) };
 
     ghost view = { λ b. record {
-      job = record { sheet = b.sheet; config = b.config; path = b.path };
-      pairs = b.asked.pairs.items;
+      job = record { sheet = b.sheet; config = b.config; path = b.walk.asked.path };
+      pairs = b.walk.asked.pairs.items;
       started = b.started;
       place = b.place;
     } };
 
-    ghost invariant = { λ b. Keeps (record { sheet = b.sheet; config = b.config; path = b.path }) b.asked.pairs.items b.asked.at
-        b.next b.state b.place (vec_len b.asked.pairs) (vec_capacity b.asked.pairs) };
+    ghost invariant = { λ b. Keeps (record { sheet = b.sheet; config = b.config; path = b.walk.asked.path })
+        b.walk.asked.pairs.items b.walk.asked.at b.next b.walk.state b.place
+        (vec_len b.walk.asked.pairs) (vec_capacity b.walk.asked.pairs) };
 }
 
 // A turn, with what it adds to what ran. Room for the path is taken first.
-fn go_on<W: World>(
-    alloc: Global,
-    b: &mut Evaluation,
-    ran: &mut Vec<Name>,
-    world: &mut W,
-) -> Result<Turn, Memory>
+fn go_on<W: World>(b: &mut Evaluation, ran: &mut Vec<Name>, world: &mut W) -> Result<Turn, Memory>
     requires { status_of b.old.place ≡ Running }
     ensures job { (b.new.job ≡ b.old.job) × (b.new.started ≡ true) }
     ensures did { TurnDid W.gives (body b.old.job) b.old.pairs world.old b.new.pairs world.new }
@@ -70,18 +65,9 @@ fn go_on<W: World>(
     ensures ran_same { OnErr result (ran.new.items ≡ ran.old.items) }
 {
     b.started = true;
-    let path = b.path.share()?;
+    let path = b.walk.asked.path.share()?;
     ran.reserve(1)?;
-    match turn(
-        alloc,
-        b.sheet.get(),
-        &b.config,
-        &b.path,
-        &mut b.next,
-        &mut b.state,
-        &mut b.asked,
-        world,
-    )? {
+    match turn(b.sheet.get(), &b.config, &mut b.walk, &mut b.next, world)? {
         Turn::Load(op) => {
             let shown = op.share()?;
             b.place = Place::Waiting(op);
@@ -104,7 +90,7 @@ fn give_to(b: &mut Evaluation, answer: Answer)
 {
     b.started = true;
     if let Place::Waiting(op) = mem::replace(&mut b.place, Place::Running) {
-        push_pair(&mut b.asked.pairs, op, answer);
+        push_pair(&mut b.walk.asked.pairs, op, answer);
     }
 }
 
@@ -162,11 +148,13 @@ impl Engine for Evaluator {
         Ok(Evaluation {
             sheet,
             config,
-            path,
-            asked: Asked { pairs, at: 0 },
+            walk: Walk {
+                alloc,
+                state: State::begin(alloc),
+                asked: Asked { path, pairs, at: 0 },
+            },
             started: false,
             place: Place::Running,
-            state: State::begin(alloc),
             next: 0,
         })
     }
@@ -177,16 +165,17 @@ impl Engine for Evaluator {
 
     fn go<W: World>(
         &mut self,
-        alloc: Global,
+        _alloc: Global,
         running: &mut Evaluation,
         world: &mut W,
     ) -> Result<Turn, Memory> {
-        let turn = go_on(alloc, running, &mut self.ran, world)?;
+        let turn = go_on(running, &mut self.ran, world)?;
         Ok(turn)
     }
 
     fn close(&self, running: Evaluation) -> List<(Op, Answer)> {
-        let Evaluation { asked, started, .. } = running;
+        let Evaluation { walk, started, .. } = running;
+        let Walk { asked, .. } = walk;
         let Asked { mut pairs, .. } = asked;
         if !started {
             pairs.clear();

@@ -5,15 +5,19 @@
 mod ask;
 mod asked;
 mod engine;
+mod here;
 mod laws;
+mod left;
+mod look;
 mod output;
+mod parts;
 mod place;
 mod state;
 mod stop;
 mod top;
 mod turn;
-mod value;
 mod walk;
+mod work;
 
 pub use engine::{Evaluation, Evaluator};
 pub use laws::body_laws;

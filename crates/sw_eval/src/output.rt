@@ -31,17 +31,6 @@ pub(crate) fn close(css: &mut CssTree)
     }
 }
 
-#[tactic(auto, unfolding(crate::specs::Means::opening))]
-pub(crate) fn opening(state: &mut State, selectors: Name, at: &Span) -> Result<(), Stop>
-    ensures { IsReturn result state.new (opening selectors at.now state.old) }
-{
-    match state.css.open_rule(selectors) {
-        Ok(()) => Ok(()),
-        Err(TreeFault::TooLarge) => fails(FaultCode::TooLarge, at),
-        Err(TreeFault::Memory) => Err(Stop::Memory),
-    }
-}
-
 // The value's text.
 fn text_of(alloc: Global, value: &Value, at: &Span) -> Result<Name, Stop>
     ensures { (s : State) → IsReturn result s (text_of value.now at.now s) }
@@ -55,43 +44,57 @@ fn text_of(alloc: Global, value: &Value, at: &Span) -> Result<Name, Stop>
     }
 }
 
-// A line of the open rule.
-fn lining(state: &mut State, property: Name, text: Name, at: &Span) -> Result<(), Stop>
-    requires { is_open state.old.css ≡ true }
-    ensures { IsReturn result state.new (lining property text at.now state.old) }
-{
-    match state.css.declare(property, text) {
-        Ok(()) => Ok(()),
-        Err(TreeFault::TooLarge) => fails(FaultCode::TooLarge, at),
-        Err(TreeFault::Memory) => Err(Stop::Memory),
+impl State {
+    // Opens a rule.
+    #[tactic(auto, unfolding(crate::specs::Means::opening))]
+    pub(crate) fn opening(&mut self, selectors: Name, at: &Span) -> Result<(), Stop>
+        ensures { IsReturn result self.new (opening selectors at.now self.old) }
+    {
+        match self.css.open_rule(selectors) {
+            Ok(()) => Ok(()),
+            Err(TreeFault::TooLarge) => fails(FaultCode::TooLarge, at),
+            Err(TreeFault::Memory) => Err(Stop::Memory),
+        }
     }
-}
 
-#[tactic(auto, unfolding(crate::specs::Means::declaring))]
-fn declaring(state: &mut State, property: Name, text: Name, at: &Span) -> Result<(), Stop>
-    ensures { IsReturn result state.new (declaring property text at.now state.old) }
-{
-    if !state.css.is_open() {
-        return fails(FaultCode::BadPlace, at);
+    // A line of the open rule.
+    fn lining(&mut self, property: Name, text: Name, at: &Span) -> Result<(), Stop>
+        requires { is_open self.old.css ≡ true }
+        ensures { IsReturn result self.new (lining property text at.now self.old) }
+    {
+        match self.css.declare(property, text) {
+            Ok(()) => Ok(()),
+            Err(TreeFault::TooLarge) => fails(FaultCode::TooLarge, at),
+            Err(TreeFault::Memory) => Err(Stop::Memory),
+        }
     }
-    lining(state, property, text, at)
-}
 
-// A declaration of this value, whose expression stands at the first place and whose statement at the second.
-pub(crate) fn written(
-    alloc: Global,
-    state: &mut State,
-    property: &Name,
-    value: &Value,
-    value_at: &Span,
-    at: &Span,
-) -> Result<(), Stop>
-    ensures { IsReturn result state.new (written property.now value.now value_at.now at.now state.old) }
-{
-    if value.is_blank() {
-        return Ok(());
+    #[tactic(auto, unfolding(crate::specs::Means::declaring))]
+    fn declaring(&mut self, property: Name, text: Name, at: &Span) -> Result<(), Stop>
+        ensures { IsReturn result self.new (declaring property text at.now self.old) }
+    {
+        if !self.css.is_open() {
+            return fails(FaultCode::BadPlace, at);
+        }
+        self.lining(property, text, at)
     }
-    let property = property.share()?;
-    let text = text_of(alloc, value, value_at)?;
-    declaring(state, property, text, at)
+
+    // A declaration of this value, whose expression stands at the first place and whose statement at the second.
+    pub(crate) fn written(
+        &mut self,
+        alloc: Global,
+        property: &Name,
+        value: &Value,
+        value_at: &Span,
+        at: &Span,
+    ) -> Result<(), Stop>
+        ensures { IsReturn result self.new (written property.now value.now value_at.now at.now self.old) }
+    {
+        if value.is_blank() {
+            return Ok(());
+        }
+        let property = property.share()?;
+        let text = text_of(alloc, value, value_at)?;
+        self.declaring(property, text, at)
+    }
 }

@@ -1,17 +1,18 @@
 // The statements of the top level.
-ghost use Rattle.std.specs.Prelude.{◌≡◌, ◌<◌, List, ℕ, is_some, IfOk, IfSome, vec_len, vec_capacity};
+ghost use Rattle.std.specs.Prelude.{◌≡◌, ◌<◌, is_some, IfOk, IfSome, vec_len, vec_capacity};
 ghost use Rattle.sw_eval.specs.Did.{stand};
 ghost use Rattle.sw_eval.specs.Tops.{TopDid, Walked};
-ghost use Rattle.sw_eval.specs.Means.{load_of, ends_loads, entered, space_of};
+ghost use Rattle.sw_eval.specs.Loaded.{loaded};
+ghost use Rattle.sw_eval.specs.Means.{load_of, ends_loads, marked, space_of};
 
 use crate::ask::known;
-use crate::asked::Asked;
 use crate::output::numbered;
-use crate::state::{Level, State};
+use crate::parts::place_of;
+use crate::state::State;
 use crate::stop::{Stop, fails};
-use crate::walk::{does, place_of};
+use crate::walk::Walk;
 use std::alloc::Global;
-use sw_text::{FaultCode, List, Memory, Name, Shared, Span};
+use sw_text::{FaultCode, List, Memory, Name, Shared};
 use sw_tree::{Namespace, Statement};
 use sw_world::{How, Op, World};
 
@@ -27,7 +28,7 @@ fn space_of(namespace: &Namespace) -> &Name
 // The question of a statement that loads a module.
 #[tactic(auto, unfolding(crate::specs::Means::load_of))]
 fn load_of(alloc: Global, path: &Name, statement: &Statement) -> Result<Option<Op>, Memory>
-    ensures { IfOk result (λ op. op ≡ load_of path.now statement.now) }
+    ensures { IfOk result (λ op. op ≡ loaded path.now (load_of statement.now)) }
 {
     match statement {
         Statement::Use { url, namespace, .. } => {
@@ -51,7 +52,7 @@ fn load_of(alloc: Global, path: &Name, statement: &Statement) -> Result<Option<O
 // Whether a statement loads a module.
 #[tactic(auto, unfolding(crate::specs::Means::load_of))]
 fn is_load(statement: &Statement) -> bool
-    ensures { (path : List ℕ) → result ≡ is_some (load_of path statement.now) }
+    ensures { result ≡ is_some (load_of statement.now) }
 {
     matches!(statement, Statement::Use { .. })
 }
@@ -67,9 +68,9 @@ fn ends_loads(statement: &Statement) -> bool
     )
 }
 
-#[tactic(auto, unfolding(crate::specs::Means::entered))]
-fn enter(number: usize, statement: &Statement, state: &mut State)
-    ensures { state.new ≡ entered number statement.now state.old }
+#[tactic(auto, unfolding(crate::specs::Means::marked))]
+fn mark(number: usize, statement: &Statement, state: &mut State)
+    ensures { state.new ≡ marked number statement.now state.old }
 {
     numbered(&mut state.css, number);
     if ends_loads(statement) {
@@ -79,60 +80,45 @@ fn enter(number: usize, statement: &Statement, state: &mut State)
 
 // A statement at the top level. It stops at a load whose answer isn't known.
 fn top<W: World>(
-    alloc: Global,
-    path: &Name,
+    walk: &mut Walk,
     number: usize,
     statement: &Statement,
-    state: &mut State,
-    asked: &mut Asked,
     world: &mut W,
 ) -> Result<Option<Op>, Stop>
-    ensures did { TopDid W.gives path.now number statement.now state.old (stand asked.old) world.old result state.new
-        (stand asked.new) world.new }
-    ensures room { IfOk result (λ o. IfSome o (λ _. vec_len asked.new.pairs < vec_capacity asked.new.pairs)) }
+    ensures did { TopDid W.gives number statement.now walk.old.state (stand walk.old.asked) world.old result
+        walk.new.state (stand walk.new.asked) world.new }
+    ensures room { IfOk result (λ o. IfSome o (λ _. vec_len walk.new.asked.pairs < vec_capacity walk.new.asked.pairs)) }
 {
     if !is_load(statement) {
-        enter(number, statement, state);
-        does(
-            alloc,
-            1000,
-            Level::Top,
-            path,
-            statement,
-            state,
-            asked,
-            world,
-        )?;
+        mark(number, statement, &mut walk.state);
+        walk.does(1000, statement, world)?;
         return Ok(None);
     }
-    if state.late {
+    if walk.state.late {
         return fails(FaultCode::LateUse, place_of(statement));
     }
-    if asked.at < 1_000_000 && asked.at >= asked.pairs.len() {
-        asked.pairs.reserve(1)?;
-        return Ok(load_of(alloc, path, statement)?);
+    if walk.asked.at < 1_000_000 && walk.asked.at >= walk.asked.pairs.len() {
+        walk.asked.pairs.reserve(1)?;
+        return Ok(load_of(walk.alloc, &walk.asked.path, statement)?);
     }
-    let _answer = known(asked, place_of(statement), world)?;
+    let _answer = known(&mut walk.asked, place_of(statement), world)?;
     Ok(None)
 }
 
 // The statements from a place on, up to a load whose answer isn't known.
 pub(crate) fn walk_on<W: World>(
-    alloc: Global,
-    path: &Name,
+    walk: &mut Walk,
     all: &[Statement],
     next: &mut usize,
-    state: &mut State,
-    asked: &mut Asked,
     world: &mut W,
 ) -> Result<Option<Op>, Stop>
-    ensures walked { Walked W.gives path.now all.now next.old state.old (stand asked.old) world.old result next.new
-        state.new (stand asked.new) world.new }
-    ensures room { IfOk result (λ o. IfSome o (λ _. vec_len asked.new.pairs < vec_capacity asked.new.pairs)) }
+    ensures walked { Walked W.gives all.now next.old walk.old.state (stand walk.old.asked) world.old result next.new
+        walk.new.state (stand walk.new.asked) world.new }
+    ensures room { IfOk result (λ o. IfSome o (λ _. vec_len walk.new.asked.pairs < vec_capacity walk.new.asked.pairs)) }
 {
     while *next < all.len() {
         let statement = &all[*next];
-        if let Some(op) = top(alloc, path, *next, statement, state, asked, world)? {
+        if let Some(op) = top(walk, *next, statement, world)? {
             return Ok(Some(op));
         }
         *next += 1;
