@@ -14,7 +14,8 @@ use crate::numeral::numeral;
 use std::alloc::Global;
 use sw_grammar::ReadError;
 use sw_syntax::{
-    Source, bytes_at, bytes_between, constant_at, decoded_at, found, is_at, span_between,
+    Source, bytes_at, bytes_between, constant_at, decoded_at, found, is_at, said, span_between,
+    stretch_between,
 };
 use sw_syntax_tree::{Expr, ExprKind, Parts};
 use sw_terminals::Terminal;
@@ -135,8 +136,9 @@ fn url_of(alloc: Global, source: &Source, at: usize, place: usize) -> Result<Exp
     ensures { IfOk result (λ value. to_url source.now at place [] ≡ Values value ∷ []) }
 {
     let span = span_between(source, at, place)?;
+    let stretch = stretch_between(source, at, place);
     Ok(Expr {
-        kind: ExprKind::Url(Parts::Plain(Name::new(alloc, bytes_between(source, at, place))?)),
+        kind: ExprKind::Url(Parts::Plain(said(alloc, source, &stretch)?)),
         span,
     })
 }

@@ -1,35 +1,32 @@
 // Texts with what is inserted in them.
-ghost use Rattle.std.specs.Prelude.{◌≡◌, ◌++◌, map, reverse, IfOk, IfErr, OnOk, slice_range};
-ghost use Rattle.std.specs.Str.{IsCharBoundary};
-ghost use Rattle.sw_syntax.specs.Sources.{bytes, pieces_from, parts_from, parts_between, text_piece, text_between};
+ghost use Rattle.std.specs.Prelude.{◌≡◌, ◌++◌, map, reverse, IfOk, IfErr, OnOk};
+ghost use Rattle.sw_syntax.specs.Sources.{said, IsCut, pieces_from, parts_from, parts_between, text_piece, text_between};
 ghost use Rattle.sw_expr_nodes.specs.Views.{insert_of, inserts_in, inserted_piece};
 
 use crate::build::Inserted;
 use std::alloc::Global;
 use sw_grammar::ReadError;
-use sw_syntax::{Source, bytes_from, found, from_at, span_between, to_at};
+use sw_syntax::{Source, Stretch, behind, found, said, span_between, stretch_between, up_to};
 use sw_syntax_tree::{Parts, Piece, Text};
-use sw_text::{List, Memory, Name};
+use sw_text::{List, Memory};
 
-/// Puts the text from one offset to another behind the pieces, where it isn't empty.
+/// Puts the text of a stretch behind the pieces, where it isn't empty.
 #[tactic(auto, using(crate::proofs::TextPieces::reverse_more))]
 fn push_text(
     alloc: Global,
     pieces: &mut Vec<Piece>,
     source: &Source,
-    from: u32,
-    to: u32,
+    stretch: &Stretch,
 ) -> Result<(), Memory>
-    requires from { IsCharBoundary (bytes source.now) from }
-    requires to { IsCharBoundary (bytes source.now) to }
-    ensures { OnOk result (reverse pieces.new.items ≡ text_piece (slice_range
-        (bytes source.now) from to) ++ reverse pieces.old.items) }
+    requires { IsCut source.now stretch.now }
+    ensures { OnOk result (reverse pieces.new.items ≡ text_piece (said source.now stretch.now) ++ reverse
+        pieces.old.items) }
 {
-    let text = bytes_from(source, from, to);
-    if text.is_empty() {
+    let text = said(alloc, source, stretch)?;
+    if text.as_str().is_empty() {
         return Ok(());
     }
-    pieces.push(Piece::Text(Name::new(alloc, text)?))?;
+    pieces.push(Piece::Text(text))?;
     Ok(())
 }
 
@@ -46,25 +43,23 @@ fn piece_of(inserted: Inserted) -> Piece
 fn pieces_of(
     alloc: Global,
     source: &Source,
-    from: u32,
-    to: u32,
+    stretch: Stretch,
     list: List<Inserted>,
 ) -> Result<List<Piece>, Memory>
-    requires from { IsCharBoundary (bytes source.now) from }
-    requires to { IsCharBoundary (bytes source.now) to }
-    ensures { IfOk result (λ pieces. pieces_from source.now from to (map insert_of list) ≡ pieces) }
+    requires { IsCut source.now stretch }
+    ensures { IfOk result (λ pieces. pieces_from source.now stretch (map insert_of list) ≡ pieces) }
 {
     let mut rest = list;
     let mut pieces = Vec::new(alloc);
-    let mut end = to;
+    let mut left = stretch;
     'items: while let Some(last) = rest.pop() {
-        let behind = to_at(source, last.to.saturating_sub(1));
-        let before = from_at(source, last.from);
-        push_text(alloc, &mut pieces, source, behind, end)?;
+        let tail = behind(source, left, last.to);
+        let before = up_to(source, left, last.from);
+        push_text(alloc, &mut pieces, source, &tail)?;
         pieces.push(piece_of(last))?;
-        end = before;
+        left = before;
     }
-    push_text(alloc, &mut pieces, source, from, end)?;
+    push_text(alloc, &mut pieces, source, &left)?;
     pieces.reverse();
     Ok(List::from_vec(pieces))
 }
@@ -72,18 +67,16 @@ fn pieces_of(
 fn parts_by(
     alloc: Global,
     source: &Source,
-    from: u32,
-    to: u32,
+    stretch: Stretch,
     list: List<Inserted>,
 ) -> Result<Parts, Memory>
-    requires from { IsCharBoundary (bytes source.now) from }
-    requires to { IsCharBoundary (bytes source.now) to }
-    ensures { IfOk result (λ parts. parts_from source.now from to (map insert_of list) ≡ parts) }
+    requires { IsCut source.now stretch }
+    ensures { IfOk result (λ parts. parts_from source.now stretch (map insert_of list) ≡ parts) }
 {
     if list.is_empty() {
-        return Ok(Parts::Plain(Name::new(alloc, bytes_from(source, from, to))?));
+        return Ok(Parts::Plain(said(alloc, source, &stretch)?));
     }
-    Ok(Parts::Mixed(pieces_of(alloc, source, from, to, list)?))
+    Ok(Parts::Mixed(pieces_of(alloc, source, stretch, list)?))
 }
 
 /// What a text from the token at a place to the one before another is made of.
@@ -96,9 +89,7 @@ pub fn parts_of(
 ) -> Result<Parts, Memory>
     ensures { IfOk result (λ parts. parts_between source.now at place (map insert_of list) ≡ parts) }
 {
-    let from = from_at(source, at);
-    let to = to_at(source, place.saturating_sub(1));
-    parts_by(alloc, source, from, to, list)
+    parts_by(alloc, source, stretch_between(source, at, place), list)
 }
 
 /// The text from the token at a place to the one before another.

@@ -4,6 +4,7 @@
 #![tactic(auto)]
 
 mod at;
+mod gap;
 mod law;
 mod operator;
 mod row;
@@ -11,6 +12,7 @@ mod source;
 mod text;
 
 pub use at::{found, is_at, number_at};
+pub use gap::{Stretch, behind, said, stretch_between, up_to};
 pub use law::readings_are_of_the_table;
 pub use operator::{constant_at, operator_at, sign_at};
 pub use row::{begins_literal, begins_value, goes_on};
