@@ -1,0 +1,5 @@
+pub mod Choices
+pub mod Repeated
+pub mod Climb
+pub mod Endings
+pub mod Forms

@@ -1,0 +1,29 @@
+-- An item of a space list is an operand with any operators, where no ending stands.
+use Rattle.std.proofs.Common.{◌≡◌, ℕ, true, length}
+use Rattle.sw_grammar.specs.Grammar.{member, without, Answer}
+use Rattle.sw_grammar.specs.Readers.{Fails}
+use Rattle.sw_grammar.specs.declared.ReadError.{ReadError}
+use Rattle.sw_grammar.proofs.Seps.{guarded, guarded_fails}
+use Rattle.sw_syntax.specs.declared.source.Source.{Source}
+use Rattle.sw_syntax.specs.Parts.{Part}
+use Rattle.sw_syntax.specs.Sources.{text_of, terminal_at}
+use Rattle.sw_syntax.specs.Sets.{endings, starts}
+use Rattle.sw_syntax.specs.Table.{forms}
+use Rattle.sw_syntax.specs.Expressions.{space_item, disjunction, chain}
+use Rattle.sw_syntax.specs.Reads.{reader}
+use Rattle.sw_syntax.proofs.Decided.{loops}
+
+module _ (source : Source) (n : ℕ) (i : ℕ) where
+  pub item_read : (a : Answer Part) → member (terminal_at source i) (without endings starts) ≡ true
+      → reader source n (chain source 6) i ≡ a → reader source n (space_item source) i ≡ a
+  unfolding space_item disjunction
+  item_read a at e =
+      guarded (forms source) (text_of source) (length source.lexemes.now) n endings _ (chain source 6) i a
+      (loops source).space_items.starts at e
+
+  pub item_fails : (e : ReadError) → member (terminal_at source i) (without endings starts) ≡ true
+      → Fails e (reader source n (chain source 6) i) → Fails e (reader source n (space_item source) i)
+  unfolding space_item disjunction
+  item_fails e at x =
+      guarded_fails (forms source) (text_of source) (length source.lexemes.now) n endings _ (chain source 6) i e
+      (loops source).space_items.starts at x

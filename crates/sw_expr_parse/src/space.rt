@@ -1,0 +1,74 @@
+// Operands with white space between them.
+ghost use Rattle.std.specs.Prelude.{◌≡◌, ◌∷◌, map, IfOk, []};
+ghost use Rattle.sw_grammar.specs.Grammar.{many};
+ghost use Rattle.sw_syntax.specs.Parts.{Values};
+ghost use Rattle.sw_syntax.specs.Sources.{span_between};
+ghost use Rattle.sw_syntax.specs.Values.{spaced};
+ghost use Rattle.sw_syntax.specs.Expressions.{space_item, space, disjunction};
+ghost use Rattle.sw_syntax.specs.Reads.{reader, reads, Reads, ReadsValue};
+ghost use Rattle.sw_expr_inner.specs.Deeper.{Callable, Reading};
+
+use crate::chain::chain_at;
+use std::alloc::Global;
+use sw_expr_nodes::{given_up, spaced};
+use sw_grammar::ReadError;
+use sw_syntax::{Source, found, goes_on, span_between};
+use sw_syntax_tree::Expr;
+use sw_text::{List, Memory};
+
+fn space_of(
+    source: &Source,
+    at: usize,
+    place: usize,
+    first: Expr,
+    rest: List<Expr>,
+) -> Result<Expr, Memory>
+    ensures { IfOk result (λ value. spaced (span_between source.now at place) (first ∷ rest) ≡ Values value ∷ []) }
+{
+    match span_between(source, at, place) {
+        Ok(span) => spaced(first, rest, span),
+        Err(error) => Err(given_up((first, rest), error)),
+    }
+}
+
+/// Any number of operands behind the first.
+#[tactic(auto, unfolding(sw_grammar::specs::Readers::parse))]
+fn space_items_at<F: Fn(u8, usize) -> Result<(Expr, usize), ReadError> + Copy>(
+    alloc: Global,
+    deeper: F,
+    source: &Source,
+    levels: u8,
+    at: usize,
+) -> Result<(List<Expr>, usize), ReadError>
+    requires callable { Callable (F.Fn.pre deeper) levels }
+    requires reading { Reading (F.Fn.post deeper) source.now levels }
+    ensures { Reads (λ values. map Values values) result (reader source.now levels (many (space_item source.now)) at) }
+{
+    let mut list = Vec::new(alloc);
+    let mut place = at;
+    'items: while goes_on(source, place) {
+        let (item, next) = chain_at(alloc, deeper, source, levels, place, 6)?;
+        list.push(item)?;
+        place = next;
+    }
+    Ok((List::from_vec(list), place))
+}
+
+/// A space list, over a reader of those where fewer levels may be opened.
+#[tactic(auto, using(sw_expr_nodes::proofs::Collected::collected), unfolding(sw_grammar::specs::Readers::parse, sw_syntax::specs::Expressions::space, sw_syntax::specs::Expressions::disjunction))]
+pub(crate) fn space_by<F: Fn(u8, usize) -> Result<(Expr, usize), ReadError> + Copy>(
+    alloc: Global,
+    deeper: F,
+    source: &Source,
+    levels: u8,
+    at: usize,
+) -> Result<(Expr, usize), ReadError>
+    requires callable { Callable (F.Fn.pre deeper) levels }
+    requires reading { Reading (F.Fn.post deeper) source.now levels }
+    ensures { ReadsValue result (reads source.now levels space at) }
+{
+    let (first, place) = chain_at(alloc, deeper, source, levels, at, 6)?;
+    let (rest, place) = space_items_at(alloc, deeper, source, levels, place)?;
+    let value = found(space_of(source, at, place, first, rest))?;
+    Ok((value, place))
+}
