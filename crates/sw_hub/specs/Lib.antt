@@ -1,0 +1,3 @@
+pub mod Hearing
+pub mod Hubs
+pub mod Memory

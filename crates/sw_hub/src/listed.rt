@@ -1,0 +1,14 @@
+// Which calls of an object in memory fail.
+ghost use Rattle.std.specs.Prelude.{◌↔◌, IsTrue};
+ghost use Rattle.std.specs.List.{Contains};
+
+use sw_text::List;
+
+pub fn is_listed(numbers: &List<u32>, call: u64) -> bool
+    ensures { IsTrue result ↔ Contains numbers.now call }
+{
+    numbers
+        .as_slice()
+        .iter()
+        .any(|number| u64::from(*number) == call)
+}
