@@ -1,2 +1,0 @@
-pub mod Announced
-pub mod Engines

@@ -1,2 +1,0 @@
-pub mod Announcing
-pub mod Kept
