@@ -13,7 +13,7 @@ use Rattle.sw_world.specs.Body.{answers}
 use Rattle.sw_world.specs.Laws.{most_asked}
 use Rattle.sw_world.specs.declared.answer.Answer.{Answer}
 use Rattle.sw_eval.specs.Talk.{Question, Loads, Talk, Gives, Fails, Asking, bind, op_of}
-use Rattle.sw_eval.specs.Ran.{Stand, Ran, op_at, ran_on, within}
+use Rattle.sw_eval.specs.Ran.{Stand, Ran, ran_on, within}
 use Rattle.sw_eval.specs.Did.{Did, IsReturn}
 use Rattle.sw_eval.specs.Loaded.{loaded}
 use Rattle.sw_eval.specs.Means.{asking, fault, top, tops, load_of, load_at, place_of, space_of, marked, does_to}

@@ -1,9 +1,8 @@
 -- What a turn of a body tells.
-use Rattle.std.proofs.Common.{◌≡◌, ℕ, zero, suc, ◌+◌, ◌-◌, ◌<◌, ◌≤◌, List, [], ◌∷◌, ◌++◌, length, take, drop, Option, Some, None, refl, sym, ◌∙◌, ap, append-nil, arith}
+use Rattle.std.proofs.Common.{◌≡◌, ℕ, zero, suc, ◌+◌, ◌-◌, ◌<◌, ◌≤◌, List, [], ◌∷◌, ◌++◌, length, take, drop, Some, refl, sym, ◌∙◌, ap, append-nil, arith}
 use Rattle.sw_world.specs.declared.op.Op.{Op}
 use Rattle.sw_world.specs.declared.answer.Answer.{Answer}
 use Rattle.sw_world.specs.declared.end.End.TheVariants.{Done, Fault}
-use Rattle.sw_world.specs.declared.end.Finish.{Finish}
 use Rattle.sw_text.specs.declared.fault.Fault.{Fault as Fault_at}
 use Rattle.sw_text.specs.declared.place.Span.{Span}
 use Rattle.sw_world.specs.Body.{Pair, Job, Next, Asks, Ends, answers}

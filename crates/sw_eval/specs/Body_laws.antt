@@ -1,14 +1,11 @@
 -- The laws of the body of a sheet: they are laws of every talk.
-use Rattle.std.proofs.Common.{◌≡◌, ℕ, List, [], ◌∙◌, ap, refl, arith}
+use Rattle.std.proofs.Common.{◌≡◌, List, [], ◌∙◌, ap, refl, arith}
 use Rattle.sw_tree.specs.declared.statement.Statement.{Statement}
-use Rattle.sw_world.specs.Body.{Job}
-use Rattle.sw_world.specs.Laws.{EndsForGood, EndsInTime, AsksFromSources, NamesOnce, EndsRefused, EachOnce, most_asked}
+use Rattle.sw_world.specs.Laws.{EndsForGood, EndsInTime, AsksFromSources, NamesOnce, EndsRefused, most_asked}
 use Rattle.sw_tree.specs.Globals.{globals}
 use Rattle.sw_eval.specs.Laws.{run_ends, run_keeps, run_refused, run_gives, run_sourced}
 use Rattle.sw_eval.specs.Left.{finish_of, end_of, names, names-left, once_after}
-use Rattle.sw_eval.specs.Talk.{Talk}
 use Rattle.sw_eval.specs.Means.{body, begin, tops}
-use Rattle.sw_eval.specs.declared.state.State.{State}
 
 pub ends_in_time : EndsInTime body
 unfolding body

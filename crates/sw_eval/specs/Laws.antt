@@ -1,5 +1,5 @@
 -- What holds of every talk that runs on a list of answers: so it holds of every body, whatever the language.
-use Rattle.std.proofs.Common.{◌≡◌, ℕ, zero, suc, ◌≤◌, Bool, List, [], ◌∷◌, ◌++◌, length, map, Option, Some, None, slice_get, refl, sym, ◌∙◌, ap, subst, inl, inr, append_assoc, append-nil, arith}
+use Rattle.std.proofs.Common.{◌≡◌, ℕ, zero, suc, ◌≤◌, List, [], ◌∷◌, ◌++◌, length, Option, Some, None, slice_get, refl, sym, ◌∙◌, ap, subst, inl, inr, append_assoc, append-nil, arith}
 use Rattle.sw_text.specs.declared.fault.Fault.{Fault}
 use Rattle.sw_text.specs.declared.place.Span.{Span}
 use Rattle.sw_world.specs.declared.op.Op.{Op}
@@ -11,7 +11,7 @@ use Rattle.sw_world.specs.declared.end.End.TheVariants.{Done as Done_end, Fault 
 use Rattle.sw_world.specs.declared.end.Finish.{Finish}
 use Rattle.sw_world.specs.Body.{Pair, Next, Asks, Ends, answers, Goes}
 use Rattle.sw_world.specs.Laws.{Answered, IsOwner, IsWrittenAt, HasSource}
-use Rattle.sw_eval.specs.Talk.{Question, Loads, Finds, Gets, Puts, Says, Calls, Talk, Gives, Fails, Asking, answered, site_by, site_of, owned, op_of, no_owner, too_many, next_by, run}
+use Rattle.sw_eval.specs.Talk.{Question, Loads, Finds, Gets, Puts, Says, Calls, Talk, Gives, Fails, Asking, answered, site_by, owned, op_of, no_owner, too_many, next_by, run}
 
 module _ {A : Type 0} (end : A → Finish) (path : List ℕ) where
   ends_by : (o : Option Op) (at : Span) (a : Answer) (given : List Answer) (f : Answer → List Answer → Next)

@@ -1,6 +1,6 @@
 -- What a sheet means: the talk that its evaluation is (the Sass specification on variables and modules; places of
 -- faults and limits are this project's own).
-use Rattle.std.specs.Prelude.{ℕ, zero, suc, ◌+◌, Bool, true, false, ◌||◌, nat_lt, nat_le, if◌then◌else◌, List, [], ◌∷◌, length, Option, Some, None}
+use Rattle.std.specs.Prelude.{ℕ, zero, suc, Bool, true, false, ◌||◌, nat_lt, nat_le, if◌then◌else◌, List, [], ◌∷◌, length, Option, Some, None}
 use Rattle.sw_text.specs.Names.{is_private}
 use Rattle.sw_text.specs.declared.fault.Fault.{Fault}
 use Rattle.sw_text.specs.declared.fault.FaultCode.{FaultCode}
@@ -31,7 +31,7 @@ use Rattle.sw_world.specs.declared.answer.Answer.{Answer}
 use Rattle.sw_world.specs.declared.answer.Answer.TheVariants.{Owner, BuiltIn, NoNamespace, LeftOut, Conflict, Value}
 use Rattle.sw_world.specs.Body.{BodyOf}
 use Rattle.sw_world.specs.Laws.{most_asked}
-use Rattle.sw_eval.specs.Talk.{Question, Loads, Finds, Gets, Puts, Talk, Gives, Fails, Asking, bind, run}
+use Rattle.sw_eval.specs.Talk.{Question, Loads, Finds, Gets, Puts, Gives, Fails, Asking, bind, run}
 use Rattle.sw_eval.specs.Scope.{own, set_by, entered, left}
 use Rattle.sw_eval.specs.Left.{end_of}
 use Rattle.sw_eval.specs.Did.{Eval}

@@ -1,5 +1,5 @@
 -- What a walk through a talk tells of the body that the talk is the rest of.
-use Rattle.std.proofs.Common.{◌≡◌, ℕ, zero, suc, ◌+◌, ◌-◌, ◌<◌, ◌≤◌, List, [], ◌∷◌, ◌++◌, length, take, slice_get, Option, Some, None, refl, sym, ◌∙◌, ap, subst, append_assoc, append-nil, length-append, add-one, arith}
+use Rattle.std.proofs.Common.{◌≡◌, ℕ, zero, suc, ◌+◌, ◌-◌, ◌<◌, ◌≤◌, List, [], ◌∷◌, ◌++◌, length, take, slice_get, Some, None, refl, sym, ◌∙◌, ap, subst, append_assoc, append-nil, length-append, add-one, arith}
 use Rattle.std.proofs.lemmas.List.{length-take-le}
 use Rattle.sw_world.specs.declared.op.Op.{Op}
 use Rattle.sw_world.specs.declared.answer.Answer.{Answer}
@@ -8,7 +8,7 @@ use Rattle.sw_text.specs.declared.place.Span.{Span}
 use Rattle.sw_world.specs.Body.{Pair, Next, Asks, answers, Goes, Leads}
 use Rattle.sw_world.specs.Laws.{most_asked}
 use Rattle.sw_eval.specs.Talk.{Question, Talk, Fails, Asking, answered, too_many, no_owner, op_of, next_by, run}
-use Rattle.sw_eval.specs.Ran.{Stand, Ran, still, takes, asks, full, lost, op_at}
+use Rattle.sw_eval.specs.Ran.{Stand, Ran, still, takes, asks, full, lost}
 
 -- after so many answers of these pairs the body is the talk
 abbrev pub IsRest : {A : Type 0} → (A → Finish) → List ℕ → (List Answer → Next) → List Pair → ℕ → Talk A → Type 0

@@ -1,7 +1,7 @@
 use Rattle.std.proofs.Common.{◌≡◌, arith}
 use Rattle.sw_tree.specs.declared.statement.Statement as S
 use Rattle.sw_eval.specs.Ran.{still}
-use Rattle.sw_eval.specs.Means.{block, framed, rule, does_one, value_to, does_to}
+use Rattle.sw_eval.specs.Means.{block, framed, rule, does_one, does_to}
 use Rattle.sw_eval.proofs.Steps.{no_memory, no_memory_by, gives_state, did_value, did_err, did_then, did_plain, ran_then, ran_did}
 use Rattle.sw_eval.proofs.Depth.{one_level_does}
 use Rattle.sw_eval.proofs.Opens.{out_Rule}
