@@ -1,5 +1,6 @@
 //! Operands that hold expressions: what stands in parentheses and brackets, strings and urls with `#{}`, words, calls,
-//! and what belongs to a namespace. Each reader takes the one that reads space lists as a parameter.
+//! and what belongs to a namespace. Each reader takes the one that reads lists without commas as a parameter. Lexemes
+//! flow in; nodes, and the places behind them, flow out.
 #![tactic(auto)]
 
 mod call;
