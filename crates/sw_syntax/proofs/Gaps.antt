@@ -1,10 +1,9 @@
 -- White space without the comments in it, step by step.
-use Rattle.std.proofs.Common.{◌≡◌, ℕ, zero, suc, ◌+◌, ◌-◌, ◌<◌, ◌≤◌, Bool, true, false, not, List, [], ◌∷◌, ◌++◌, refl, sym, ◌∙◌, ap, subst, arith, append_assoc}
+use Rattle.std.proofs.Common.{◌≡◌, ℕ, suc, ◌+◌, ◌-◌, ◌<◌, ◌≤◌, Bool, true, false, List, [], ◌++◌, refl, sym, ◌∙◌, ap, subst, arith, append_assoc}
 use Rattle.std.specs.Prelude.{nat_lt, max, if◌then◌else◌}
 use Rattle.std.proofs.lemmas.Bool.Decides.{nat_tests}
-use Rattle.sw_scan.specs.Bytes.{is_break, is_white}
 use Rattle.sw_syntax.specs.declared.source.Source.{Source}
-use Rattle.sw_syntax.specs.Sources.{bytes_from, is_silent, is_commented, from_at, to_at, gap_at, token_from, token_to, blank, blank_from, before_gap, behind_gap, said_from}
+use Rattle.sw_syntax.specs.Sources.{bytes_from, is_commented, from_at, to_at, gap_at, token_from, token_to, blank, blank_from, before_gap, behind_gap, said_from}
 
 -- what holds of both holds of the greater one
 pub of_max : (P : ℕ → Type 0) (a b : ℕ) → P a → P b → P (max a b)
