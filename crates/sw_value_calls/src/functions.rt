@@ -9,7 +9,7 @@ use sw_text::Name;
 use sw_values::Value;
 
 // A function's name, and its arguments behind it.
-fn parts(text: &str) -> (&str, &str) {
+pub fn parts(text: &str) -> (&str, &str) {
     text.split_once(" ; ").unwrap_or((text, ""))
 }
 
@@ -24,7 +24,7 @@ fn push_argument(
     Ok(())
 }
 
-fn arguments(alloc: Global, text: &str) -> Result<Vec<Argument>, Refusal> {
+pub fn arguments(alloc: Global, text: &str) -> Result<Vec<Argument>, Refusal> {
     let mut args = Vec::new(alloc);
     let mut reader = Reader::new(text);
     for _ in 0..text.len() {
@@ -36,7 +36,7 @@ fn arguments(alloc: Global, text: &str) -> Result<Vec<Argument>, Refusal> {
     Ok(args)
 }
 
-fn told(alloc: Global, answer: Result<Value, FnFault>) -> Result<String, Refusal> {
+pub fn told(alloc: Global, answer: Result<Value, FnFault>) -> Result<String, Refusal> {
     let value = answer_of(alloc, answer)?;
     inspected(alloc, &value)
 }
@@ -74,5 +74,43 @@ pub fn lists(alloc: Global, name: &str, text: &str) -> Result<String, Refusal> {
             told(alloc, sw_fn_list::call(alloc, function, &args))
         }
         _ => Err(Refusal::NoCall),
+    }
+}
+
+pub fn maps(alloc: Global, name: &str, text: &str) -> Result<String, Refusal> {
+    let (function, args) = parts(text);
+    match (name, sw_fn_map::Function::by_name(function)) {
+        ("known", function) => yes_or_no(alloc, function.is_some()),
+        ("call", Some(function)) => {
+            let args = arguments(alloc, args)?;
+            told(alloc, sw_fn_map::call(alloc, function, &args))
+        }
+        _ => Err(Refusal::NoCall),
+    }
+}
+
+pub fn colours(alloc: Global, name: &str, text: &str) -> Result<String, Refusal> {
+    let (function, args) = parts(text);
+    match (name, colour_function(function)) {
+        ("known", _) => { yes_or_no(alloc, sw_fn_colour::Function::by_name(function).is_some()) }
+        ("global", _) => {
+            yes_or_no(
+                alloc,
+                sw_fn_colour::Function::by_global_name(function).is_some(),
+            )
+        }
+        ("call", Some(function)) => {
+            let args = arguments(alloc, args)?;
+            told(alloc, sw_fn_colour::call(alloc, function, &args))
+        }
+        _ => Err(Refusal::NoCall),
+    }
+}
+
+// A function of the module, or one that stands in none.
+fn colour_function(name: &str) -> Option<sw_fn_colour::Function> {
+    match sw_fn_colour::Function::by_name(name) {
+        Some(function) => Some(function),
+        None => sw_fn_colour::Function::by_global_name(name),
     }
 }

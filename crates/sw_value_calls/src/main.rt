@@ -2,6 +2,7 @@
 //! what they say. Lines flow in, each becomes a call of its library, and a line for each file flows out.
 #![tactic(auto)]
 
+mod built_ins;
 mod functions;
 mod operators;
 mod reader;
@@ -27,7 +28,10 @@ impl Libraries for Above {
     ) -> Result<String, Refusal> {
         match library {
             "arguments" | "scopes" => scopes::answer(alloc, name, text),
+            "built_ins" => built_ins::answer(alloc, name, text),
+            "colour_functions" => functions::colours(alloc, name, text),
             "lists" => functions::lists(alloc, name, text),
+            "maps" => functions::maps(alloc, name, text),
             "math" => functions::math(alloc, name, text),
             "operators" => operators::answer(alloc, name, text),
             "text" => functions::text(alloc, name, text),

@@ -1,5 +1,5 @@
-// Values as rows write them: `1px/s`, `1/2` with its sides, `"a"`, `#fff`, `red`, `a`, `null`, `(a, b)`, `(a b)`,
-// `(a / b)`, `(a,)`, `[a b]`, `()`, `(k: v)`, `args(a, $n: b)`; and `text*9`, `nested*9` and `nulls*9` for what is too
+// Values as rows write them: `1px/s`, `1/2` with its sides, `"a"`, `#fff`, `red`, `a`, `'var(--a)'` without quotes,
+// `null`, `(a, b)`, `(a b)`, `(a / b)`, `(a,)`, `[a b]`, `()`, `(k: v)`, `args(a, $n: b)`; and `text*9`, `nested*9` and `nulls*9` for what is too
 // long to be written.
 use crate::values::value_of;
 use std::alloc::Global;
@@ -63,7 +63,10 @@ impl<'a> Reader<'a> {
             return Err(Refusal::NoCall);
         }
         if self.took("\"") {
-            return self.string(alloc);
+            return self.string(alloc, '"', true);
+        }
+        if self.took("'") {
+            return self.string(alloc, '\'', false);
         }
         if self.took("args(") {
             return self.arguments(alloc, depth - 1);
@@ -78,13 +81,13 @@ impl<'a> Reader<'a> {
     }
 
     // The string behind its first quote.
-    fn string(&mut self, alloc: Global) -> Result<Value, Refusal> {
-        let (text, rest) = self.rest.split_once('"').unwrap_or((self.rest, ""));
+    fn string(&mut self, alloc: Global, quote: char, quoted: bool) -> Result<Value, Refusal> {
+        let (text, rest) = self.rest.split_once(quote).unwrap_or((self.rest, ""));
         self.rest = rest;
         let mut bytes = Vec::new(alloc);
         add_unescaped(text, &mut bytes)?;
         let text = text_of(alloc, &bytes)?;
-        string(alloc, text.as_str(), true)
+        string(alloc, text.as_str(), quoted)
     }
 
     // What stands behind an item.

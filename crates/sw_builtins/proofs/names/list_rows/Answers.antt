@@ -1,0 +1,10 @@
+use Rattle.std.proofs.Common.{refl}
+use Rattle.sw_builtins.specs.Tables.{list}
+use Rattle.sw_builtins.proofs.names.list_rows.Goals as goal
+
+pub returns-clause-rows : goal.returns-clause-rows
+unfolding list
+returns-clause-rows c = refl
+
+pub returns-clause-rising : goal.returns-clause-rising
+returns-clause-rising c = refl
