@@ -10,12 +10,11 @@ use Rattle.sw_text.specs.declared.fault.FaultCode.TheVariants.{Syntax, Depth}
 use Rattle.sw_text.specs.declared.place.Span.{Span}
 use Rattle.sw_tokens.specs.Listed.{Listed}
 use Rattle.sw_tokens.specs.declared.token.Token.{Token}
-use Rattle.sw_terminals.specs.declared.lexeme.Lexeme.{Lexeme}
 use Rattle.sw_lexemes.specs.Lexemes.{value_lexemes_of}
 use Rattle.sw_syntax_tree.specs.declared.expr.Expr.{Expr}
 use Rattle.sw_syntax.specs.declared.source.Source.{Source}
 use Rattle.sw_syntax.specs.Parts.{Part, Values}
-use Rattle.sw_syntax.specs.Sources.{bytes, text_of, lexeme_at, token_of, span_from}
+use Rattle.sw_syntax.specs.Sources.{bytes, text_of, lexeme_at, token_at, token_of, span_from}
 use Rattle.sw_syntax.specs.Table.{forms, opening, closing}
 use Rattle.sw_expr_parse.specs.declared.end.ReadEnd.{ReadEnd}
 use Rattle.sw_expr_parse.specs.declared.end.ReadEnd.TheVariants as ends
@@ -33,14 +32,6 @@ IsEnd fault (ends.Fault told) = told ≡ fault
 IsEnd fault ends.Memory = Unit {0}
 
 module _ (source : Source) where
-  abbrev pub place_in : Option Lexeme → ℕ
-  place_in None = length source.tokens.now.list
-  place_in (Some lexeme) = lexeme.token
-
-  -- the place among all tokens of the one at a place; past the last one, how many there are
-  unfoldable pub place_of : ℕ → ℕ
-  place_of at = place_in (lexeme_at source at)
-
   -- past the last token the span is empty, at the end of the text
   abbrev pub token_span : Option Token → Span
   token_span None = span_from source (length (bytes source)) (length (bytes source))
@@ -67,9 +58,10 @@ module _ (source : Source) where
         ((at : ℕ) × Says (Unexpected at) × (fault ≡ fault_at Syntax at))
         ⊎ ((at : ℕ) × Says (TooDeep at) × (fault ≡ fault_at Depth at))
 
-    -- what was returned is what the table says, unless memory ran out
+    -- what was returned is what the table says, with the place of the token behind it among all tokens, unless memory ran
+    -- out
     abbrev pub ReadsSource : Result (Expr × ℕ) ReadEnd → Type 0
-    ReadsSource (Ok read) = (at : ℕ) × Says (Got (Values read.0 ∷ []) at) × (read.1 ≡ place_of at)
+    ReadsSource (Ok read) = (at : ℕ) × Says (Got (Values read.0 ∷ []) at) × (read.1 ≡ token_at source at)
     ReadsSource (Err (ends.Fault fault)) = IsFault fault
     ReadsSource (Err ends.Memory) = Unit {0}
 

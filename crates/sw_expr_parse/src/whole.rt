@@ -3,10 +3,10 @@ ghost use Rattle.std.specs.Prelude.{◌≡◌, ◌∷◌, [], ◌-◌, ◌≤◌
 ghost use Rattle.std.specs.Str.{IsCharBoundary};
 ghost use Rattle.sw_grammar.specs.Readers.{ReadsForm};
 ghost use Rattle.sw_syntax.specs.Parts.{Values};
-ghost use Rattle.sw_syntax.specs.Sources.{bytes, text_of, span_from, lexeme_at, token_of};
+ghost use Rattle.sw_syntax.specs.Sources.{bytes, text_of, span_from, lexeme_at, token_at, token_of};
 ghost use Rattle.sw_syntax.specs.Table.{forms, opening, closing};
 ghost use Rattle.sw_expr_parse.specs.Forms.{form_of};
-ghost use Rattle.sw_expr_parse.specs.Readings.{place_of, token_span, fault_at, IsEnd, EndsBy, ReadsSource, ReadsExpr};
+ghost use Rattle.sw_expr_parse.specs.Readings.{token_span, fault_at, IsEnd, EndsBy, ReadsSource, ReadsExpr};
 
 use crate::end::ReadEnd;
 use crate::form::{Form, mode_of};
@@ -56,7 +56,7 @@ fn read_source(
     ensures { ReadsSource source.now levels form result }
 {
     match read_form(alloc, source, form, levels) {
-        Ok((value, place)) => Ok((value, place_of(source, place))),
+        Ok((value, place)) => Ok((value, token_at(source, place))),
         Err(error) => Err(end_of(source, error)),
     }
 }
@@ -88,9 +88,9 @@ fn read_form(
     }
 }
 
-#[tactic(auto, unfolding(crate::specs::Readings::place_of))]
-fn place_of(source: &Source, at: usize) -> usize
-    ensures { result ≡ place_of source.now at }
+#[tactic(auto, unfolding(sw_syntax::specs::Sources::token_at))]
+fn token_at(source: &Source, at: usize) -> usize
+    ensures { result ≡ token_at source.now at }
 {
     match source.lexemes.get(at) {
         None => source.tokens.len(),

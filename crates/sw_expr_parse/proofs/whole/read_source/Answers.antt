@@ -2,7 +2,7 @@ use Rattle.sw_expr_parse.proofs.Endings.{ended}
 use Rattle.sw_expr_parse.proofs.whole.read_source.Goals as goal
 
 pub returns-in-Ok : goal.returns-in-Ok
-returns-in-Ok c = (_, c.in-Ok.ensures, c.place_of.ensures)
+returns-in-Ok c = (_, c.in-Ok.ensures, c.token_at.ensures)
 
 pub returns-in-Err : goal.returns-in-Err
 returns-in-Err c =
