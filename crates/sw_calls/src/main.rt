@@ -1,4 +1,4 @@
-//! Runs the rows that are calls of the libraries of texts, tokens, decimals, colours, selectors, files and output, and
+//! Runs the rows that are calls of the libraries of texts, tokens, lexemes, decimals, colours, selectors, files and output, and
 //! tells which of them give what they say. Lines flow in, each becomes a call of its library, and a line for each file
 //! flows out.
 #![tactic(auto)]
@@ -6,6 +6,7 @@
 mod colours;
 mod decimals;
 mod disks;
+mod lexemes;
 mod numbers;
 mod output;
 mod paths;
@@ -37,6 +38,7 @@ impl Libraries for Below {
             "colours" => colours::answer(alloc, name, text),
             "decimals" => decimals::answer(alloc, name, text),
             "disks" => disks::answer(alloc, name, text),
+            "lexemes" => lexemes::answer(alloc, name, unescaped(alloc, text)?.as_str()),
             "numbers" => numbers::answer(alloc, name, text),
             "output" => output::answer(alloc, name, text),
             "paths" => paths::answer(alloc, name, text),

@@ -1,14 +1,15 @@
-// Calls on the tokens of a text: `tokens a { b: c }` gives them all, `token 0 ; a` the one at a place, `none a` the
-// list without any.
+// Calls on the tokens of a text: `tokens a { b: c }` gives them all, `css a { b: c }` those of plain CSS, `token 0 ; a`
+// the one at a place, `none a` the list without any.
 use crate::places::{ends, sheet};
 use std::alloc::{AllocError, Global};
 use sw_row_files::Refusal;
 use sw_text::{List, Shared, SheetText};
-use sw_tokens::{Fault10, Token, TokenKind, Tokens};
+use sw_tokens::{Fault10, Syntax, Token, TokenKind, Tokens};
 
 pub fn answer(alloc: Global, name: &str, text: &str) -> Result<String, Refusal> {
     match name {
-        "tokens" => all(alloc, text),
+        "tokens" => all(alloc, text, Syntax::Scss),
+        "css" => all(alloc, text, Syntax::Css),
         "token" => one(alloc, text),
         "none" => without(alloc, text),
         _ => Err(Refusal::NoCall),
@@ -21,9 +22,9 @@ fn shared(alloc: Global, text: &str) -> Result<Shared<SheetText>, Refusal> {
 }
 
 // The tokens, or where the fault stands.
-fn all(alloc: Global, text: &str) -> Result<String, Refusal> {
+fn all(alloc: Global, text: &str, syntax: Syntax) -> Result<String, Refusal> {
     let sheet = shared(alloc, text)?;
-    match Tokens::of(alloc, &sheet) {
+    match Tokens::of_syntax(alloc, &sheet, syntax) {
         Ok(tokens) => Ok(listed(alloc, &tokens)?),
         Err(Fault10::Memory) => Err(Refusal::Memory),
         Err(Fault10::Fault(fault)) => {
