@@ -1,9 +1,10 @@
 // Calls on values: `css 1/2`, `plain_css "a"`, `inspect (a: b)`, `equal 1in ; 96px`, `same a ; "a"`, `truth null`,
-// `weight (a b)`, `nesting (a b)`, `get (a: b) ; a`, `put (a: b) ; a ; c`.
+// `weight (a b)`, `nesting (a b)`, `items (a: b)`, `get (a: b) ; a`, `put (a: b) ; a ; c`, and on a list or map itself
+// `push (a, b) ; c`, `set (a: b) ; a ; c`.
 use crate::reader::Reader;
 use std::alloc::Global;
 use sw_row_files::{Refusal, answer_of};
-use sw_values::{Node, Pairs, Value};
+use sw_values::{Node, Pairs, Separator, Value};
 
 /// How many brackets of a row stand in one another at most.
 pub const DEPTH: u32 = 100;
@@ -27,10 +28,9 @@ fn longer_call(
     let other = next(alloc, reader)?;
     if reader.is_done() {
         two_call(alloc, name, one, &other)
-    } else if name == "put" {
-        put(alloc, one, &other, reader)
     } else {
-        Err(Refusal::NoCall)
+        let last = next(alloc, reader)?;
+        three_call(alloc, name, one, &other, &last)
     }
 }
 
@@ -43,10 +43,65 @@ fn next(alloc: Global, reader: &mut Reader) -> Result<Value, Refusal> {
     }
 }
 
-fn put(alloc: Global, map: &Value, key: &Value, reader: &mut Reader) -> Result<String, Refusal> {
-    let value = next(alloc, reader)?;
-    let pairs = pairs_of(map)?.with_value(alloc, key, &value)?;
+fn three_call(
+    alloc: Global,
+    name: &str,
+    map: &Value,
+    key: &Value,
+    value: &Value,
+) -> Result<String, Refusal> {
+    match name {
+        "put" => put(alloc, map, key, value),
+        "set" => set(alloc, map, key, value),
+        _ => Err(Refusal::NoCall),
+    }
+}
+
+fn put(alloc: Global, map: &Value, key: &Value, value: &Value) -> Result<String, Refusal> {
+    let pairs = pairs_of(map)?.with_value(alloc, key, value)?;
     inspected(alloc, &value_of(alloc, Node::Map(pairs))?)
+}
+
+// The map itself with a value for a key.
+fn set(alloc: Global, map: &Value, key: &Value, value: &Value) -> Result<String, Refusal> {
+    match map.node() {
+        Node::Map(_) => {
+            let map = answer_of(alloc, map.share()?.set_key(alloc, key, value))?;
+            inspected(alloc, &map)
+        }
+        _ => Err(Refusal::NoCall),
+    }
+}
+
+// The list itself with one item more, joined by a comma.
+fn push(alloc: Global, list: &Value, item: &Value) -> Result<String, Refusal> {
+    match list.node() {
+        Node::List { .. } => {
+            let item = item.share()?;
+            let list = answer_of(
+                alloc,
+                list.share()?.push_item(alloc, item, Separator::Comma),
+            )?;
+            inspected(alloc, &list)
+        }
+        _ => Err(Refusal::NoCall),
+    }
+}
+
+// The items with ` | ` between two.
+fn items(alloc: Global, value: &Value) -> Result<String, Refusal> {
+    let items = value.items(alloc)?;
+    if items.is_empty() {
+        return Ok(String::from_str(alloc, "nothing")?);
+    }
+    let mut text = String::new(alloc);
+    let mut between = "";
+    for item in items.as_slice() {
+        text.push_str(between)?;
+        text.push_str(inspected(alloc, item)?.as_str())?;
+        between = " | ";
+    }
+    Ok(text)
 }
 
 fn one_call(alloc: Global, name: &str, value: &Value) -> Result<String, Refusal> {
@@ -54,6 +109,7 @@ fn one_call(alloc: Global, name: &str, value: &Value) -> Result<String, Refusal>
         "css" => css(alloc, value, true),
         "plain_css" => css(alloc, value, false),
         "inspect" => inspected(alloc, value),
+        "items" => items(alloc, value),
         "truth" => Ok(format!(in alloc; "{}", value.truth())?),
         "weight" => Ok(format!(in alloc; "{}", value.weight())?),
         "nesting" => Ok(format!(in alloc; "{}", value.nesting())?),
@@ -65,6 +121,7 @@ fn two_call(alloc: Global, name: &str, one: &Value, other: &Value) -> Result<Str
     match name {
         "equal" => Ok(format!(in alloc; "{}", one.equals(other))?),
         "same" => Ok(format!(in alloc; "{}", one.same(other))?),
+        "push" => push(alloc, one, other),
         "get" => match pairs_of(one)?.get(&other.canon(alloc)?) {
             Some(value) => inspected(alloc, value),
             None => Ok(String::from_str(alloc, "none")?),
