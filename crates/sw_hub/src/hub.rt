@@ -110,8 +110,20 @@ impl Hub {
     pub fn tell(&mut self, reply: &Reply)
         ensures given { self.new.given ≡ self.old.given }
         ensures told { Each self.old.seats.items self.new.seats.items (λ old new. Told old.silent reply.now
-            (record { number = old.number; silent = old.silent; heard = (⟦<dyn Reporter as Reporter>⟧ old.reporter.vtable).heard old.reporter.value; count = (⟦<dyn Reporter as Reporter>⟧ old.reporter.vtable).number old.reporter.value; faults = (⟦<dyn Reporter as Reporter>⟧ old.reporter.vtable).faults old.reporter.value })
-            (record { number = new.number; silent = new.silent; heard = (⟦<dyn Reporter as Reporter>⟧ new.reporter.vtable).heard new.reporter.value; count = (⟦<dyn Reporter as Reporter>⟧ new.reporter.vtable).number new.reporter.value; faults = (⟦<dyn Reporter as Reporter>⟧ new.reporter.vtable).faults new.reporter.value })) }
+            (record {
+              number = old.number;
+              silent = old.silent;
+              heard = (⟦<dyn Reporter as Reporter>⟧ old.reporter.vtable).heard old.reporter.value;
+              count = (⟦<dyn Reporter as Reporter>⟧ old.reporter.vtable).number old.reporter.value;
+              faults = (⟦<dyn Reporter as Reporter>⟧ old.reporter.vtable).faults old.reporter.value;
+            })
+            (record {
+              number = new.number;
+              silent = new.silent;
+              heard = (⟦<dyn Reporter as Reporter>⟧ new.reporter.vtable).heard new.reporter.value;
+              count = (⟦<dyn Reporter as Reporter>⟧ new.reporter.vtable).number new.reporter.value;
+              faults = (⟦<dyn Reporter as Reporter>⟧ new.reporter.vtable).faults new.reporter.value;
+            })) }
     {
         tell_all(&mut self.seats, reply);
     }
@@ -136,8 +148,20 @@ fn place_of(seats: &[Seat], number: u32) -> usize
 // Each seat hears a reply.
 fn tell_all(seats: &mut [Seat], reply: &Reply)
     ensures { Each seats.old seats.new (λ old new. Told old.silent reply.now
-        (record { number = old.number; silent = old.silent; heard = (⟦<dyn Reporter as Reporter>⟧ old.reporter.vtable).heard old.reporter.value; count = (⟦<dyn Reporter as Reporter>⟧ old.reporter.vtable).number old.reporter.value; faults = (⟦<dyn Reporter as Reporter>⟧ old.reporter.vtable).faults old.reporter.value })
-        (record { number = new.number; silent = new.silent; heard = (⟦<dyn Reporter as Reporter>⟧ new.reporter.vtable).heard new.reporter.value; count = (⟦<dyn Reporter as Reporter>⟧ new.reporter.vtable).number new.reporter.value; faults = (⟦<dyn Reporter as Reporter>⟧ new.reporter.vtable).faults new.reporter.value })) }
+        (record {
+          number = old.number;
+          silent = old.silent;
+          heard = (⟦<dyn Reporter as Reporter>⟧ old.reporter.vtable).heard old.reporter.value;
+          count = (⟦<dyn Reporter as Reporter>⟧ old.reporter.vtable).number old.reporter.value;
+          faults = (⟦<dyn Reporter as Reporter>⟧ old.reporter.vtable).faults old.reporter.value;
+        })
+        (record {
+          number = new.number;
+          silent = new.silent;
+          heard = (⟦<dyn Reporter as Reporter>⟧ new.reporter.vtable).heard new.reporter.value;
+          count = (⟦<dyn Reporter as Reporter>⟧ new.reporter.vtable).number new.reporter.value;
+          faults = (⟦<dyn Reporter as Reporter>⟧ new.reporter.vtable).faults new.reporter.value;
+        })) }
 {
     'seats: for seat in seats.iter_mut() {
         seat.hear(reply);

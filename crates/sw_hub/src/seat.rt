@@ -20,8 +20,20 @@ impl Seat {
     /// The reporter hears a reply, unless it is silent; it is silent from then on where it fails.
     pub fn hear(&mut self, reply: &Reply)
         ensures { Told self.old.silent reply.now
-            (record { number = self.old.number; silent = self.old.silent; heard = (⟦<dyn Reporter as Reporter>⟧ self.old.reporter.vtable).heard self.old.reporter.value; count = (⟦<dyn Reporter as Reporter>⟧ self.old.reporter.vtable).number self.old.reporter.value; faults = (⟦<dyn Reporter as Reporter>⟧ self.old.reporter.vtable).faults self.old.reporter.value })
-            (record { number = self.new.number; silent = self.new.silent; heard = (⟦<dyn Reporter as Reporter>⟧ self.new.reporter.vtable).heard self.new.reporter.value; count = (⟦<dyn Reporter as Reporter>⟧ self.new.reporter.vtable).number self.new.reporter.value; faults = (⟦<dyn Reporter as Reporter>⟧ self.new.reporter.vtable).faults self.new.reporter.value }) }
+            (record {
+              number = self.old.number;
+              silent = self.old.silent;
+              heard = (⟦<dyn Reporter as Reporter>⟧ self.old.reporter.vtable).heard self.old.reporter.value;
+              count = (⟦<dyn Reporter as Reporter>⟧ self.old.reporter.vtable).number self.old.reporter.value;
+              faults = (⟦<dyn Reporter as Reporter>⟧ self.old.reporter.vtable).faults self.old.reporter.value;
+            })
+            (record {
+              number = self.new.number;
+              silent = self.new.silent;
+              heard = (⟦<dyn Reporter as Reporter>⟧ self.new.reporter.vtable).heard self.new.reporter.value;
+              count = (⟦<dyn Reporter as Reporter>⟧ self.new.reporter.vtable).number self.new.reporter.value;
+              faults = (⟦<dyn Reporter as Reporter>⟧ self.new.reporter.vtable).faults self.new.reporter.value;
+            }) }
     {
         if self.silent {
             return;
