@@ -3,7 +3,7 @@ use crate::{Argument, Expr, Namespaced, Statement};
 use sw_text::{List, Name, Span};
 
 /// What a member of a module is.
-#[derive(Clone, Copy)]
+#[derive(Clone, Copy, PartialEq, Eq)]
 pub enum Kind {
     Variable,
     Function,

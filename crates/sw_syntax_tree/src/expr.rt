@@ -71,7 +71,7 @@ pub struct Number {
     pub unit: Name,
 }
 
-#[derive(Clone, Copy)]
+#[derive(Clone, Copy, PartialEq, Eq)]
 pub enum Constant {
     True,
     False,
@@ -116,7 +116,7 @@ pub struct Argument {
 }
 
 /// A sign before an operand.
-#[derive(Clone, Copy)]
+#[derive(Clone, Copy, PartialEq, Eq)]
 pub enum Sign {
     Not,
     Plus,
@@ -125,7 +125,7 @@ pub enum Sign {
 }
 
 /// The operators between the operands of a chain.
-#[derive(Clone, Copy)]
+#[derive(Clone, Copy, PartialEq, Eq)]
 pub enum Operator {
     Or,
     And,
@@ -151,7 +151,7 @@ pub struct Link {
 }
 
 /// What stands between the items of a list.
-#[derive(Clone, Copy)]
+#[derive(Clone, Copy, PartialEq, Eq)]
 pub enum Separator {
     /// There are no items, or there is one in brackets.
     Undecided,
@@ -162,7 +162,7 @@ pub enum Separator {
 }
 
 /// What stands around a list.
-#[derive(Clone, Copy)]
+#[derive(Clone, Copy, PartialEq, Eq)]
 pub enum Around {
     Nothing,
     Parens,

@@ -5,6 +5,7 @@
 mod callable;
 mod expr;
 mod load;
+mod same;
 mod sheet;
 mod statement;
 mod text;

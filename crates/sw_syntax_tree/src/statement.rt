@@ -68,7 +68,7 @@ pub enum Statement {
 }
 
 /// What stands behind the value of an assignment.
-#[derive(Clone, Copy)]
+#[derive(Clone, Copy, PartialEq, Eq)]
 pub struct Flags {
     /// `!default` is written.
     pub default: bool,
@@ -147,7 +147,7 @@ pub struct Return {
 }
 
 /// How loud a message is.
-#[derive(Clone, Copy)]
+#[derive(Clone, Copy, PartialEq, Eq)]
 pub enum Level {
     Warn,
     Debug,
