@@ -1,5 +1,5 @@
 -- What is left of an argument without the white space around it.
-use Rattle.std.proofs.Common.{◌≡◌, ℕ, zero, suc, ◌+◌, ◌-◌, ◌≤◌, ◌<◌, Bool, true, false, not, ◌&&◌, ◌||◌, List, refl, sym, ◌∙◌, ap, subst, arith}
+use Rattle.std.proofs.Common.{◌≡◌, ℕ, zero, suc, ◌+◌, ◌-◌, ◌≤◌, ◌<◌, Bool, true, false, ◌&&◌, List, refl, sym, ◌∙◌, ap, arith}
 use Rattle.std.specs.Prelude.{◌==◌, nat_lt, if◌then◌else◌}
 use Rattle.std.proofs.lemmas.Bool.Decides.{nat_tests}
 use Rattle.sw_scan.specs.Bytes.{sign, byte, is_white}
@@ -8,7 +8,6 @@ use Rattle.sw_scan.proofs.Bounds.{if_true, if_false, and_left, and_right}
 use Rattle.sw_scan.proofs.PieceLemmas.{trimmed_more, trimmed_stop}
 use Rattle.sw_scan.proofs.Progress.{either}
 use Rattle.sw_selector.specs.Simples.{argument_end}
-use Rattle.sw_selector.proofs.Lexical.{equal}
 use Rattle.sw_selector.proofs.Kept.{Alike}
 use Rattle.sw_selector.proofs.Local.{white_slash}
 use Rattle.sw_selector.proofs.Raw.{Trimmed}

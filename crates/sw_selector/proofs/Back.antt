@@ -1,24 +1,22 @@
 -- What is written is read as what was read.
-use Rattle.std.proofs.Common.{◌≡◌, ℕ, zero, suc, ◌+◌, ◌-◌, ◌≤◌, ◌<◌, Bool, true, false, not, ◌&&◌, ◌||◌, cond, List, [], ◌∷◌, ◌++◌, length, refl, sym, ◌∙◌, ap, subst, arith, Option, Some, None, Ok, length-append, append_assoc}
-use Rattle.std.specs.Prelude.{◌==◌, nat_lt, codes, if◌then◌else◌}
+use Rattle.std.proofs.Common.{◌≡◌, ℕ, zero, suc, ◌+◌, ◌≤◌, ◌<◌, Bool, true, false, ◌||◌, cond, List, [], ◌∷◌, ◌++◌, length, refl, sym, ◌∙◌, ap, subst, arith, Ok, length-append, append_assoc}
+use Rattle.std.specs.Prelude.{◌==◌, codes}
 use Rattle.std.specs.List.{filter}
-use Rattle.std.specs.Str.{IsUtf8}
-use Rattle.std.proofs.lemmas.Bool.Decides.{nat_tests}
 use Rattle.sw_scan.specs.declared.runs.Class.TheVariants as classes
 use Rattle.sw_scan.specs.declared.signs.TheConstants.{END}
 use Rattle.sw_scan.specs.Bytes.{sign, byte, is_white}
-use Rattle.sw_scan.specs.Runs.{next, run_end}
+use Rattle.sw_scan.specs.Runs.{next}
 use Rattle.sw_scan.specs.Pieces.{is_cut}
 use Rattle.sw_scan.proofs.Bounds.{if_true, if_false, byte_past, run_step, run_stop}
 use Rattle.sw_selector.specs.declared.reader.TheConstants.{LEVELS, MOST_SELECTORS}
 use Rattle.sw_selector.specs.declared.selector.Part.{Part}
 use Rattle.sw_selector.specs.Attributes.{white}
 use Rattle.sw_selector.specs.Reading.{ends_complex, commas_end, selectors_of}
-use Rattle.sw_selector.specs.Writing.{parts_text, list_text, text_of}
+use Rattle.sw_selector.specs.Writing.{parts_text, list_text}
 use Rattle.sw_selector.specs.Grammar as g
 use Rattle.sw_selector.specs.Grammar.{Inner, IsComplex, Argument, Listed, Arguments, IsSelectorList}
 use Rattle.sw_selector.specs.Laws.{is_shown, IsReadAs, ReadsBack}
-use Rattle.sw_selector.proofs.Lexical.{equal, white_none}
+use Rattle.sw_selector.proofs.Lexical.{white_none}
 use Rattle.sw_selector.proofs.Others.{writes_others}
 use Rattle.sw_selector.proofs.Whole.{reads_lists}
 use Rattle.sw_selector.proofs.Stands.{Stands, stands_first, stands_byte, stands_left, stands_right}
@@ -92,7 +90,7 @@ module _ (bs : List ℕ) (w : Whole bs) (inner : Inner) where
 
 module _ (bs cs : List ℕ) (w : Whole bs) (inner inner_ : Inner)
     (within : (i j : ℕ) (list : List (List Part)) → is_cut bs i ≡ true → inner i j list → (q : ℕ) → Stands cs q (list_text true list)
-        → byte cs (q + length (list_text true list)) ≡ sign ")" → inner_ q (q + length (list_text true list)) list) where
+    → byte cs (q + length (list_text true list)) ≡ sign ")" → inner_ q (q + length (list_text true list)) list) where
   first_left : (x : ℕ) (complex : List Part) (list : List (List Part)) → Stands cs x (list_text true (complex ∷ list)) → Stands cs x (parts_text true complex)
   first_left x complex list st = stands_left cs x (parts_text true complex) (list_text false list) st
 
@@ -189,9 +187,11 @@ shown_again text cs w complex rest e each l =
     let all : Stands cs 0 (list_text true (complex ∷ rest)) = record { before = []; after = []; is = e ∙ append_none (list_text true (complex ∷ rest)); at = refl } in
     let start = list_start text cs w (Arguments text LEVELS) (Arguments cs LEVELS) (inner_again text cs w LEVELS) 0 complex rest each all in
     let size = ap length e in
-    ((reads_lists cs).list (complex ∷ rest)).1
-    (listed_again text cs w (Arguments text LEVELS) (Arguments cs LEVELS) (inner_again text cs w LEVELS) rest complex each 0 (white_none cs 0 start.0) all
-    (byte_past cs (0 + length (list_text true (complex ∷ rest))) (omega (arith, size))), l)
+    ((reads_lists cs).list (complex ∷ rest)).1 (
+      listed_again text cs w (Arguments text LEVELS) (Arguments cs LEVELS) (inner_again text cs w LEVELS) rest complex each 0 (white_none cs 0 start.0) all
+          (byte_past cs (0 + length (list_text true (complex ∷ rest))) (omega (arith, size))),
+      l,
+    )
 
 any_again : (text : List ℕ) (w : Whole text) (shown : List (List Part)) → Each text (Arguments text LEVELS) shown → length shown ≤ MOST_SELECTORS → IsReadAs (list_text true shown) shown
 any_again text w [] each l = refl

@@ -1,15 +1,15 @@
 -- The characters of names.
-use Rattle.std.proofs.Common.{◌≡◌, ℕ, zero, suc, ◌+◌, ◌-◌, ◌≤◌, ◌<◌, Bool, true, false, not, ◌&&◌, ◌||◌, ◌⊎◌, inl, inr, List, length, refl, sym, ◌∙◌, ap, subst, arith}
-use Rattle.std.specs.Prelude.{◌==◌, nat_lt}
+use Rattle.std.proofs.Common.{◌≡◌, ℕ, zero, suc, ◌+◌, ◌-◌, ◌≤◌, ◌<◌, Bool, true, false, not, ◌&&◌, ◌||◌, ◌⊎◌, inl, inr, List, refl, sym, ◌∙◌, ap, arith}
+use Rattle.std.specs.Prelude.{◌==◌}
 use Rattle.std.proofs.lemmas.Bool.Decides.{nat_tests}
 use Rattle.sw_scan.specs.declared.runs.Class.TheVariants as classes
 use Rattle.sw_scan.specs.declared.runs.TheConstants.{MOST_HEX_DIGITS}
 use Rattle.sw_scan.specs.declared.signs.TheConstants.{END, CARRIAGE_RETURN, LINE_FEED}
 use Rattle.sw_scan.specs.Bytes.{sign, byte, is_break, is_white, is_hex_digit, is_name_byte}
-use Rattle.sw_scan.specs.Runs.{hex_from, hex_end, white_end, escape_end, next, run_from, run_end}
-use Rattle.sw_scan.proofs.Bounds.{and_left, and_right, if_true, if_false, next_from, run_step, run_stop}
+use Rattle.sw_scan.specs.Runs.{hex_from, hex_end, white_end, escape_end, next}
+use Rattle.sw_scan.proofs.Bounds.{and_right, if_true, if_false}
 use Rattle.sw_scan.proofs.Progress.{either}
-use Rattle.sw_selector.specs.Names.{is_unclosed, unclosed_from}
+use Rattle.sw_selector.specs.Names.{is_unclosed}
 use Rattle.sw_selector.proofs.Lexical.{equal, split}
 
 abbrev pub on : List ℕ → ℕ → ℕ

@@ -1,15 +1,12 @@
 -- What is written of compounds and combinators is these, before what ends a complex selector.
-use Rattle.std.proofs.Common.{◌≡◌, ℕ, ◌+◌, ◌-◌, ◌≤◌, ◌<◌, Bool, true, false, not, ◌&&◌, ◌||◌, List, [], ◌∷◌, ◌++◌, length, refl, sym, ◌∙◌, ap, subst, arith, Option, Some, None, length-append, append_assoc}
-use Rattle.std.specs.Prelude.{◌==◌, nat_lt, codes, if◌then◌else◌}
-use Rattle.std.proofs.lemmas.Bool.Decides.{nat_tests}
+use Rattle.std.proofs.Common.{◌≡◌, ℕ, ◌+◌, ◌-◌, ◌≤◌, ◌<◌, true, false, List, [], ◌∷◌, ◌++◌, length, refl, sym, ◌∙◌, ap, subst, arith, append_assoc}
+use Rattle.std.specs.Prelude.{codes}
 use Rattle.sw_scan.specs.declared.runs.Class.TheVariants as classes
 use Rattle.sw_scan.specs.Bytes.{sign, byte, is_white}
 use Rattle.sw_scan.specs.Runs.{begins_name, next}
 use Rattle.sw_scan.specs.Pieces.{is_cut, piece}
-use Rattle.sw_scan.proofs.Bounds.{if_true, run_step, run_stop}
+use Rattle.sw_scan.proofs.Bounds.{if_true, run_step}
 use Rattle.sw_scan.proofs.Progress.{name_taken}
-use Rattle.sw_selector.specs.declared.selector.Combinator.{Combinator}
-use Rattle.sw_selector.specs.declared.selector.Combinator.TheVariants as combinators
 use Rattle.sw_selector.specs.declared.selector.Part.{Part}
 use Rattle.sw_selector.specs.declared.selector.Part.TheVariants as parts
 use Rattle.sw_selector.specs.Attributes.{white, name_end, prefix_end}
@@ -17,16 +14,15 @@ use Rattle.sw_selector.specs.Names.{name_text}
 use Rattle.sw_scan.specs.declared.brackets.Stops.TheVariants as stops
 use Rattle.sw_scan.specs.Brackets.{stop_at}
 use Rattle.sw_selector.specs.Simples.{colons_end, argument_text, with_argument, takes_selectors}
-use Rattle.sw_selector.specs.Reading.{combinator_of, ends_complex}
-use Rattle.sw_selector.specs.Writing.{combinator_text, part_text, parts_text, list_text}
+use Rattle.sw_selector.specs.Writing.{part_text, parts_text, list_text}
 use Rattle.sw_selector.specs.Grammar as g
 use Rattle.sw_selector.specs.Grammar.{Inner, Name, pseudo_name, Simple, Head, Simples, Compound, Joint, Compounds, Ends, IsComplex}
-use Rattle.sw_selector.proofs.Lexical.{equal, begins_simple, begins_part, in_or, not_white, white_none, prefix_forward, attribute_further, colons_forward, sign_not_end}
-use Rattle.sw_selector.proofs.Unrolled.{text_pseudo, text_parent, text_placeholder, text_combinator, text_named, text_closed}
-use Rattle.sw_selector.proofs.Stands.{Stands, stands_byte, stands_first, stands_left, stands_right, name_some, name_first}
-use Rattle.sw_selector.proofs.Cuts.{Whole, white_cut}
+use Rattle.sw_selector.proofs.Lexical.{equal, white_none, prefix_forward, attribute_further, colons_forward}
+use Rattle.sw_selector.proofs.Unrolled.{text_pseudo, text_parent, text_placeholder, text_named, text_closed}
+use Rattle.sw_selector.proofs.Stands.{Stands, stands_first, stands_left, name_some, name_first}
+use Rattle.sw_selector.proofs.Cuts.{Whole}
 use Rattle.sw_selector.proofs.Closed.{attribute_shut}
-use Rattle.sw_selector.proofs.Parts.{goes_behind, cut_before, piece_first, Back, HeadBack, class_back, id_back, placeholder_back, attribute_back, pseudo_back, type_back, any_back}
+use Rattle.sw_selector.proofs.Parts.{cut_before, piece_first, Back, HeadBack, class_back, id_back, placeholder_back, attribute_back, pseudo_back, type_back, any_back}
 use Rattle.sw_selector.proofs.Pseudos.{parent_back, selectors_back, argument_back}
 
 -- one white space
@@ -41,7 +37,7 @@ parts_append (x ∷ xs) ys = ap (λ (t : List ℕ). part_text x false ++ t) (par
 
 module _ (bs cs : List ℕ) (w : Whole bs) (inner inner_ : Inner)
     (within : (i j : ℕ) (list : List (List Part)) → is_cut bs i ≡ true → inner i j list → (q : ℕ) → Stands cs q (list_text true list)
-        → byte cs (q + length (list_text true list)) ≡ sign ")" → inner_ q (q + length (list_text true list)) list) where
+    → byte cs (q + length (list_text true list)) ≡ sign ")" → inner_ q (q + length (list_text true list)) list) where
   abbrev IsBack : Part → ℕ → List ℕ → Type 0
   IsBack part d text = Back bs cs w inner inner_ part d text
 

@@ -1,5 +1,5 @@
 -- Where a text may be cut: before it, and behind each byte of ASCII.
-use Rattle.std.proofs.Common.{◌≡◌, ℕ, zero, suc, ◌+◌, ◌-◌, ◌≤◌, ◌<◌, Bool, true, false, not, ◌&&◌, ◌||◌, List, length, get_or, refl, sym, ◌∙◌, ap, subst, arith}
+use Rattle.std.proofs.Common.{◌≡◌, ℕ, zero, suc, ◌+◌, ◌≤◌, ◌<◌, Bool, true, false, ◌&&◌, ◌||◌, List, length, get_or, refl, sym, ◌∙◌, ap, arith}
 use Rattle.std.specs.Prelude.{◌==◌, nat_lt, nat_le, slice_index, if◌then◌else◌}
 use Rattle.std.specs.Str.{IsUtf8, IsCharBoundary}
 use Rattle.std.proofs.lemmas.Bool.Decides.{nat_tests}
@@ -11,7 +11,7 @@ use Rattle.sw_scan.specs.declared.signs.TheConstants.{END}
 use Rattle.sw_scan.specs.Bytes.{sign, byte, continues, is_white}
 use Rattle.sw_scan.specs.Runs.{next, run_end}
 use Rattle.sw_scan.specs.Pieces.{is_cut}
-use Rattle.sw_scan.proofs.Bounds.{if_true, byte_past, run_step, run_stop, run_forward}
+use Rattle.sw_scan.proofs.Bounds.{byte_past, run_step, run_stop, run_forward}
 use Rattle.sw_selector.specs.Attributes.{white}
 use Rattle.sw_selector.proofs.Written.{byte_get}
 use Rattle.sw_selector.proofs.Stands.{cut_at}

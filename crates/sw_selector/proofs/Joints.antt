@@ -1,6 +1,6 @@
 -- What is written of compounds and combinators is these, before what ends a complex selector.
-use Rattle.std.proofs.Common.{◌≡◌, ℕ, ◌+◌, ◌-◌, ◌≤◌, ◌<◌, Bool, true, false, not, ◌&&◌, ◌||◌, List, [], ◌∷◌, ◌++◌, length, refl, sym, ◌∙◌, ap, subst, arith, Option, Some, None, length-append}
-use Rattle.std.specs.Prelude.{◌==◌, nat_lt, codes, if◌then◌else◌}
+use Rattle.std.proofs.Common.{◌≡◌, ℕ, ◌+◌, ◌<◌, Bool, true, false, ◌||◌, List, [], ◌∷◌, ◌++◌, length, refl, sym, ◌∙◌, ap, subst, arith, Some, None, length-append}
+use Rattle.std.specs.Prelude.{◌==◌}
 use Rattle.std.proofs.lemmas.Bool.Decides.{nat_tests}
 use Rattle.sw_scan.specs.declared.runs.Class.TheVariants as classes
 use Rattle.sw_scan.specs.Bytes.{sign, byte, is_white}
@@ -72,45 +72,66 @@ module _ (cs : List ℕ) (d : ℕ) where
   unfolding combinator_text byte
   sign_text_ combinators.Descendant e st = absurd (let wrong : None ≡ Some combinators.Descendant = e in cc)
   sign_text_ combinators.Child e st =
-      let n : length (combinator_text false combinators.Child) ≡ 3 = refl in
-      (stands_first cs d (combinator_text false combinators.Child) st (omega (arith, n)), (record {
-        here = stands_byte cs d (combinator_text false combinators.Child) st 1 (omega (arith, n));
-        space = ap (byte cs) (let z : (d + 1) + 1 ≡ d + 2 = omega arith in z) ∙ stands_byte cs d (combinator_text false combinators.Child) st 2 (omega (arith, n));
-      }, n))
+      let n : length (combinator_text false combinators.Child) ≡ 3 = refl in (
+        stands_first cs d (combinator_text false combinators.Child) st (omega (arith, n)),
+        (
+          record {
+            here = stands_byte cs d (combinator_text false combinators.Child) st 1 (omega (arith, n));
+            space = ap (byte cs) (let z : (d + 1) + 1 ≡ d + 2 = omega arith in z) ∙ stands_byte cs d (combinator_text false combinators.Child) st 2 (omega (arith, n));
+          },
+          n,
+        ),
+      )
   sign_text_ combinators.Next e st =
-      let n : length (combinator_text false combinators.Next) ≡ 3 = refl in
-      (stands_first cs d (combinator_text false combinators.Next) st (omega (arith, n)), (record {
-        here = stands_byte cs d (combinator_text false combinators.Next) st 1 (omega (arith, n));
-        space = ap (byte cs) (let z : (d + 1) + 1 ≡ d + 2 = omega arith in z) ∙ stands_byte cs d (combinator_text false combinators.Next) st 2 (omega (arith, n));
-      }, n))
+      let n : length (combinator_text false combinators.Next) ≡ 3 = refl in (
+        stands_first cs d (combinator_text false combinators.Next) st (omega (arith, n)),
+        (
+          record {
+            here = stands_byte cs d (combinator_text false combinators.Next) st 1 (omega (arith, n));
+            space = ap (byte cs) (let z : (d + 1) + 1 ≡ d + 2 = omega arith in z) ∙ stands_byte cs d (combinator_text false combinators.Next) st 2 (omega (arith, n));
+          },
+          n,
+        ),
+      )
   sign_text_ combinators.Subsequent e st =
-      let n : length (combinator_text false combinators.Subsequent) ≡ 3 = refl in
-      (stands_first cs d (combinator_text false combinators.Subsequent) st (omega (arith, n)), (record {
-        here = stands_byte cs d (combinator_text false combinators.Subsequent) st 1 (omega (arith, n));
-        space = ap (byte cs) (let z : (d + 1) + 1 ≡ d + 2 = omega arith in z) ∙ stands_byte cs d (combinator_text false combinators.Subsequent) st 2 (omega (arith, n));
-      }, n))
+      let n : length (combinator_text false combinators.Subsequent) ≡ 3 = refl in (
+        stands_first cs d (combinator_text false combinators.Subsequent) st (omega (arith, n)),
+        (
+          record {
+            here = stands_byte cs d (combinator_text false combinators.Subsequent) st 1 (omega (arith, n));
+            space = ap (byte cs) (let z : (d + 1) + 1 ≡ d + 2 = omega arith in z) ∙ stands_byte cs d (combinator_text false combinators.Subsequent) st 2 (omega (arith, n));
+          },
+          n,
+        ),
+      )
 
   front_text : (c : Combinator) → combinator_of (sign_of c) ≡ Some c → Stands cs d (combinator_text true c) → Signed cs d 0 c × (length (combinator_text true c) ≡ 2)
   unfolding combinator_text byte
   front_text combinators.Descendant e st = absurd (let wrong : None ≡ Some combinators.Descendant = e in cc)
   front_text combinators.Child e st =
-      let n : length (combinator_text true combinators.Child) ≡ 2 = refl in
-      (record {
-        here = stands_byte cs d (combinator_text true combinators.Child) st 0 (omega (arith, n));
-        space = ap (byte cs) (let z : (d + 0) + 1 ≡ d + 1 = omega arith in z) ∙ stands_byte cs d (combinator_text true combinators.Child) st 1 (omega (arith, n));
-      }, n)
+      let n : length (combinator_text true combinators.Child) ≡ 2 = refl in (
+        record {
+          here = stands_byte cs d (combinator_text true combinators.Child) st 0 (omega (arith, n));
+          space = ap (byte cs) (let z : (d + 0) + 1 ≡ d + 1 = omega arith in z) ∙ stands_byte cs d (combinator_text true combinators.Child) st 1 (omega (arith, n));
+        },
+        n,
+      )
   front_text combinators.Next e st =
-      let n : length (combinator_text true combinators.Next) ≡ 2 = refl in
-      (record {
-        here = stands_byte cs d (combinator_text true combinators.Next) st 0 (omega (arith, n));
-        space = ap (byte cs) (let z : (d + 0) + 1 ≡ d + 1 = omega arith in z) ∙ stands_byte cs d (combinator_text true combinators.Next) st 1 (omega (arith, n));
-      }, n)
+      let n : length (combinator_text true combinators.Next) ≡ 2 = refl in (
+        record {
+          here = stands_byte cs d (combinator_text true combinators.Next) st 0 (omega (arith, n));
+          space = ap (byte cs) (let z : (d + 0) + 1 ≡ d + 1 = omega arith in z) ∙ stands_byte cs d (combinator_text true combinators.Next) st 1 (omega (arith, n));
+        },
+        n,
+      )
   front_text combinators.Subsequent e st =
-      let n : length (combinator_text true combinators.Subsequent) ≡ 2 = refl in
-      (record {
-        here = stands_byte cs d (combinator_text true combinators.Subsequent) st 0 (omega (arith, n));
-        space = ap (byte cs) (let z : (d + 0) + 1 ≡ d + 1 = omega arith in z) ∙ stands_byte cs d (combinator_text true combinators.Subsequent) st 1 (omega (arith, n));
-      }, n)
+      let n : length (combinator_text true combinators.Subsequent) ≡ 2 = refl in (
+        record {
+          here = stands_byte cs d (combinator_text true combinators.Subsequent) st 0 (omega (arith, n));
+          space = ap (byte cs) (let z : (d + 0) + 1 ≡ d + 1 = omega arith in z) ∙ stands_byte cs d (combinator_text true combinators.Subsequent) st 1 (omega (arith, n));
+        },
+        n,
+      )
 
   space_text : Stands cs d (combinator_text false combinators.Descendant) → (byte cs d ≡ sign " ") × (length (combinator_text false combinators.Descendant) ≡ 1)
   unfolding combinator_text byte
@@ -155,7 +176,7 @@ joint_cut bs w k l c (g.Joint.spaced lt) = go (is_white (byte bs k)) refl
 
 module _ (bs cs : List ℕ) (w : Whole bs) (inner inner_ : Inner)
     (within : (i j : ℕ) (list : List (List Part)) → is_cut bs i ≡ true → inner i j list → (q : ℕ) → Stands cs q (list_text true list)
-        → byte cs (q + length (list_text true list)) ≡ sign ")" → inner_ q (q + length (list_text true list)) list) where
+    → byte cs (q + length (list_text true list)) ≡ sign ")" → inner_ q (q + length (list_text true list)) list) where
   -- how a part stands in front doesn't matter, but for combinators
   simple_flag : (i j : ℕ) (part : Part) → Simple inner bs i j part → (b : Bool) → part_text part b ≡ part_text part false
   simple_flag i j part (g.Simple.class s n) b = text_named b _ ∙ sym (text_named false _)

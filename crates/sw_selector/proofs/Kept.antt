@@ -6,8 +6,8 @@ use Rattle.sw_scan.specs.declared.runs.Class.TheVariants as classes
 use Rattle.sw_scan.specs.declared.runs.TheConstants.{MOST_HEX_DIGITS}
 use Rattle.sw_scan.specs.declared.signs.TheConstants.{END, CARRIAGE_RETURN, LINE_FEED}
 use Rattle.sw_scan.specs.Bytes.{sign, byte, is_break, is_white, is_hex_digit, is_name_byte}
-use Rattle.sw_scan.specs.Runs.{hex_from, hex_end, white_end, escape_end, next, run_from, run_end}
-use Rattle.sw_scan.proofs.Bounds.{and_left, and_right, if_true, if_false, next_from, run_step, run_stop}
+use Rattle.sw_scan.specs.Runs.{hex_from, hex_end, run_from, run_end}
+use Rattle.sw_scan.proofs.Bounds.{and_left, if_true, if_false, next_from, run_step, run_stop}
 use Rattle.sw_scan.proofs.Progress.{either}
 use Rattle.sw_selector.specs.Names.{is_unclosed, unclosed_from}
 use Rattle.sw_selector.proofs.Lexical.{equal, split}

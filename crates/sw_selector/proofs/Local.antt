@@ -8,9 +8,9 @@ use Rattle.sw_scan.specs.Bytes.{sign, byte, is_white, is_letter, is_name_byte, i
 use Rattle.sw_scan.specs.Runs.{next, run_end, begins_name}
 use Rattle.sw_scan.specs.Brackets.{string_end}
 use Rattle.sw_scan.proofs.Bounds.{if_true, if_false, and_left, and_right, run_forward}
-use Rattle.sw_scan.proofs.Progress.{either, name_taken, run_on, run_stops}
-use Rattle.sw_selector.specs.Attributes.{white, name_end, word_end, prefix_end, is_operator_sign, operator_end, value_end, bracket_end, modifier_end, valued_end, operated_end, matched_end, named_end, attribute_end}
-use Rattle.sw_selector.proofs.Lexical.{equal, split, begins_word, name_first, name_none, name_further, white_none, white_forward, name_forward, bracket_ahead, modifier_ahead, string_ahead, value_ahead, valued_ahead, operated_ahead, operator_ahead, matched_ahead}
+use Rattle.sw_scan.proofs.Progress.{run_stops}
+use Rattle.sw_selector.specs.Attributes.{white, name_end, word_end, prefix_end, is_operator_sign, operator_end, value_end, bracket_end, modifier_end, valued_end, operated_end, matched_end, named_end}
+use Rattle.sw_selector.proofs.Lexical.{split, begins_word, name_none, white_none, white_forward, name_forward, value_ahead, operator_ahead}
 use Rattle.sw_selector.proofs.Begins.{begins_kept}
 use Rattle.sw_selector.proofs.Kept.{Alike}
 use Rattle.sw_selector.proofs.Written.{no_name}
@@ -174,9 +174,10 @@ module _ (bs cs : List ℕ) (i d n : ℕ) (a : Alike bs cs i d n) where
       let here : modifier_end bs (white bs p) ≡ Some r = ap (λ (z : ℕ). modifier_end bs (white bs z)) (sym (some_is f)) ∙ e in
       let is = modifier_is (white bs p) r here in
       let lt = is.0 in
-      let fw = white_forward bs p in
-      (ap (modifier_end cs) (white_at p l (omega (arith, lt, room))) ∙ modifier_at (white bs p) r here (omega (arith, fw, l)) room,
-      (omega (arith, lt, fw), behind_white bs p (no_slash (byte bs (white bs p)) is.1)))
+      let fw = white_forward bs p in (
+        ap (modifier_end cs) (white_at p l (omega (arith, lt, room))) ∙ modifier_at (white bs p) r here (omega (arith, fw, l)) room,
+        (omega (arith, lt, fw), behind_white bs p (no_slash (byte bs (white bs p)) is.1)),
+      )
 
   operated_at : (p r : ℕ) → operated_end bs (Some p) ≡ Some r → i ≤ p → r ≤ i + n → (operated_end cs (Some (at p)) ≡ Some (at r)) × (p < r)
   operated_at p r e l room = go (value_end bs (white bs p)) refl e
@@ -187,27 +188,32 @@ module _ (bs cs : List ℕ) (i d n : ℕ) (a : Alike bs cs i d n) where
           let fw = white_forward bs p in
           let ahead = value_ahead bs (white bs p) v f in
           let rest = valued_at (Some v) v r refl g (omega (arith, fw, ahead, l)) room in
-          let lt = rest.1.0 in
-          (ap (λ (x : ℕ). valued_end cs (value_end cs x)) (white_at p l (omega (arith, lt, ahead, room)))
-          ∙ ap (valued_end cs) (value_at (white bs p) v f (omega (arith, fw, l)) (omega (arith, lt, room)) rest.1.1) ∙ rest.0,
-          omega (arith, lt, ahead, fw))
+          let lt = rest.1.0 in (
+            ap (λ (x : ℕ). valued_end cs (value_end cs x)) (white_at p l (omega (arith, lt, ahead, room)))
+                ∙ ap (valued_end cs) (value_at (white bs p) v f (omega (arith, fw, l)) (omega (arith, lt, room)) rest.1.1) ∙ rest.0,
+            omega (arith, lt, ahead, fw),
+          )
 
   operator_at : (p r : ℕ) → operator_end bs p ≡ Some r → i ≤ p → r ≤ i + n → (operator_end cs (at p) ≡ Some (at r)) × (p < r)
   unfolding operator_end
   operator_at p r e l room =
       split (byte bs p == sign "=") (Some (p + 1)) _ (Some r)
-      (λ t f. let here = some_is f in
-      (if_true (byte cs (at p) == sign "=") (Some (at p + 1)) _ (ap (λ (b : ℕ). b == sign "=") (same p l (omega (arith, here, room))) ∙ t)
-      ∙ ap Some (let z : at p + 1 ≡ at r = omega (arith, here, l) in z), omega (arith, here)))
+      (λ t f. let here = some_is f in (
+        if_true (byte cs (at p) == sign "=") (Some (at p + 1)) _ (ap (λ (b : ℕ). b == sign "=") (same p l (omega (arith, here, room))) ∙ t)
+            ∙ ap Some (let z : at p + 1 ≡ at r = omega (arith, here, l) in z),
+        omega (arith, here),
+      ))
       (λ t f. split (is_operator_sign (byte bs p) && (byte bs (p + 1) == sign "=")) (Some (p + 2)) None (Some r)
       (λ u g. let here = some_is g in
       let first = same p l (omega (arith, here, room)) in
-      let second = same_on p 1 l (omega (arith, here, room)) in
-      (if_false (byte cs (at p) == sign "=") (Some (at p + 1)) _ (ap (λ (b : ℕ). b == sign "=") first ∙ t)
-      ∙ if_true (is_operator_sign (byte cs (at p)) && (byte cs (at p + 1) == sign "=")) (Some (at p + 2)) None
-      (both (is_operator_sign (byte cs (at p))) _ (ap is_operator_sign first ∙ and_left (is_operator_sign (byte bs p)) _ u)
-      (ap (λ (b : ℕ). b == sign "=") second ∙ and_right (is_operator_sign (byte bs p)) _ u))
-      ∙ ap Some (let z : at p + 2 ≡ at r = omega (arith, here, l) in z), omega (arith, here)))
+      let second = same_on p 1 l (omega (arith, here, room)) in (
+        if_false (byte cs (at p) == sign "=") (Some (at p + 1)) _ (ap (λ (b : ℕ). b == sign "=") first ∙ t)
+            ∙ if_true (is_operator_sign (byte cs (at p)) && (byte cs (at p + 1) == sign "=")) (Some (at p + 2)) None
+            (both (is_operator_sign (byte cs (at p))) _ (ap is_operator_sign first ∙ and_left (is_operator_sign (byte bs p)) _ u)
+            (ap (λ (b : ℕ). b == sign "=") second ∙ and_right (is_operator_sign (byte bs p)) _ u))
+            ∙ ap Some (let z : at p + 2 ≡ at r = omega (arith, here, l) in z),
+        omega (arith, here),
+      ))
       (λ u g. absurd (cc)) f) e
 
   operator_slash : (p r : ℕ) → operator_end bs p ≡ Some r → (byte bs p == sign "\\") ≡ false
@@ -227,9 +233,11 @@ module _ (bs cs : List ℕ) (i d n : ℕ) (a : Alike bs cs i d n) where
   unfolding matched_end
   matched_at p r e l room =
       split (byte bs p == sign "]") (Some (p + 1)) _ (Some r)
-      (λ t f. let here = some_is f in
-      (if_true (byte cs (at p) == sign "]") (Some (at p + 1)) _ (ap (λ (b : ℕ). b == sign "]") (same p l (omega (arith, here, room))) ∙ t)
-      ∙ ap Some (let z : at p + 1 ≡ at r = omega (arith, here, l) in z), (omega (arith, here), bracket (byte bs p) t)))
+      (λ t f. let here = some_is f in (
+        if_true (byte cs (at p) == sign "]") (Some (at p + 1)) _ (ap (λ (b : ℕ). b == sign "]") (same p l (omega (arith, here, room))) ∙ t)
+            ∙ ap Some (let z : at p + 1 ≡ at r = omega (arith, here, l) in z),
+        (omega (arith, here), bracket (byte bs p) t),
+      ))
       (λ t f. go t (operator_end bs p) refl f) e
     where
       bracket : (b : ℕ) → (b == sign "]") ≡ true → (b == sign "\\") ≡ false
@@ -242,9 +250,11 @@ module _ (bs cs : List ℕ) (i d n : ℕ) (a : Alike bs cs i d n) where
           let ahead = operator_ahead bs p k f in
           let rest = operated_at k r g (omega (arith, ahead, l)) room in
           let lt = rest.1 in
-          let first = operator_at p k f l (omega (arith, lt, room)) in
-          (if_false (byte cs (at p) == sign "]") (Some (at p + 1)) _ (ap (λ (b : ℕ). b == sign "]") (same p l (omega (arith, ahead, lt, room))) ∙ t)
-          ∙ ap (operated_end cs) first.0 ∙ rest.0, (omega (arith, ahead, lt), operator_slash p k f))
+          let first = operator_at p k f l (omega (arith, lt, room)) in (
+            if_false (byte cs (at p) == sign "]") (Some (at p + 1)) _ (ap (λ (b : ℕ). b == sign "]") (same p l (omega (arith, ahead, lt, room))) ∙ t)
+                ∙ ap (operated_end cs) first.0 ∙ rest.0,
+            (omega (arith, ahead, lt), operator_slash p k f),
+          )
 
   pub named_at : (p r : ℕ) → begins_name bs p ≡ true → matched_end bs (white bs (name_end bs p)) ≡ Some r → i ≤ p → r ≤ i + n
       → (named_end cs (at p) ≡ Some (at r)) × ((name_end bs p < r) × ((byte bs (name_end bs p) == sign "\\") ≡ false))
@@ -253,11 +263,12 @@ module _ (bs cs : List ℕ) (i d n : ℕ) (a : Alike bs cs i d n) where
       let on = name_forward bs p in
       let rest = matched_at (white bs (name_end bs p)) r e (omega (arith, fw, on, l)) room in
       let lt = rest.1.0 in
-      let slash = behind_white bs (name_end bs p) rest.1.1 in
-      (if_true (begins_name cs (at p)) _ None (begins_at p l (omega (arith, lt, fw, room)) begins)
-      ∙ ap (λ (x : ℕ). matched_end cs (white cs x)) (name_at p l (omega (arith, lt, fw, room)) slash)
-      ∙ ap (matched_end cs) (white_at (name_end bs p) (omega (arith, on, l)) (omega (arith, lt, room))) ∙ rest.0,
-      (omega (arith, lt, fw), slash))
+      let slash = behind_white bs (name_end bs p) rest.1.1 in (
+        if_true (begins_name cs (at p)) _ None (begins_at p l (omega (arith, lt, fw, room)) begins)
+            ∙ ap (λ (x : ℕ). matched_end cs (white cs x)) (name_at p l (omega (arith, lt, fw, room)) slash)
+            ∙ ap (matched_end cs) (white_at (name_end bs p) (omega (arith, on, l)) (omega (arith, lt, room))) ∙ rest.0,
+        (omega (arith, lt, fw), slash),
+      )
 
   star_no_word : (b : ℕ) → (b == sign "*") ≡ true → begins_word b ≡ false
   star_no_word b t = grind (arith, nat_tests)

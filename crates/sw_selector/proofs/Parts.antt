@@ -1,27 +1,26 @@
 -- What is written of a simple selector is that selector, before what may stand behind it.
-use Rattle.std.proofs.Common.{◌≡◌, ℕ, ◌+◌, ◌-◌, ◌≤◌, ◌<◌, Bool, true, false, not, ◌&&◌, ◌||◌, List, [], ◌∷◌, ◌++◌, length, refl, sym, ◌∙◌, ap, subst, arith, Option, Some, None, length-append}
-use Rattle.std.specs.Prelude.{◌==◌, nat_lt, nat_le, codes, slice_range, if◌then◌else◌}
+use Rattle.std.proofs.Common.{◌≡◌, ℕ, ◌+◌, ◌-◌, ◌≤◌, ◌<◌, Bool, true, false, ◌&&◌, ◌||◌, List, length, refl, sym, ◌∙◌, ap, subst, arith, Some}
+use Rattle.std.specs.Prelude.{◌==◌, nat_lt, nat_le, slice_range, if◌then◌else◌}
 use Rattle.std.proofs.lemmas.Bool.Decides.{nat_tests}
 use Rattle.sw_scan.specs.declared.runs.Class.TheVariants as classes
-use Rattle.sw_scan.specs.Bytes.{sign, byte, continues, is_name_byte}
+use Rattle.sw_scan.specs.Bytes.{sign, byte, continues}
 use Rattle.sw_scan.specs.Runs.{begins_name, next}
 use Rattle.sw_scan.specs.Pieces.{is_cut, piece}
 use Rattle.sw_scan.proofs.Bounds.{if_true, if_false, and_left}
 use Rattle.sw_scan.proofs.Progress.{name_taken}
 use Rattle.sw_selector.specs.declared.selector.Part.{Part}
 use Rattle.sw_selector.specs.declared.selector.Part.TheVariants as parts
-use Rattle.sw_selector.specs.Attributes.{name_end, word_end, prefix_end, attribute_end}
-use Rattle.sw_selector.specs.Names.{name_text, unclosed_from, ends_unclosed}
+use Rattle.sw_selector.specs.Attributes.{name_end, prefix_end, attribute_end}
+use Rattle.sw_selector.specs.Names.{name_text}
 use Rattle.sw_selector.specs.Simples.{colons_end}
 use Rattle.sw_selector.specs.Laws.{parts_names}
 use Rattle.sw_selector.specs.Reading.{ends_complex}
 use Rattle.sw_selector.specs.Grammar as g
 use Rattle.sw_selector.specs.Grammar.{Inner, Name, Simple, Head, pseudo_name}
-use Rattle.sw_selector.proofs.Lexical.{equal, begins_simple, stands, name_further, attribute_further, prefix_forward, name_forward}
-use Rattle.sw_selector.proofs.Unclosed.{unclosed_stop}
-use Rattle.sw_selector.proofs.Kept.{Alike, fewer}
-use Rattle.sw_selector.proofs.Written.{byte_range, length_range, parted}
-use Rattle.sw_selector.proofs.Stands.{Stands, stands_byte, stands_first, stands_left, stands_right, piece_is, piece_again, cut_at, cut_byte, parts_cut, name_some, name_first, name_alike, name_end_again, name_begins_again, name_first_again, name_text_again}
+use Rattle.sw_selector.proofs.Lexical.{equal, begins_simple, stands, name_further, attribute_further, prefix_forward}
+use Rattle.sw_selector.proofs.Kept.{Alike}
+use Rattle.sw_selector.proofs.Written.{byte_range, length_range}
+use Rattle.sw_selector.proofs.Stands.{Stands, stands_byte, piece_is, piece_again, cut_at, cut_byte, parts_cut, name_alike, name_end_again, name_begins_again, name_first_again, name_text_again}
 use Rattle.sw_selector.proofs.Cuts.{Whole}
 use Rattle.sw_selector.proofs.Local.{prefix_at, prefix_stays, word_name}
 use Rattle.sw_selector.proofs.Closed.{attribute_again, attribute_shut}

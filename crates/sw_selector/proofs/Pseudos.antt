@@ -1,13 +1,13 @@
 -- What is written of `&` and of a pseudo with an argument is that part, before what may stand behind it.
-use Rattle.std.proofs.Common.{◌≡◌, ℕ, zero, suc, ◌+◌, ◌-◌, ◌≤◌, ◌<◌, Bool, true, false, not, ◌&&◌, ◌||◌, List, [], ◌∷◌, ◌++◌, length, take, drop, refl, sym, ◌∙◌, ap, subst, arith, Option, Some, None, length-append}
-use Rattle.std.specs.Prelude.{◌==◌, nat_lt, nat_le, codes, slice_range, if◌then◌else◌}
+use Rattle.std.proofs.Common.{◌≡◌, ℕ, zero, suc, ◌+◌, ◌-◌, ◌≤◌, ◌<◌, Bool, true, false, ◌&&◌, List, [], ◌++◌, length, take, drop, refl, sym, ◌∙◌, ap, subst, arith, Some, length-append}
+use Rattle.std.specs.Prelude.{nat_lt, nat_le, codes, slice_range, if◌then◌else◌}
 use Rattle.std.proofs.lemmas.Bool.Decides.{nat_tests}
 use Rattle.sw_scan.specs.declared.brackets.Stops.TheVariants as stops
 use Rattle.sw_scan.specs.declared.runs.Class.TheVariants as classes
 use Rattle.sw_scan.specs.Bytes.{sign, byte, continues, is_white}
 use Rattle.sw_scan.specs.Runs.{begins_name, next}
 use Rattle.sw_scan.specs.Pieces.{is_cut, piece}
-use Rattle.sw_scan.specs.Brackets.{stops_by, stopped, scan_step, scan_by, at_place, stop_at, stop_behind}
+use Rattle.sw_scan.specs.Brackets.{stopped, scan_step, scan_by, stop_at, stop_behind}
 use Rattle.sw_scan.proofs.Bounds.{if_true, if_false, run_step, run_stop, run_forward}
 use Rattle.sw_scan.proofs.StopLemmas.{stops_by_step}
 use Rattle.sw_selector.specs.declared.selector.Part.{Part}
@@ -19,14 +19,13 @@ use Rattle.sw_selector.specs.Laws.{parts_names}
 use Rattle.sw_selector.specs.Writing.{list_text}
 use Rattle.sw_selector.specs.Grammar as g
 use Rattle.sw_selector.specs.Grammar.{Inner, Name, Simple, Head, pseudo_name}
-use Rattle.sw_selector.proofs.Lexical.{equal, white_none, stands}
+use Rattle.sw_selector.proofs.Lexical.{white_none}
 use Rattle.sw_selector.proofs.Unclosed.{unclosed_stop}
 use Rattle.sw_selector.proofs.Kept.{Alike}
 use Rattle.sw_selector.proofs.Written.{parted}
-use Rattle.sw_selector.proofs.Stands.{Stands, stands_first, stands_left, stands_right, cut_at, cut_byte, parts_cut, name_end_again, name_text_again}
+use Rattle.sw_selector.proofs.Stands.{Stands, stands_first, stands_left, stands_right, name_end_again, name_text_again}
 use Rattle.sw_selector.proofs.Cuts.{Whole, white_cut}
 use Rattle.sw_selector.proofs.Local.{white_ends}
-use Rattle.sw_selector.proofs.Scans.{stop_step, stop_on}
 use Rattle.sw_selector.proofs.Raw.{Trimmed, white_step, white_byte, scan_again}
 use Rattle.sw_selector.proofs.Arguments.{trimmed, end_again}
 use Rattle.sw_selector.proofs.Parts.{goes_behind, behind_parts, cut_before, Again, pseudo_again, piece_alike, piece_length, piece_first, piece_same, Back, HeadBack}

@@ -1,22 +1,19 @@
 -- An argument without the white space around it is read again as itself.
-use Rattle.std.proofs.Common.{◌≡◌, ℕ, zero, suc, ◌+◌, ◌-◌, ◌≤◌, ◌<◌, Bool, true, false, not, ◌&&◌, ◌||◌, ◌⊎◌, inl, inr, List, [], ◌∷◌, ◌++◌, length, refl, sym, ◌∙◌, ap, subst, arith, Option, Some, None}
-use Rattle.std.specs.Prelude.{◌==◌, nat_lt, nat_le, if◌then◌else◌}
+use Rattle.std.proofs.Common.{◌≡◌, ℕ, zero, suc, ◌+◌, ◌-◌, ◌≤◌, ◌<◌, Bool, true, false, not, ◌&&◌, ◌||◌, inl, inr, List, [], ◌∷◌, length, refl, sym, ◌∙◌, ap, arith, Some, None}
+use Rattle.std.specs.Prelude.{◌==◌, nat_lt, nat_le}
 use Rattle.std.proofs.lemmas.Bool.Decides.{nat_tests}
 use Rattle.sw_scan.specs.declared.brackets.Stops.TheVariants as stops
 use Rattle.sw_scan.specs.declared.signs.TheConstants.{END, CARRIAGE_RETURN, LINE_FEED}
 use Rattle.sw_scan.specs.Bytes.{sign, byte, is_break, is_white, is_hex_digit, is_quote}
 use Rattle.sw_scan.specs.Runs.{escape_end, hex_end}
-use Rattle.sw_scan.specs.Pieces.{trimmed_from, trimmed_end}
 use Rattle.sw_scan.specs.Brackets.{stops_by, closing, is_closing, over, string_end, Scan, at_place, scan_step, stopped, stop_behind}
-use Rattle.sw_scan.proofs.Bounds.{if_true, if_false, and_left, and_right}
-use Rattle.sw_selector.specs.Simples.{argument_end}
-use Rattle.sw_selector.proofs.Lexical.{equal, split}
-use Rattle.sw_selector.proofs.Characters.{Character, Known, known, is_pair, slash_next, character_next, hex_some, hex_last, hex_not_white, name_not_slash, escape_none}
+use Rattle.sw_scan.proofs.Bounds.{if_false, and_left}
+use Rattle.sw_selector.proofs.Lexical.{equal}
+use Rattle.sw_selector.proofs.Characters.{Character, Known, known, slash_next, character_next, hex_some, hex_last, hex_not_white, name_not_slash}
 use Rattle.sw_selector.proofs.Kept.{Alike, fewer, later, character_kept, hex_end_alike}
 use Rattle.sw_selector.proofs.Begins.{escape_goes}
-use Rattle.sw_selector.proofs.Runs.{escape_steps}
 use Rattle.sw_selector.proofs.Local.{at, same, same_on, string_at}
-use Rattle.sw_selector.proofs.Scans.{NO_BRACKET, over_goes, string_is, step_told, step_forward, stop_forward, stop_step, stop_found, stop_on, over_plain, over_escape, over_broken, step_again}
+use Rattle.sw_selector.proofs.Scans.{NO_BRACKET, over_goes, string_is, step_forward, stop_forward, stop_step, stop_found, stop_on, over_plain, over_escape, over_broken, step_again}
 
 -- what is left of a text up to k without the white space behind it: it ends at e
 pub record Trimmed (bs : List ℕ) (i e k : ℕ) : Type 0 where

@@ -1,17 +1,17 @@
 -- Steps of a scan for the end of an argument, in two texts.
-use Rattle.std.proofs.Common.{◌≡◌, ℕ, zero, suc, ◌+◌, ◌-◌, ◌≤◌, ◌<◌, Bool, true, false, not, ◌&&◌, ◌||◌, List, [], ◌∷◌, ◌++◌, length, take, refl, sym, ◌∙◌, ap, subst, arith, Option, Some, None}
+use Rattle.std.proofs.Common.{◌≡◌, ℕ, zero, suc, ◌+◌, ◌-◌, ◌≤◌, ◌<◌, true, false, List, [], ◌∷◌, ◌++◌, length, take, refl, sym, ◌∙◌, ap, subst, arith, Option, Some, None}
 use Rattle.std.specs.Prelude.{◌==◌, nat_lt, if◌then◌else◌}
 use Rattle.std.proofs.lemmas.Bool.Decides.{nat_tests}
 use Rattle.sw_scan.specs.declared.brackets.Stops.TheVariants as stops
 use Rattle.sw_scan.specs.declared.runs.Class.TheVariants as classes
 use Rattle.sw_scan.specs.declared.signs.TheConstants.{END}
-use Rattle.sw_scan.specs.Bytes.{sign, byte, is_white, is_quote}
+use Rattle.sw_scan.specs.Bytes.{sign, byte, is_quote}
 use Rattle.sw_scan.specs.Runs.{escape_end, run_end}
-use Rattle.sw_scan.specs.Brackets.{stops_by, closing, is_closing, innermost, over, string_end, Scan, at_place, past_string, scan_step, stopped, scan_by, scan_from, stop_behind}
-use Rattle.sw_scan.proofs.Bounds.{if_true, if_false, and_left, and_right, run_forward}
+use Rattle.sw_scan.specs.Brackets.{closing, is_closing, innermost, over, string_end, Scan, at_place, past_string, scan_step, stopped, scan_by, scan_from, stop_behind}
+use Rattle.sw_scan.proofs.Bounds.{if_true, if_false, run_forward}
 use Rattle.sw_scan.proofs.Progress.{either}
 use Rattle.sw_scan.proofs.StopLemmas.{stops_by_step}
-use Rattle.sw_selector.proofs.Lexical.{equal, split}
+use Rattle.sw_selector.proofs.Lexical.{split}
 use Rattle.sw_selector.proofs.Characters.{escape_none}
 use Rattle.sw_selector.proofs.Local.{some_is}
 
@@ -27,9 +27,9 @@ module _ (bs closers : List ℕ) (p : ℕ) (P : Scan → Type 0)
     (of_string : (j : ℕ) → (byte bs p == END) ≡ false → is_quote (byte bs p) ≡ true → string_end bs (byte bs p) p ≡ Some j → P (at_place closers j))
     (of_open : (byte bs p == END) ≡ false → is_quote (byte bs p) ≡ false → nat_lt NO_BRACKET (closing (byte bs p)) ≡ true → P (at_place (closers ++ closing (byte bs p) ∷ []) (p + 1)))
     (of_close : (byte bs p == END) ≡ false → is_quote (byte bs p) ≡ false → nat_lt NO_BRACKET (closing (byte bs p)) ≡ false → is_closing (byte bs p) ≡ true
-        → (innermost closers == byte bs p) ≡ true → P (at_place (take (length closers - 1) closers) (p + 1)))
+    → (innermost closers == byte bs p) ≡ true → P (at_place (take (length closers - 1) closers) (p + 1)))
     (of_other : (byte bs p == END) ≡ false → is_quote (byte bs p) ≡ false → nat_lt NO_BRACKET (closing (byte bs p)) ≡ false → is_closing (byte bs p) ≡ false
-        → P (at_place closers (over bs p))) where
+    → P (at_place closers (over bs p))) where
   none_told : {scan : Scan} → None ≡ Some scan → P scan
   none_told e = absurd (cc)
 

@@ -1,11 +1,11 @@
 -- Texts that stand in another, and names in them.
-use Rattle.std.proofs.Common.{◌≡◌, ℕ, ◌+◌, ◌-◌, ◌≤◌, ◌<◌, Bool, true, false, not, ◌&&◌, ◌||◌, List, [], ◌∷◌, ◌++◌, length, take, drop, refl, sym, ◌∙◌, ap, subst, arith, append_assoc, length-append}
+use Rattle.std.proofs.Common.{◌≡◌, ℕ, ◌+◌, ◌-◌, ◌≤◌, ◌<◌, Bool, true, false, not, ◌&&◌, List, [], ◌∷◌, ◌++◌, length, take, drop, refl, sym, ◌∙◌, ap, subst, arith, append_assoc, length-append}
 use Rattle.std.specs.Prelude.{◌==◌, nat_le, slice_range, codes, if◌then◌else◌}
 use Rattle.std.proofs.lemmas.Bool.Decides.{nat_tests}
 use Rattle.std.proofs.Math.Seq.{drop-append_seam, take-append_seam}
 use Rattle.sw_scan.specs.declared.runs.Class.TheVariants as classes
 use Rattle.sw_scan.specs.declared.signs.TheConstants.{LINE_FEED}
-use Rattle.sw_scan.specs.Bytes.{sign, byte, continues, is_name_byte}
+use Rattle.sw_scan.specs.Bytes.{sign, byte, continues}
 use Rattle.sw_scan.specs.Runs.{run_from, run_end, next, begins_name}
 use Rattle.sw_scan.specs.Pieces.{is_cut, piece}
 use Rattle.sw_scan.proofs.Bounds.{if_true, if_false, and_right, run_onward, next_from}
@@ -15,7 +15,7 @@ use Rattle.sw_selector.specs.Names.{unclosed_from, ends_unclosed, name_text}
 use Rattle.sw_selector.specs.Laws.{parts_names}
 use Rattle.sw_selector.proofs.Begins.{begins_kept}
 use Rattle.sw_selector.proofs.Characters.{closes, closing}
-use Rattle.sw_selector.proofs.Kept.{Alike, EndsAt, first, later, run_kept}
+use Rattle.sw_selector.proofs.Kept.{Alike, EndsAt, run_kept}
 use Rattle.sw_selector.proofs.Written.{byte_behind, byte_before, byte_range, length_range, space, name_cut, no_name, parted}
 
 -- at this place of the text
