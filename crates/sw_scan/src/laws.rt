@@ -12,8 +12,8 @@ pub fn runs_are_longest()
     ensures ends { (c : Class) (text : List ℕ) (at : ℕ) → next c text (run_end c text at) ≤ run_end c text at }
 {}
 
-/// A law: a scan for the end of a text stops at the first place outside strings and brackets that ends it, and else goes
-/// on by a step, whatever is open.
+/// A law: a scan for the end of a text stops at the first place outside strings and brackets that ends it, and else
+/// goes on by a step, whatever is open.
 pub fn stops_at_the_first()
     ensures first { (to : Stops) (text : List ℕ) (at : ℕ) → stop_at to text at ≡ stop_behind to text [] at }
     ensures step { (to : Stops) (text closers : List ℕ) (at : ℕ) → StopsByStep to text closers at }

@@ -9,7 +9,8 @@ use Rattle.sw_scan.specs.Runs.{hex_end, white_end, escape_end, next, run_end, st
 use Rattle.sw_scan.proofs.Bounds.{and_left, and_right, if_true, run_step, run_forward}
 use Rattle.sw_scan.proofs.Progress.{either, name_taken}
 use Rattle.sw_selector.proofs.Lexical.{equal, in_or}
-use Rattle.sw_selector.proofs.Kept.{Character, Known, known, character_next, name_not_slash, hex_end_forward, hex_some, Alike, first, later}
+use Rattle.sw_selector.proofs.Characters.{Character, Known, known, character_next, name_not_slash, hex_end_forward, hex_some}
+use Rattle.sw_selector.proofs.Kept.{Alike, first, later}
 
 abbrev on : List ℕ → ℕ → ℕ
 on bs i = next classes.Name bs i
@@ -29,7 +30,7 @@ module _ (bs : List ℕ) where
       (λ _. either (λ (j : ℕ). h ≤ j) (is_white (byte bs h)) (h + 1) h (λ _. omega arith) (λ _. omega arith))
 
   -- two bytes say whether an escape begins
-  escape_goes : (i : ℕ) → nat_lt i (escape_end bs i) ≡ ((byte bs i == sign "\\") && not (is_break (byte bs (i + 1)) || (byte bs (i + 1) == END)))
+  pub escape_goes : (i : ℕ) → nat_lt i (escape_end bs i) ≡ ((byte bs i == sign "\\") && not (is_break (byte bs (i + 1)) || (byte bs (i + 1) == END)))
   unfolding escape_end
   escape_goes i =
       go (byte bs i == sign "\\") (is_hex_digit (byte bs (i + 1))) (is_break (byte bs (i + 1)) || (byte bs (i + 1) == END)) (white_end bs (hex_end bs (i + 1)))

@@ -121,7 +121,7 @@ module _ (bs : List ℕ) where
   pub name_further : (i : ℕ) → begins_name bs i ≡ true → i < name_end bs i
   name_further i m = run_on bs classes.Name i (name_taken bs i m)
 
-  word_forward : (i : ℕ) → i ≤ word_end bs i
+  pub word_forward : (i : ℕ) → i ≤ word_end bs i
   word_forward i =
       either (λ j. i ≤ j) (byte bs i == sign "*") (i + 1) _ (λ _. omega arith)
       (λ _. either (λ j. i ≤ j) (begins_name bs i) (name_end bs i) i (λ _. name_forward i) (λ _. omega arith))
@@ -133,7 +133,7 @@ module _ (bs : List ℕ) where
       either (λ j. i ≤ j) ((byte bs (word_end bs i) == sign "|") && not (byte bs (word_end bs i + 1) == sign "=")) (word_end bs i + 1) i
       (λ _. omega arith) (λ _. omega arith)
 
-  name_none : (i : ℕ) → begins_word (byte bs i) ≡ false → begins_name bs i ≡ false
+  pub name_none : (i : ℕ) → begins_word (byte bs i) ≡ false → begins_name bs i ≡ false
   name_none i e = go (begins_name bs i) refl
     where
       go : (t : Bool) → begins_name bs i ≡ t → t ≡ false
@@ -179,7 +179,7 @@ module _ (bs : List ℕ) where
   colons_forward i = either (λ j. i < j) (byte bs (i + 1) == sign ":") (i + 2) (i + 1) (λ _. omega arith) (λ _. omega arith)
 
   -- attributes
-  abbrev Ahead : ℕ → Option ℕ → Type 0
+  abbrev pub Ahead : ℕ → Option ℕ → Type 0
   Ahead i o = (j : ℕ) → o ≡ Some j → i ≤ j
 
   some_ahead : {i k : ℕ} → i ≤ k → Ahead i (Some k)
@@ -194,52 +194,52 @@ module _ (bs : List ℕ) where
   further_ahead : {i k : ℕ} {o : Option ℕ} → i ≤ k → Ahead k o → Ahead i o
   further_ahead l a j e = let m = a j e in omega arith
 
-  bracket_ahead : (i : ℕ) → Ahead i (bracket_end bs i)
+  pub bracket_ahead : (i : ℕ) → Ahead i (bracket_end bs i)
   bracket_ahead i = either (Ahead i) (byte bs i == sign "]") (Some (i + 1)) None (λ _. some_ahead (omega arith)) (λ _. none_ahead)
 
-  modifier_ahead : (i : ℕ) → Ahead i (modifier_end bs i)
+  pub modifier_ahead : (i : ℕ) → Ahead i (modifier_end bs i)
   unfolding modifier_end
   modifier_ahead i =
       either (Ahead i) (is_letter (byte bs i)) (bracket_end bs (white bs (i + 1))) (bracket_end bs i)
       (λ _. let on = white_forward (i + 1) in further_ahead (omega arith) (bracket_ahead (white bs (i + 1)))) (λ _. bracket_ahead i)
 
-  string_ahead : (q i : ℕ) → Ahead i (string_end bs q i)
+  pub string_ahead : (q i : ℕ) → Ahead i (string_end bs q i)
   unfolding string_end
   string_ahead q i =
       let on = run_forward bs (classes.Text q) (i + 1) in
       either (Ahead i) (byte bs (run_end (classes.Text q) bs (i + 1)) == q) (Some (run_end (classes.Text q) bs (i + 1) + 1)) None
       (λ _. some_ahead (omega arith)) (λ _. none_ahead)
 
-  value_ahead : (i : ℕ) → Ahead i (value_end bs i)
+  pub value_ahead : (i : ℕ) → Ahead i (value_end bs i)
   unfolding value_end
   value_ahead i =
       either (Ahead i) (is_quote (byte bs i)) (string_end bs (byte bs i) i) _ (λ _. string_ahead (byte bs i) i)
       (λ _. either (Ahead i) (begins_name bs i) (Some (name_end bs i)) None (λ _. some_ahead (name_forward i)) (λ _. none_ahead))
 
-  valued_ahead : (i : ℕ) (o : Option ℕ) → Ahead i o → Ahead i (valued_end bs o)
+  pub valued_ahead : (i : ℕ) (o : Option ℕ) → Ahead i o → Ahead i (valued_end bs o)
   valued_ahead i None a = none_ahead
   valued_ahead i (Some k) a = let on = a k refl in let w = white_forward k in further_ahead (omega arith) (modifier_ahead (white bs k))
 
-  operated_ahead : (i : ℕ) (o : Option ℕ) → Ahead i o → Ahead i (operated_end bs o)
+  pub operated_ahead : (i : ℕ) (o : Option ℕ) → Ahead i o → Ahead i (operated_end bs o)
   operated_ahead i None a = none_ahead
   operated_ahead i (Some k) a =
       let on = a k refl in let w = white_forward k in
       further_ahead (omega arith) (valued_ahead (white bs k) (value_end bs (white bs k)) (value_ahead (white bs k)))
 
-  operator_ahead : (i : ℕ) → Ahead i (operator_end bs i)
+  pub operator_ahead : (i : ℕ) → Ahead i (operator_end bs i)
   unfolding operator_end
   operator_ahead i =
       either (Ahead i) (byte bs i == sign "=") (Some (i + 1)) _ (λ _. some_ahead (omega arith))
       (λ _. either (Ahead i) (is_operator_sign (byte bs i) && (byte bs (i + 1) == sign "=")) (Some (i + 2)) None
       (λ _. some_ahead (omega arith)) (λ _. none_ahead))
 
-  matched_ahead : (i : ℕ) → Ahead i (matched_end bs i)
+  pub matched_ahead : (i : ℕ) → Ahead i (matched_end bs i)
   unfolding matched_end
   matched_ahead i =
       either (Ahead i) (byte bs i == sign "]") (Some (i + 1)) _ (λ _. some_ahead (omega arith))
       (λ _. operated_ahead i (operator_end bs i) (operator_ahead i))
 
-  named_ahead : (i : ℕ) → Ahead i (named_end bs i)
+  pub named_ahead : (i : ℕ) → Ahead i (named_end bs i)
   named_ahead i =
       either (Ahead i) (begins_name bs i) (matched_end bs (white bs (name_end bs i))) None
       (λ _. let a = name_forward i in let b = white_forward (name_end bs i) in

@@ -15,9 +15,10 @@ use Rattle.sw_selector.specs.Attributes.{name_end}
 use Rattle.sw_selector.specs.Names.{unclosed_from, ends_unclosed, name_text}
 use Rattle.sw_selector.specs.Laws.{parts_names, kept_name, KeepsName}
 use Rattle.sw_selector.proofs.Begins.{begins_kept}
-use Rattle.sw_selector.proofs.Kept.{Alike, closes, closing, run_kept}
+use Rattle.sw_selector.proofs.Characters.{closes, closing}
+use Rattle.sw_selector.proofs.Kept.{Alike, EndsAt, run_kept}
 
-byte_get : (bs : List ℕ) (i : ℕ) → byte bs i ≡ get_or bs i END
+pub byte_get : (bs : List ℕ) (i : ℕ) → byte bs i ≡ get_or bs i END
 unfolding byte
 byte_get bs i = in_is (slice_get bs i) ∙ unwrap_or-slice_get bs i END
   where
@@ -31,22 +32,22 @@ byte_behind xs ys k = byte_get (xs ++ ys) (length xs + k) ∙ get_or-append-add 
 pub byte_before : (xs ys : List ℕ) (k : ℕ) → k < length xs → byte (xs ++ ys) k ≡ byte xs k
 byte_before xs ys k lt = byte_get (xs ++ ys) k ∙ get_or_append_left xs ys END k lt ∙ sym (byte_get xs k)
 
-byte_range : (bs : List ℕ) (i j k : ℕ) → k < j - i → byte (slice_range bs i j) k ≡ byte bs (i + k)
+pub byte_range : (bs : List ℕ) (i j k : ℕ) → k < j - i → byte (slice_range bs i j) k ≡ byte bs (i + k)
 byte_range bs i j k lt =
     byte_get (take (j - i) (drop i bs)) k ∙ get_or-take (j - i) (drop i bs) k END lt ∙ get_or-drop i bs k END ∙ sym (byte_get bs (i + k))
 
-length_range : (bs : List ℕ) (i j : ℕ) → j ≤ length bs → length (slice_range bs i j) ≡ j - i
+pub length_range : (bs : List ℕ) (i j : ℕ) → j ≤ length bs → length (slice_range bs i j) ≡ j - i
 length_range bs i j l = length-take-le (j - i) (drop i bs) (let e = length-drop i bs in omega (arith, e, l))
 
-space : byte (codes " ") 0 ≡ sign " "
+pub space : byte (codes " ") 0 ≡ sign " "
 unfolding byte
 space = refl
 
 -- where the run of name characters ends, no character of another kind is cut
-name_cut : (b : ℕ) → is_name_byte b ≡ false → continues b ≡ false
+pub name_cut : (b : ℕ) → is_name_byte b ≡ false → continues b ≡ false
 name_cut b e = grind (arith, nat_tests)
 
-no_name : (bs : List ℕ) (i : ℕ) → next classes.Name bs i ≤ i → is_name_byte (byte bs i) ≡ false
+pub no_name : (bs : List ℕ) (i : ℕ) → next classes.Name bs i ≤ i → is_name_byte (byte bs i) ≡ false
 no_name bs i l = go (is_name_byte (byte bs i)) refl
   where
     go : (t : Bool) → is_name_byte (byte bs i) ≡ t → t ≡ false
@@ -54,7 +55,7 @@ no_name bs i l = go (is_name_byte (byte bs i)) refl
     go true e = let up = if_true (is_name_byte (byte bs i)) (i + 1) (escape_end bs i) e in absurd (omega (arith, up, l))
 
 -- nothing of a name stands there
-parted : (bs : List ℕ) (i b : ℕ) → byte bs i ≡ b → parts_names b ≡ true → next classes.Name bs i ≡ i
+pub parted : (bs : List ℕ) (i b : ℕ) → byte bs i ≡ b → parts_names b ≡ true → next classes.Name bs i ≡ i
 unfolding escape_end
 parted bs i b e p =
     if_false (is_name_byte (byte bs i)) (i + 1) (escape_end bs i) (ap is_name_byte e ∙ name b p)
@@ -187,9 +188,12 @@ module _ (bs : List ℕ) (i : ℕ) (begins : begins_name bs i ≡ true) (cut : i
   unfolding ends_unclosed
   test_is = refl
 
+  ends_at : EndsAt bs whole d ((d + (j - i)) + closing bare)
+  ends_at = run_kept bs whole (length bs - i) i d j bare false run_is test_is taken (let w = within in omega (arith, w)) alike closed ends
+
   pub kept_end : name_end whole d ≡ d + length (kept_name bs i)
   kept_end =
-      run_kept bs whole (length bs - i) i d j bare false run_is test_is taken (let w = within in omega (arith, w)) alike closed ends
+      ends_at.end
       ∙ (let p : (d + (j - i)) + closing bare ≡ d + length (kept_name bs i) = omega (arith, name_length) in p)
 
   pub kept_begin : begins_name whole d ≡ true

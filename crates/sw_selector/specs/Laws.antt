@@ -1,6 +1,7 @@
 -- What reading, nesting and writing are as a whole.
-use Rattle.std.specs.Prelude.{◌≡◌, ◌+◌, ◌*◌, ◌<◌, ◌≤◌, ◌↔◌, ◌++◌, ◌||◌, ◌==◌, ℕ, List, map, length, Bool, true, not, Ok, Err}
+use Rattle.std.specs.Prelude.{◌≡◌, ◌+◌, ◌*◌, ◌<◌, ◌≤◌, ◌↔◌, ◌++◌, ◌||◌, ◌==◌, ℕ, List, [], ◌∷◌, map, length, Bool, true, not, Ok, Err}
 use Rattle.std.specs.List.{flat_map, filter}
+use Rattle.std.specs.Str.{IsUtf8}
 use Rattle.sw_scan.specs.declared.signs.TheConstants.{LINE_FEED}
 use Rattle.sw_scan.specs.Bytes.{sign, byte, is_name_byte}
 use Rattle.sw_scan.specs.Runs.{begins_name}
@@ -63,3 +64,12 @@ is_shown complex = not (complex_holds soughts.Placeholder complex)
 -- what is written is all complex selectors in order but those in which a placeholder stands
 abbrev pub WritesOthers : List (List Part) → Type 0
 WritesOthers list = text_of list ≡ list_text true (filter is_shown list)
+
+-- a text that is read as these, and the empty text for none
+abbrev pub IsReadAs : List ℕ → List (List Part) → Type 0
+IsReadAs text [] = text ≡ []
+IsReadAs text (complex ∷ list) = selectors_of text ≡ Ok (complex ∷ list)
+
+-- what is written of a list that was read is read as this list without what isn't written
+abbrev pub ReadsBack : List ℕ → List (List Part) → Type 0
+ReadsBack text list = IsUtf8 text → selectors_of text ≡ Ok list → IsReadAs (text_of list) (filter is_shown list)

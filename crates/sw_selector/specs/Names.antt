@@ -11,8 +11,8 @@ use Rattle.sw_scan.specs.Pieces.{piece}
 unfoldable pub is_unclosed : List ℕ → ℕ → Bool
 is_unclosed bs i = (byte bs i == sign "\\") && is_hex_digit (byte bs (escape_end bs i - 1))
 
--- the same of the last of the n name characters at most from i on, and what is known of the one before where none stands
--- there
+-- the same of the last of the n name characters at most from i on, and what is known of the one before where none
+-- stands there
 abbrev pub unclosed_from : List ℕ → ℕ → Bool → ℕ → Bool
 unclosed_from bs zero before i = before
 unclosed_from bs (suc n) before i =

@@ -2,7 +2,7 @@
 ghost use Rattle.std.specs.Prelude.{◌≤◌, List, Bool, ℕ};
 ghost use Rattle.sw_selector.specs.declared.selector.Part.{Part};
 ghost use Rattle.sw_selector.specs.Depth.{list_depth};
-ghost use Rattle.sw_selector.specs.Laws.{IsOneList, ReadsLists, KeepsName, NestsInOrder, NestsEachPair, WritesOthers};
+ghost use Rattle.sw_selector.specs.Laws.{IsOneList, ReadsLists, KeepsName, NestsInOrder, NestsEachPair, WritesOthers, ReadsBack};
 
 use crate::Selectors;
 use crate::reader::LEVELS;
@@ -36,4 +36,10 @@ pub fn never_too_deep(selectors: &Selectors)
 /// A law: `write` leaves out the complex selectors in which a placeholder stands, and no others.
 pub fn writes_all_others()
     ensures { (list : List (List Part)) → WritesOthers list }
+{}
+
+/// A law: what `write` writes of selectors that were read from a text is read as these selectors without the complex
+/// selectors in which a placeholder stands. Where none is left, the empty text is written.
+pub fn written_reads_back()
+    ensures { (text : List ℕ) (list : List (List Part)) → ReadsBack text list }
 {}

@@ -21,7 +21,10 @@ mod units;
 mod write;
 
 pub use fault::SelectorFault;
-pub use laws::{keeps_names, nests_in_order, never_too_deep, reads_the_grammar, writes_all_others};
+pub use laws::{
+    keeps_names, nests_in_order, never_too_deep, reads_the_grammar, writes_all_others,
+    written_reads_back,
+};
 pub use nesting::nest;
 pub use reader::{LEVELS, MOST_SELECTORS, read};
 pub use selector::Selectors;
