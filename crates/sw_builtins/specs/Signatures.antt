@@ -143,7 +143,8 @@ channels = fixed (needed (codes "channels") ∷ [])
 
 abbrev pub rgb_list : ℕ → List (List ℕ) → Params
 rgb_list count named =
-    if are_together count named 3 then fixed (needed (codes "red") ∷ needed (codes "green") ∷ needed (codes "blue") ∷ [])
+    if are_together count named 3 then fixed (needed (codes "red") ∷ needed (codes "green")
+    ∷ needed (codes "blue") ∷ [])
     else if are_together count named 1 then channels
     else if are_together count named 2 then fixed (needed (codes "color") ∷ needed (codes "alpha") ∷ [])
     else rgb_and_alpha

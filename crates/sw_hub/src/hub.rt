@@ -53,7 +53,8 @@ impl Hub {
         ensures seat { IfOk result (λ number. self.new.seats.items
             ≡ self.old.seats.items ++ record { number = number; silent = false; reporter = reporter } ∷ []) }
         ensures back { IfErr result (λ fault. fault.reporter ≡ reporter) }
-        ensures kept { OnErr result ((self.new.seats.items ≡ self.old.seats.items) × (self.new.given ≡ self.old.given)) }
+        ensures kept { OnErr result
+            ((self.new.seats.items ≡ self.old.seats.items) × (self.new.given ≡ self.old.given)) }
         ensures full { IfErr result (λ fault. (fault.why ≡ AttachFault.NoNumber) ↔ (self.old.given ≡ MOST_NUMBERS)) }
         ensures room { OnOk result (self.old.given < MOST_NUMBERS) }
     {
@@ -99,7 +100,8 @@ impl Hub {
     /// Whether this number is attached and its reporter silent. Takes no memory.
     pub fn silent(&self, number: u32) -> bool
         ensures { result
-            ≡ unwrap_or (option_map (λ seat. seat.silent) (first_of self.now.seats.items (λ seat. seat.number) number)) false }
+            ≡ unwrap_or (option_map (λ seat. seat.silent)
+            (first_of self.now.seats.items (λ seat. seat.number) number)) false }
     {
         let at = place_of(&self.seats, number);
         at < self.seats.len() && self.seats[at].silent

@@ -49,13 +49,15 @@ abbrev pub read_of : List File → List ℕ → Option (List ℕ)
 read_of files path = option_map (take most_read) (file_of files path)
 
 -- a listing gives the path of each sheet once, in any order; one that is refused changes no folder
-pub record Lists (before now : List ℕ → Option Course) (dir : List ℕ) (result : Result (List (List ℕ)) DiskEnd) : Type 0 where
+pub record Lists (before now : List ℕ → Option Course) (dir : List ℕ) (result : Result (List (List ℕ)) DiskEnd) :
+    Type 0 where
   pub listed : IfOk result (λ paths. (c : Course) → before dir ≡ Some c
       → (now dir ≡ Some (after_listing c)) × IsPermutation (sheets_of (after_listing c).files) paths)
   pub kept : OnErr result ((other : List ℕ) → now other ≡ before other)
 
 -- a reading changes no folder
-pub record Reads (before now : List ℕ → Option Course) (dir path : List ℕ) (result : Result (Option (List ℕ)) DiskEnd) : Type 0 where
+pub record Reads (before now : List ℕ → Option Course) (dir path : List ℕ)
+    (result : Result (Option (List ℕ)) DiskEnd) : Type 0 where
   pub found : IfOk result (λ bytes. (c : Course) → before dir ≡ Some c → bytes ≡ read_of c.files path)
   pub kept : (other : List ℕ) → now other ≡ before other
 

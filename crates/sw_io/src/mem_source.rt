@@ -26,7 +26,13 @@ impl Model for MemSource {
 
     ghost Value = { Giver };
 
-    ghost view = { λ s. record { left = drop s.at s.bytes; most = s.most; fail = s.fail; calls = s.calls; faults = s.faults } };
+    ghost view = { λ s. record {
+      left = drop s.at s.bytes;
+      most = s.most;
+      fail = s.fail;
+      calls = s.calls;
+      faults = s.faults;
+    } };
 
     ghost invariant = { λ s. (s.at ≤ length s.bytes) × (1 ≤ s.most) };
 }

@@ -14,8 +14,8 @@ abbrev pub RanMore : List (List ℕ) → List (List ℕ) → Type 0
 RanMore old now = (more : List (List ℕ)) × (now ≡ old ++ more)
 
 -- for want of memory an evaluation with these calls was cut off: the first of them were made, and some bodies ran
-pub record CutOff (setting : Setting) (calls : List HostCall) (old now : HostState) (told_old told_new : List (List ℕ)) :
-    Type 0 where
+pub record CutOff (setting : Setting) (calls : List HostCall) (old now : HostState)
+    (told_old told_new : List (List ℕ)) : Type 0 where
   pub made : List HostCall
   pub left : List HostCall
   pub order : calls ≡ made ++ left

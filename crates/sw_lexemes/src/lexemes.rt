@@ -32,7 +32,8 @@ pub fn value_lexemes_of(
     at: usize,
 ) -> Result<List<Lexeme>, Memory>
     requires { at ≤ length tokens.now.list }
-    ensures lexemes { IfOk result (λ lexemes. lexemes ≡ value_lexemes_of tokens.now.sheet.bytes tokens.now.list mode at) }
+    ensures lexemes { IfOk result (λ lexemes. lexemes
+        ≡ value_lexemes_of tokens.now.sheet.bytes tokens.now.list mode at) }
     ensures lie { IfOk result (λ lexemes. All (LexemeLies tokens.now.sheet.bytes) lexemes) }
 {
     let plains = plains_of(alloc, tokens)?;

@@ -63,8 +63,8 @@ fn custom_of(
     property: Text,
     value: Option<Text>,
 ) -> Result<Statement, Memory>
-    ensures { IfOk result (λ statement. to_custom source.now at place (Texts property ∷ text_in value) ≡ States statement
-        ∷ []) }
+    ensures { IfOk result (λ statement. to_custom source.now at place (Texts property ∷ text_in value)
+        ≡ States statement ∷ []) }
 {
     match span_between(source, at, place) {
         Ok(span) => Ok(Statement::Custom(Custom {

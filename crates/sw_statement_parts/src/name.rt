@@ -74,7 +74,8 @@ pub fn as_prefix_at(
 /// The place of the name of a member, with `$` before it or without.
 #[tactic(auto, unfolding(sw_grammar::specs::Readers::parse))]
 fn member_name_at(source: &Source, levels: u8, at: usize) -> Result<(usize, usize), ReadError>
-    ensures { Reads (λ place. Place place ∷ []) result (reader source.now levels (alt (keep (just Named)) (dollar_name source.now)) at) }
+    ensures { Reads (λ place. Place place ∷ []) result
+        (reader source.now levels (alt (keep (just Named)) (dollar_name source.now)) at) }
 {
     if is_at(source, at, Terminal::Named) {
         Ok((at, at + 1))

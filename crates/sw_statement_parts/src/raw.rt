@@ -67,7 +67,8 @@ fn raw_group_at<F: Fn(u8, usize) -> Result<(Expr, usize), ReadError> + Copy>(
 ) -> Result<(List<Inserted>, usize), ReadError>
     requires callable { Callable (F.Fn.pre deeper) levels }
     requires reading { Reading (F.Fn.post deeper) source.now levels }
-    ensures { Reads (λ list. map insert_of list) result (reader source.now levels (raw_group brackets.0 brackets.1) at) }
+    ensures { Reads (λ list. map insert_of list) result
+        (reader source.now levels (raw_group brackets.0 brackets.1) at) }
 {
     if !is_at(source, at, brackets.0) {
         return Err(ReadError::Unexpected(at));

@@ -28,8 +28,10 @@ ReadsValue = Reads (λ value. Values value ∷ [])
 -- what the reader answers of a form is what the table says of it
 abbrev pub IsOfTheTable : Source → ℕ → Form → ℕ → Type 0
 IsOfTheTable source levels form at =
-    ReadsDeep (forms source) (text_of source) opening closing levels form at (reader source levels (forms source form) at)
+    ReadsDeep (forms source) (text_of source) opening closing levels form at
+    (reader source levels (forms source form) at)
 
 abbrev pub TellsDepth : Source → ℕ → Form → ℕ → Type 0
 TellsDepth source levels form at =
-    DeepExactly (forms source) (text_of source) opening closing levels form at (reader source levels (forms source form) at)
+    DeepExactly (forms source) (text_of source) opening closing levels form at
+    (reader source levels (forms source form) at)
