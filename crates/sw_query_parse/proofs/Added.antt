@@ -16,7 +16,7 @@ use Rattle.sw_syntax.specs.Sources.{terminal_at, text_of, bytes_at, bytes_betwee
 use Rattle.sw_syntax.specs.Queries.{said_before, in_parens, to_comparison, to_queries, feature, and_feature, or_feature, query, comma_query, queries}
 use Rattle.sw_syntax.specs.Table.{forms}
 use Rattle.sw_syntax.specs.Reads.{reader}
-use Rattle.sw_query_parse.specs.Adding.{token_piece, parens, paren_end}
+use Rattle.sw_query_parse.specs.Adding.{parens, paren_end}
 use Rattle.sw_query_parse.specs.declared.feature.Joint.{Joint}
 use Rattle.sw_query_parse.specs.declared.feature.Joint.TheVariants as joints
 use Rattle.sw_query_parse.specs.Joints.{word_of, text_of as joint_text, joined, comparisons}

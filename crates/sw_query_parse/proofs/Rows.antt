@@ -1,5 +1,5 @@
 -- What is read behind what was read before, for each kind of row of a table.
-use Rattle.std.proofs.Common.{◌≡◌, ℕ, suc, ◌+◌, ◌<◌, true, false, not, List, [], ◌∷◌, ◌++◌, refl, sym, ◌∙◌, ap, subst, append_assoc, append-nil, add-one}
+use Rattle.std.proofs.Common.{◌≡◌, ℕ, ◌+◌, ◌<◌, true, false, not, List, [], ◌++◌, refl, sym, ◌∙◌, ap, subst, append_assoc, append-nil}
 use Rattle.sw_grammar.specs.Grammar.{Grammar, skip, seq, many, build, anywhere, nullable, first, member, decided, Answer, Got, Unexpected, TooDeep, and_then, prepend, acted, Text}
 use Rattle.sw_grammar.specs.Readers.{parse, Fails}
 use Rattle.sw_grammar.specs.declared.ReadError.{ReadError}

@@ -1,5 +1,5 @@
 -- What a function answers that adds the pieces that it reads to those that were read before.
-use Rattle.std.specs.Prelude.{ℕ, List, [], ◌∷◌, map, codes, Result}
+use Rattle.std.specs.Prelude.{ℕ, List, map, codes, Result}
 use Rattle.sw_grammar.specs.Grammar.{Grammar, Answer, prepend, skip, group, build, anywhere}
 use Rattle.sw_grammar.specs.Readers.{Answers}
 use Rattle.sw_grammar.specs.declared.ReadError.{ReadError}

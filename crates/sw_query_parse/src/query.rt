@@ -172,12 +172,7 @@ fn pieces_at(
 
 /// The text of these pieces, from the token at a place to the one before another.
 #[tactic(auto, using(crate::proofs::Added::pieces_of_pieces))]
-fn text_of(
-    source: &Source,
-    at: usize,
-    place: usize,
-    list: List<Piece>,
-) -> Result<Text, Memory>
+fn text_of(source: &Source, at: usize, place: usize, list: List<Piece>) -> Result<Text, Memory>
     ensures { IfOk result (λ text. to_queries source.now at place (map Pieces list) ≡ Texts text ∷ []) }
 {
     let span = span_between(source, at, place)?;
