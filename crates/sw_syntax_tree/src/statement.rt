@@ -256,7 +256,7 @@ pub struct Extend {
 #[cycle(statement)]
 #[derive(Drop)]
 pub struct AtRule {
-    /// The name without `@`.
+    /// The name, from its `@` on.
     pub name: Text,
     pub prelude: Option<Text>,
     pub block: Option<List<Statement>>,
