@@ -1,6 +1,5 @@
 -- What the definition of a module's variables says of each kind of statement.
-use Rattle.std.proofs.Common.{◌≡◌, ℕ, if◌then◌else◌, List, [], ◌∷◌, ◌++◌, map, Option, Some, None, refl, sym, ◌∙◌, ap}
-use Rattle.std.specs.List.{flat_map}
+use Rattle.std.proofs.Common.{◌≡◌, List, [], ◌∷◌, ◌++◌, map, Option, Some, None, refl, sym, ◌∙◌, ap}
 use Rattle.std.proofs.lemmas.List.Folds.{flat_map-map}
 use Rattle.sw_syntax_tree.specs.declared.callable.Callable.{Callable, fold-Callable, fold_out-Callable}
 use Rattle.sw_syntax_tree.specs.declared.callable.Content.{Content, fold-Content, fold_out-Content}
