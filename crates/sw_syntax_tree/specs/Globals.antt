@@ -40,7 +40,8 @@ content_names None = []
 content_names (Some names) = names
 
 -- what a statement names, where its parts with blocks name these
-abbrev pub global_step : Statement-F Names Names Names Names Names Names Names Names Names Names Names Names Names → Names
+abbrev pub global_step : Statement-F Names Names Names Names Names Names Names Names Names Names Names Names Names
+    → Names
 global_step (Statement-F.Variable variable) = global_name variable
 global_step (Statement-F.Callable names) = names
 global_step (Statement-F.Include mixin content span) = content_names content
