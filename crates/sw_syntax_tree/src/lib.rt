@@ -4,6 +4,7 @@
 
 mod callable;
 mod expr;
+mod globals;
 mod load;
 mod same;
 mod sheet;
@@ -15,6 +16,7 @@ pub use expr::{
     Argument, Around, Callee, Constant, Expr, ExprKind, Link, Namespaced, Number, Operator, Pair,
     Qualified, Separator, Sign,
 };
+pub use globals::globals_of;
 pub use load::{Filter, Forward, Given, Member, Namespace, Url, Use};
 pub use sheet::Sheet;
 pub use statement::{
