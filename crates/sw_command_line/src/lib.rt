@@ -1,0 +1,7 @@
+//! The command line: which command its words ask for. The words behind the program's name flow in, a command with its
+//! folder, its entry and its load paths flows out.
+#![tactic(auto)]
+
+mod command;
+
+pub use command::{Command, Target, command_of};

@@ -1,0 +1,79 @@
+// One compile of a disk's folder.
+ghost use Rattle.std.specs.Prelude.{◌≡◌, IfOk};
+ghost use Rattle.sw_io.specs.Causes.{Rose};
+ghost use Rattle.sw_wire.specs.Replies.{fault_text};
+ghost use Rattle.sw_command_line.specs.Forms.{target_seen};
+ghost use Rattle.sw_disk_compile.specs.Once.{surroundings, hostless, EndsBy, WritesBy};
+
+use crate::{Ending, Watched};
+use std::alloc::Global;
+use sw_command_line::Target;
+use sw_folders::read_folder;
+use sw_io::{Disk, DiskEnd, Sink};
+use sw_keeper::Reader;
+use sw_protocol::send;
+use sw_record::{Outcome, Reply};
+use sw_text::{Fault, List, Memory};
+use sw_wire::write_reply;
+use sw_world::Engine;
+
+/// Reads the folder, compiles the entry, and writes the CSS bytes alone or the one line `error CODE PATH L:C L:C`;
+/// tells how that ended. The sink is flushed. Where no memory is found or the disk fails, nothing is written.
+pub fn once<R: Reader, K: Sink, D: Disk, E: Engine>(
+    alloc: Global,
+    reader: &R,
+    target: &Target<'_>,
+    sink: &mut K,
+    disk: &mut D,
+    engine: &mut E,
+) -> Ending
+    ensures ends { EndsBy result (hostless R.reads E.body) (target_seen target.now)
+        (surroundings (D.course disk.old target.now.dir.now) (K.written sink.old) (E.ran engine.old))
+        (surroundings (D.course disk.new target.now.dir.now) (K.written sink.new) (E.ran engine.new)) }
+    ensures sink_fault { result ≡ Ending.SinkFailed → Rose (K.faults sink.old) (K.faults sink.new) }
+    ensures disk_fault { result ≡ Ending.DiskFailed → Rose (D.faults disk.old) (D.faults disk.new) }
+{
+    let mut watched = Watched::<R, E>::new(alloc);
+    match read_folder(alloc, disk, target.dir.as_str(), &mut watched) {
+        Err(DiskEnd::Failed) => Ending::DiskFailed,
+        Err(DiskEnd::Memory) => Ending::Memory,
+        Ok(()) => match watched.compile(reader, target.entry, target.paths, engine) {
+            Err(Memory) => Ending::Memory,
+            Ok(reply) => write_outcome(alloc, reply.outcome, sink),
+        },
+    }
+}
+
+// What is written of an outcome, and how that ends.
+fn write_outcome<K: Sink>(alloc: Global, outcome: Outcome, sink: &mut K) -> Ending
+    ensures ends { WritesBy result outcome (K.written sink.old) (K.written sink.new) }
+    ensures fault { result ≡ Ending.SinkFailed → Rose (K.faults sink.old) (K.faults sink.new) }
+{
+    match outcome {
+        Outcome::Css(bytes) => match send(sink, bytes.as_slice()) {
+            Ok(()) => Ending::Css,
+            Err(_) => Ending::SinkFailed,
+        },
+        Outcome::Error(fault) => match fault_line(alloc, fault) {
+            Err(Memory) => Ending::Memory,
+            Ok(line) => match send(sink, &line) {
+                Ok(()) => Ending::Error,
+                Err(_) => Ending::SinkFailed,
+            },
+        },
+    }
+}
+
+// The line of a fault: a reply to a compile that says nothing else.
+fn fault_line(alloc: Global, fault: Fault) -> Result<Vec<u8>, Memory>
+    ensures { IfOk result (λ line. line.items ≡ fault_text fault) }
+{
+    let reply = Reply {
+        says: List::new(alloc),
+        ran: List::new(alloc),
+        outcome: Outcome::Error(fault),
+    };
+    let mut line = Vec::new(alloc);
+    write_reply(alloc, &reply, &mut line)?;
+    Ok(line)
+}
