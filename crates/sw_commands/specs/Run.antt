@@ -1,0 +1,44 @@
+-- What the program does, by the words of its command line. This project's own rule.
+use Rattle.std.specs.Prelude.{◌≡◌, ℕ, List, [], Option, None, Some}
+use Rattle.sw_io.specs.Disks.{Course}
+use Rattle.sw_command_line.specs.Forms.{Form, Target, Session, Once, Poll}
+use Rattle.sw_modules.specs.Fresh.{Setting}
+use Rattle.sw_session.specs.Served as session
+use Rattle.sw_disk_compile.specs.declared.ending.Ending.{Ending}
+use Rattle.sw_disk_compile.specs.Once as once
+
+-- what is around the program: the bytes left in the source, those written into the sink, what the disk tells of each
+-- folder, and the paths of the bodies that ran
+pub record Surroundings : Type 0 where
+  pub left : Option (List ℕ)
+  pub written : Option (List ℕ)
+  pub course : List ℕ → Option Course
+  pub ran : List (List ℕ)
+
+abbrev pub surroundings : Option (List ℕ) → Option (List ℕ) → (List ℕ → Option Course) → List (List ℕ) → Surroundings
+surroundings left written course ran = record { left = left; written = written; course = course; ran = ran }
+
+-- nothing was read, written or run
+pub record DoesNothing (status : ℕ) (old new : Surroundings) : Type 0 where
+  pub seven : status ≡ 7
+  pub left : new.left ≡ old.left
+  pub written : new.written ≡ old.written
+  pub ran : new.ran ≡ old.ran
+
+-- one compile of a disk's folder, without a look at the source
+pub record CompilesOnce (setting : Setting) (target : Target) (status : ℕ) (old new : Surroundings) : Type 0 where
+  pub ending : Ending
+  pub ends : once.EndsBy ending setting target (once.surroundings (old.course target.dir) old.written old.ran)
+      (once.surroundings (new.course target.dir) new.written new.ran)
+  pub tells : status ≡ once.status_of ending
+  pub left : new.left ≡ old.left
+
+-- the words are in this form, and this came of them; words in no form, and those of a command that isn't built yet,
+-- are status 7
+abbrev pub Runs : Setting → Option Form → ℕ → Surroundings → Surroundings → Type 0
+Runs setting None status old new = DoesNothing status old new
+Runs setting (Some Session) status old new =
+    session.ServedWith setting status (session.surroundings old.left old.written old.ran [])
+    (session.surroundings new.left new.written new.ran [])
+Runs setting (Some (Once target)) status old new = CompilesOnce setting target status old new
+Runs setting (Some (Poll target)) status old new = DoesNothing status old new
