@@ -1,11 +1,10 @@
 -- Which row of a choice is read in parameters and includes, by the terminal that stands there.
-use Rattle.std.proofs.Common.{◌≡◌, ℕ, true, false, List, [], refl, ◌∙◌}
-use Rattle.sw_grammar.specs.Grammar.{Grammar, Got, empty, first, member}
+use Rattle.std.proofs.Common.{◌≡◌, ℕ, true, false, [], refl, ◌∙◌}
+use Rattle.sw_grammar.specs.Grammar.{Got, empty, first, member}
 use Rattle.sw_grammar.specs.Readers.{parse}
 use Rattle.sw_terminals.specs.declared.terminal.Terminal.TheVariants as T
 use Rattle.sw_terminals.specs.Numbers.{just}
 use Rattle.sw_syntax.specs.declared.source.Source.{Source}
-use Rattle.sw_syntax.specs.Parts.{Part, Form}
 use Rattle.sw_syntax.specs.Sources.{terminal_at}
 use Rattle.sw_syntax.specs.Sets.{dollars}
 use Rattle.sw_syntax.specs.Expressions.{number, insert, quoted, text_item, url_item, template, hash, constant, url, url_template, special, variable, word_insert, part_insert, word_part, word_start, word, arguments_in, called, owned_variable, owned_call, owned, range, parent, important, parens, brackets, literal, other, primary, prefix, unary, link, chain, sum, disjunction, space_item, space, list_item, expr, colon_space, pair, pairs_rest, items_rest, inside, items, named_argument, plain_argument, argument, arguing, special_expr, special_value, special_parens, special_brackets, special_item, special_inside}
