@@ -11,7 +11,7 @@ use Rattle.sw_syntax_tree.specs.declared.statement.Statement.{Statement}
 use Rattle.sw_syntax_tree.specs.declared.statement.Statement.TheVariants as statements
 use Rattle.sw_terminals.specs.declared.terminal.Terminal.TheVariants as terminals
 use Rattle.sw_syntax.specs.declared.source.Source.{Source}
-use Rattle.sw_syntax.specs.Actions.{params_with, with_arguments, content_with, stands_at}
+use Rattle.sw_syntax.specs.Actions.{params_with, stands_at}
 use Rattle.sw_statement_heads.specs.declared.flow.ForHead.{ForHead}
 
 -- the parameters that are written, or none
@@ -22,12 +22,13 @@ written_params (Some params) = params
 -- a mixin with the arguments that are written for it
 abbrev pub mixin_with : Mixin → Option (List Argument) → Mixin
 mixin_with mixin None = mixin
-mixin_with mixin (Some arguments) = with_arguments mixin arguments
+mixin_with mixin (Some arguments) =
+    record { namespace = mixin.namespace; name = mixin.name; name_span = mixin.name_span; arguments = arguments }
 
 -- the block that is passed with an include
 abbrev pub content_in : Params → Option (List Statement) → Option Content
 content_in params None = None
-content_in params (Some block) = content_with params block
+content_in params (Some block) = Some (record { params = params; block = block })
 
 module _ (source : Source) where
   abbrev pub bounds_of : ℕ → Expr → Expr → Bounds
