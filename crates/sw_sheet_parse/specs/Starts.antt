@@ -1,7 +1,7 @@
 -- What statements begin with, and how the table's choice of a statement falls apart.
 use Rattle.std.specs.Prelude.{ℕ, List, [], ◌∷◌, ◌++◌, Option, Some, None}
 use Rattle.sw_grammar.specs.Grammar.{Grammar, alt}
-use Rattle.sw_terminals.specs.declared.terminal.Terminal.TheVariants.{Semicolon, Custom, Owner, CommentWhole, CommentTemplate, AtUse, AtForward, AtFunction, AtMixin, AtInclude, AtContent, AtReturn, AtWarn, AtDebug, AtError, AtIf, AtEach, AtFor, AtWhile, AtMedia, AtSupports, AtRoot, AtCharset, AtImport, AtExtend, AtOther, AtInsert}
+use Rattle.sw_terminals.specs.declared.terminal.Terminal.TheVariants as terminals
 use Rattle.sw_terminals.specs.Numbers.{these, just}
 use Rattle.sw_syntax_tree.specs.declared.statement.Statement.{Statement}
 use Rattle.sw_syntax.specs.declared.source.Source.{Source}
@@ -11,26 +11,26 @@ use Rattle.sw_syntax.specs.Statements.{set, assigned, declaration, custom, comme
 use Rattle.sw_statement_parts.specs.Rows.{raw_starts}
 
 abbrev pub comment_starts : List ℕ
-comment_starts = these (CommentWhole ∷ CommentTemplate ∷ [])
+comment_starts = these (terminals.CommentWhole ∷ terminals.CommentTemplate ∷ [])
 
 -- a statement that begins with no `@`, where it is more than a `;`
 abbrev pub ruled_starts : List ℕ
-ruled_starts = dollars ++ just Owner ++ words ++ just Custom ++ comment_starts ++ raw_starts
+ruled_starts = dollars ++ just terminals.Owner ++ words ++ just terminals.Custom ++ comment_starts ++ raw_starts
 
 abbrev pub plain_starts : List ℕ
-plain_starts = just Semicolon ++ ruled_starts
+plain_starts = just terminals.Semicolon ++ ruled_starts
 
 abbrev pub load_starts : List ℕ
-load_starts = these (AtUse ∷ AtForward ∷ [])
+load_starts = these (terminals.AtUse ∷ terminals.AtForward ∷ [])
 
 abbrev pub member_starts : List ℕ
-member_starts = these (AtFunction ∷ AtMixin ∷ AtInclude ∷ AtContent ∷ [])
+member_starts = these (terminals.AtFunction ∷ terminals.AtMixin ∷ terminals.AtInclude ∷ terminals.AtContent ∷ [])
 
 abbrev pub flow_starts : List ℕ
-flow_starts = these (AtReturn ∷ AtWarn ∷ AtDebug ∷ AtError ∷ AtIf ∷ AtEach ∷ AtFor ∷ AtWhile ∷ [])
+flow_starts = these (terminals.AtReturn ∷ terminals.AtWarn ∷ terminals.AtDebug ∷ terminals.AtError ∷ terminals.AtIf ∷ terminals.AtEach ∷ terminals.AtFor ∷ terminals.AtWhile ∷ [])
 
 abbrev pub css_starts : List ℕ
-css_starts = these (AtMedia ∷ AtSupports ∷ AtRoot ∷ AtCharset ∷ AtImport ∷ AtExtend ∷ AtOther ∷ AtInsert ∷ [])
+css_starts = these (terminals.AtMedia ∷ terminals.AtSupports ∷ terminals.AtRoot ∷ terminals.AtCharset ∷ terminals.AtImport ∷ terminals.AtExtend ∷ terminals.AtOther ∷ terminals.AtInsert ∷ [])
 
 abbrev pub worded_starts : List ℕ
 worded_starts = load_starts ++ member_starts ++ flow_starts ++ css_starts
