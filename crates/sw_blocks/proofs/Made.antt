@@ -14,10 +14,11 @@ use Rattle.sw_syntax.specs.Sources.{span_between}
 use Rattle.sw_syntax.specs.Actions.{at_rule_of, to_at_rule, callable_of, to_callable, include_of, to_include, each_of, to_each, names_at}
 use Rattle.sw_statement_parts.specs.Rows.{text_in}
 use Rattle.sw_statement_heads.specs.declared.text.AtRuleHead.{AtRuleHead}
-use Rattle.sw_statement_heads.specs.declared.callable.CallableHead.{CallableHead}
-use Rattle.sw_statement_heads.specs.declared.include.IncludeHead.{IncludeHead}
+use Rattle.sw_callable_heads.specs.declared.callable.CallableHead.{CallableHead}
+use Rattle.sw_callable_heads.specs.declared.include.IncludeHead.{IncludeHead}
 use Rattle.sw_statement_heads.specs.declared.each.EachHead.{EachHead}
-use Rattle.sw_statement_heads.specs.Heads.{at_parts, params_in, callable_parts, arguments_parts, include_parts, each_parts}
+use Rattle.sw_statement_heads.specs.Heads.{at_parts, each_parts}
+use Rattle.sw_callable_heads.specs.Heads.{params_in, callable_parts, arguments_parts, include_parts}
 use Rattle.sw_blocks.specs.Rows.{block_in}
 use Rattle.sw_blocks.specs.Made.{written_params, mixin_with, content_in}
 

@@ -6,15 +6,15 @@ ghost use Rattle.sw_syntax.specs.Actions.{name_at, to_callable};
 ghost use Rattle.sw_syntax.specs.Statements.{function, mixin};
 ghost use Rattle.sw_syntax.specs.Reads.{reads, Reads};
 ghost use Rattle.sw_expr_inner.specs.Deeper.{Callable as CallableInner};
-ghost use Rattle.sw_statement_heads.specs.Heads.{callable_parts};
+ghost use Rattle.sw_callable_heads.specs.Heads.{callable_parts};
 ghost use Rattle.sw_blocks.specs.Inner.{ReadingInner};
 ghost use Rattle.sw_blocks.specs.Made.{written_params};
 
 use crate::block::headed_at;
 use std::alloc::Global;
+use sw_callable_heads::{CallableHead, function_head_at, mixin_head_at};
 use sw_expr_nodes::given_up;
 use sw_grammar::ReadError;
-use sw_statement_heads::{CallableHead, function_head_at, mixin_head_at};
 use sw_syntax::{Source, bytes_at, found, span_between};
 use sw_syntax_tree::{Callable, Kind, Params, Statement};
 use sw_text::{List, Memory, Name, Shared, Span};

@@ -14,10 +14,11 @@ use sw_blocks::{
     at_root_at, at_rule_at, declaration_at, each_at, for_at, function_at, if_at, include_at,
     media_at, mixin_at, rule_at, supports_at, while_at,
 };
+use sw_callable_heads::content_at;
 use sw_expr_nodes::{begins_word, is_dollar};
 use sw_grammar::ReadError;
 use sw_statement_heads::{
-    assigned_at, content_at, debug_at, error_at, forward_at, return_at, set_at, warn_at,
+    assigned_at, debug_at, error_at, forward_at, return_at, set_at, warn_at,
 };
 use sw_statement_parts::charset_at;
 use sw_syntax::{Source, is_at};
