@@ -1,17 +1,16 @@
-use Rattle.std.proofs.Common.{List, [], ◌∷◌, length, sym, ap, ◌∙◌, arith}
+use Rattle.std.proofs.Common.{length, sym, arith}
 use Rattle.std.proofs.lemmas.Result.{err_from_is_err_and}
-use Rattle.sw_grammar.specs.Grammar.{Answer, Got, group, anywhere}
+use Rattle.sw_grammar.specs.Grammar.{group, anywhere}
 use Rattle.sw_grammar.specs.declared.ReadError.TheVariants as ends
 use Rattle.sw_grammar.proofs.Loops.{read_act, fails_act, group_got, group_unclosed, group_fails}
 use Rattle.sw_terminals.specs.declared.terminal.Terminal.TheVariants as T
 use Rattle.sw_terminals.specs.Numbers.{just}
-use Rattle.sw_syntax_tree.specs.declared.statement.Statement.{Statement}
 use Rattle.sw_syntax.specs.Sources.{text_of}
 use Rattle.sw_syntax.specs.Table.{forms}
-use Rattle.sw_syntax.specs.Parts.{Part, Block, Blocks}
+use Rattle.sw_syntax.specs.Parts.{Block}
 use Rattle.sw_syntax.specs.Statements.{block}
 use Rattle.sw_syntax.specs.Actions.{to_block}
-use Rattle.sw_blocks.proofs.Collected.{statements_of_statements}
+use Rattle.sw_blocks.proofs.Collected.{block_read}
 use Rattle.sw_blocks.proofs.block.block_at.Goals as goal
 
 pub returns-in_err-list : goal.returns-in_err-list
@@ -31,5 +30,4 @@ pub returns : goal.returns
 unfolding block
 returns g c =
     let s = c.args.source.now in
-    read_act (forms s) (text_of s) (length s.lexemes.now) c.args.levels (anywhere to_block) (group (just T.Open) Block (just T.Close)) c.args.at _ _ (group_got (forms s) (text_of s) (length s.lexemes.now) c.args.levels (just T.Open) (just T.Close) Block c.args.at _ _ (omega arith) (sym c.if-not-is_at.ensures.test) c.in_ok-list.ensures (sym c.if-not-is_at-2.ensures.test))
-    ∙ ap (λ (xs : List Statement). let a : Answer Part = Got (Blocks xs ∷ []) _ in a) (statements_of_statements _)
+    block_read _ _ _ (read_act (forms s) (text_of s) (length s.lexemes.now) c.args.levels (anywhere to_block) (group (just T.Open) Block (just T.Close)) c.args.at _ _ (group_got (forms s) (text_of s) (length s.lexemes.now) c.args.levels (just T.Open) (just T.Close) Block c.args.at _ _ (omega arith) (sym c.if-not-is_at.ensures.test) c.in_ok-list.ensures (sym c.if-not-is_at-2.ensures.test)))
