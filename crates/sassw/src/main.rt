@@ -1,14 +1,14 @@
-//! The program `sassw`: a Sass compiler that answers a session of requests over standard input and output.
-//! Words and bytes flow in, replies flow out, and the status tells how the session ended.
+//! The program `sassw`: a Sass compiler for a session of requests over standard input and output, and for folders.
+//! Words, bytes and files flow in, replies and CSS flow out, and the status tells how it ended.
 #![tactic(auto)]
 
 mod words;
 
 use crate::words::words;
 use std::process::ExitCode;
+use sw_commands::run;
 use sw_eval::Evaluator;
-use sw_io::{StdSink, StdSource};
-use sw_session::run;
+use sw_io::{FolderDisk, StdSink, StdSource};
 
 fn main(rt: HostRuntime) -> ExitCode {
     let alloc = rt.alloc();
@@ -18,6 +18,14 @@ fn main(rt: HostRuntime) -> ExitCode {
     };
     let mut source = StdSource::new(rt.stdin());
     let mut sink = StdSink::new(rt.stdout());
+    let mut disk = FolderDisk::new(rt);
     let mut engine = Evaluator::new(alloc);
-    ExitCode::from(run(alloc, words.as_slice(), &mut source, &mut sink, &mut engine))
+    ExitCode::from(run(
+        alloc,
+        words.as_slice(),
+        &mut source,
+        &mut sink,
+        &mut disk,
+        &mut engine,
+    ))
 }

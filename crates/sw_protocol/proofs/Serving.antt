@@ -8,9 +8,9 @@ use Rattle.sw_protocol.specs.declared.stop.Stop.{Stop}
 use Rattle.sw_protocol.specs.declared.stop.Stop.TheVariants.{Ended, Wrong, CutOff, SourceFailed, SinkFailed, Memory, OutsideFailed, Over as Over_stop}
 use Rattle.sw_protocol.specs.Script.{Next, Whole, Closing, NoRequest, Short, Ending, End, Bad, Over, Cut, Grammar, next, last, Script, script, script_by, behind, behind_by}
 use Rattle.sw_protocol.specs.Protocol.{Protocol, Turn}
-use Rattle.sw_protocol.specs.Transcript.{AreMarks, turns, text, ran_in, held_after}
+use Rattle.sw_protocol.specs.Transcript.{AreMarks, AreSaid, turns, text, ran_in, held_after}
 use Rattle.sw_protocol.specs.Turns.{Place, place, Uses, Standing, Does, Answers, Breaks, Leaves, TurnEnds, LastEnds}
-use Rattle.sw_protocol.specs.Served.{Surroundings, surroundings, Served, EndsIn, Did, Tells, LeavesOff, TellsBy}
+use Rattle.sw_protocol.specs.Served.{Surroundings, surroundings, Served, EndsIn, Did, Tells, LeavesOff, TellsBy, AllButLast, SaidBy}
 use Rattle.sw_protocol.proofs.Writing.{appends_none, appends_on}
 
 -- scripts
@@ -68,6 +68,11 @@ module _ {Event Mark Held Reply : Type 0} (p : Protocol Event Mark Held Reply) w
   no_marks h [] = tt
   no_marks h (event ∷ events) = tt
 
+  no_said : (h : Held) (events : List Event) → AreSaid p h events []
+  unfolding AreSaid
+  no_said h [] = tt
+  no_said h (event ∷ events) = tt
+
   first_turn : (h : Held) (event : Event) (events : List Event) (mark : Mark) (later : List Mark)
       → turns p h (event ∷ events) (mark ∷ later) ≡ p.turn_of h event mark ∷ turns p (p.turn_of h event mark).held events later
   unfolding turns
@@ -77,6 +82,11 @@ module _ {Event Mark Held Reply : Type 0} (p : Protocol Event Mark Held Reply) w
       → p.IsMark h event mark → AreMarks p (p.turn_of h event mark).held events later → AreMarks p h (event ∷ events) (mark ∷ later)
   unfolding AreMarks
   first_mark h event events mark later m l = (m, l)
+
+  first_said : (h : Held) (event : Event) (events : List Event) (mark : Mark) (later : List Mark)
+      → p.IsSaid h event mark → AreSaid p (p.turn_of h event mark).held events later → AreSaid p h (event ∷ events) (mark ∷ later)
+  unfolding AreSaid
+  first_said h event events mark later m l = (m, l)
 
   -- the turns and the marks of a request and of what follows it
   turns_on : (n : ℕ) (h : Held) (event : Event) (mark : Mark) (later : List Mark) (used rest : List ℕ) → next p.grammar (used ++ rest) ≡ Whole event rest
@@ -88,6 +98,11 @@ module _ {Event Mark Held Reply : Type 0} (p : Protocol Event Mark Held Reply) w
       → p.IsMark h event mark → AreMarks p (p.turn_of h event mark).held (script p.grammar n rest).events later → AreMarks p h (script p.grammar (suc n) (used ++ rest)).events (mark ∷ later)
   marks_on n h event mark later used rest w m l =
       subst (λ (x : Script Event). AreMarks p h x.events (mark ∷ later)) (sym (script_next p.grammar n (used ++ rest) (Whole event rest) w)) (first_mark h event (script p.grammar n rest).events mark later m l)
+
+  said_on : (n : ℕ) (h : Held) (event : Event) (mark : Mark) (later : List Mark) (used rest : List ℕ) → next p.grammar (used ++ rest) ≡ Whole event rest
+      → p.IsSaid h event mark → AreSaid p (p.turn_of h event mark).held (script p.grammar n rest).events later → AreSaid p h (script p.grammar (suc n) (used ++ rest)).events (mark ∷ later)
+  said_on n h event mark later used rest w m l =
+      subst (λ (x : Script Event). AreSaid p h x.events (mark ∷ later)) (sym (script_next p.grammar n (used ++ rest) (Whole event rest) w)) (first_said h event (script p.grammar n rest).events mark later m l)
 
 -- from one place to another some requests were carried out and answered whole, and so many more may come; whatever bytes and marks
 -- follow, the turns of all are those done and those of the rest
@@ -103,6 +118,8 @@ pub record Going {Event Mark Held Reply : Type 0} (p : Protocol Event Mark Held 
       → turns p start.held (script p.grammar most (used ++ rest)).events (marks ++ later) ≡ done ++ turns p s.held (script p.grammar n rest).events later
   pub marked : (rest : List ℕ) (later : List Mark) → AreMarks p s.held (script p.grammar n rest).events later
       → AreMarks p start.held (script p.grammar most (used ++ rest)).events (marks ++ later)
+  pub said : (rest : List ℕ) (later : List Mark) → AreSaid p s.held (script p.grammar n rest).events later
+      → AreSaid p start.held (script p.grammar most (used ++ rest)).events (marks ++ later)
   pub each : (rest : List ℕ) → length (script p.grammar most (used ++ rest)).events ≡ length marks + length (script p.grammar n rest).events
   pub ending : (rest : List ℕ) → (script p.grammar most (used ++ rest)).ending ≡ (script p.grammar n rest).ending
   pub behind : (k : ℕ) (rest : List ℕ) → behind p.grammar (length done + k) (used ++ rest) ≡ behind p.grammar k rest
@@ -135,6 +152,7 @@ module _ {Event Mark Held Reply : Type 0} (p : Protocol Event Mark Held Reply) (
     holds = refl;
     all = λ rest later. refl;
     marked = λ rest later m. m;
+    said = λ rest later m. m;
     each = λ rest. sym (zero-add (length (script p.grammar most rest).events));
     ending = λ rest. refl;
     behind = λ k rest. ap (λ i. behind p.grammar i rest) (zero-add k);
@@ -166,6 +184,13 @@ module _ {Event Mark Held Reply : Type 0} (p : Protocol Event Mark Held Reply) (
         (marks_on p n s.held event d.mark later used rest (w rest) d.is_mark
         (subst (λ (h : Held). AreMarks p h (script p.grammar n rest).events later) d.held m)))
 
+    more_said : p.IsSaid s.held event d.mark → (rest : List ℕ) (later : List Mark) → AreSaid p t.held (script p.grammar n rest).events later
+        → AreSaid p start.held (script p.grammar most ((g.used ++ used) ++ rest)).events ((g.marks ++ d.mark ∷ []) ++ later)
+    more_said is rest later m = rw (append_assoc g.used used rest, append_assoc g.marks (d.mark ∷ []) later)
+        (g.said (used ++ rest) (d.mark ∷ later)
+        (said_on p n s.held event d.mark later used rest (w rest) is
+        (subst (λ (h : Held). AreSaid p h (script p.grammar n rest).events later) d.held m)))
+
     more_behind : (k : ℕ) (rest : List ℕ) → behind p.grammar (length (g.done ++ turn_done ∷ []) + k) ((g.used ++ used) ++ rest) ≡ behind p.grammar k rest
     more_behind k rest = rw (append_assoc g.used used rest)
         (ap (λ i. behind p.grammar i (g.used ++ (used ++ rest))) (longer (length g.done) k _ (length_push g.done turn_done))
@@ -183,6 +208,16 @@ module _ {Event Mark Held Reply : Type 0} (p : Protocol Event Mark Held Reply) (
     last_marked : (ahead : List ℕ) → AreMarks p start.held (script p.grammar most ((g.used ++ used) ++ ahead)).events (g.marks ++ d.mark ∷ [])
     last_marked ahead =
         subst (AreMarks p start.held (script p.grammar most ((g.used ++ used) ++ ahead)).events) (append-nil (g.marks ++ d.mark ∷ [])) (more_marked ahead [] (no_marks p t.held (script p.grammar n ahead).events))
+
+    -- the requests before the last one were answered
+    last_said : (ahead : List ℕ) → AllButLast p start.held (script p.grammar most ((g.used ++ used) ++ ahead)).events (g.marks ++ d.mark ∷ [])
+    last_said ahead = record {
+      firsts = g.marks;
+      last = d.mark;
+      order = refl;
+      said = subst (AreSaid p start.held (script p.grammar most ((g.used ++ used) ++ ahead)).events) (append-nil g.marks)
+          (rw (append_assoc g.used used ahead) (g.said (used ++ ahead) [] (no_said p s.held (script p.grammar (suc n) (used ++ ahead)).events)));
+    }
 
     last_did : (ahead : List ℕ) (old_at new_at : Place)
         → Did (turns p start.held (script p.grammar most ((g.used ++ used) ++ ahead)).events (g.marks ++ d.mark ∷ [])) (around old_at start) (around new_at t)
@@ -207,6 +242,7 @@ module _ {Event Mark Held Reply : Type 0} (p : Protocol Event Mark Held Reply) (
         holds = more_holds n s t old mid g a.takes.used a.event a.takes.whole a.says.does;
         all = more_all n s t old mid g a.takes.used a.event a.takes.whole a.says.does;
         marked = more_marked n s t old mid g a.takes.used a.event a.takes.whole a.says.does;
+        said = more_said n s t old mid g a.takes.used a.event a.takes.whole a.says.does a.says.said;
         each = λ rest. rw (append_assoc g.used a.takes.used rest)
             (count (length g.marks) _ _ _ _ (g.each (a.takes.used ++ rest)) (events_on p.grammar n a.takes.used rest a.event (a.takes.whole rest)) (length_push g.marks a.says.does.mark));
         ending = λ rest. rw (append_assoc g.used a.takes.used rest)
@@ -224,10 +260,14 @@ module _ {Event Mark Held Reply : Type 0} (p : Protocol Event Mark Held Reply) (
     none_order = rw (append_assoc g.used used new.ahead)
         (g.all (used ++ new.ahead) [] ∙ ap (λ x. g.done ++ x) (no_turns p s.held (script p.grammar n (used ++ new.ahead)).events) ∙ append-nil g.done)
 
+    none_said : AreSaid p start.held (script p.grammar most ((g.used ++ used) ++ new.ahead)).events (g.marks ++ [])
+    none_said = rw (append_assoc g.used used new.ahead) (g.said (used ++ new.ahead) [] (no_said p s.held (script p.grammar n (used ++ new.ahead)).events))
+
     none_served : (stop : Stop) → EndsIn stop (script p.grammar most ((g.used ++ used) ++ new.ahead)).ending new.left
+        → SaidBy p stop start.held (script p.grammar most ((g.used ++ used) ++ new.ahead)).events (g.marks ++ [])
         → TellsBy p stop (script p.grammar most ((g.used ++ used) ++ new.ahead)).events (g.marks ++ []) (turns p start.held (script p.grammar most ((g.used ++ used) ++ new.ahead)).events (g.marks ++ [])) ((g.used ++ used) ++ new.ahead) (text g.done ++ [])
         → Served p most stop (around old start) (around new t)
-    none_served stop ends tells = record {
+    none_served stop ends said tells = record {
       taken = (g.used ++ used) ++ new.ahead;
       marks = g.marks ++ [];
       out = text g.done ++ [];
@@ -235,6 +275,7 @@ module _ {Event Mark Held Reply : Type 0} (p : Protocol Event Mark Held Reply) (
       sink = appends_on _ _ _ (text g.done) [] g.sends a;
       ending = ends;
       marked = rw (append_assoc g.used used new.ahead) (g.marked (used ++ new.ahead) [] (no_marks p s.held (script p.grammar n (used ++ new.ahead)).events));
+      said = said;
       did = record {
         ran = ap (λ (x : Standing Held). x.ran) r ∙ g.runs ∙ ap (λ x. start.ran ++ ran_in x) (sym none_order);
         held = ap (λ (x : Standing Held). x.held) r ∙ g.holds ∙ ap (held_after start.held) (sym none_order);
@@ -248,10 +289,12 @@ module _ {Event Mark Held Reply : Type 0} (p : Protocol Event Mark Held Reply) (
     -- the rest of the script has no request
     closes : (stop : Stop) (ending : Ending) → script p.grammar n (used ++ new.ahead) ≡ record { events = []; ending = ending }
         → EndsIn stop ending new.left
+        → ((h : Held) (events : List Event) (marks : List Mark) → AreSaid p h events marks → SaidBy p stop h events marks)
         → ((events : List Event) (marks : List Mark) (done : List (Turn Held Reply)) (taken out : List ℕ) → Tells events marks done out → TellsBy p stop events marks done taken out)
         → Served p most stop (around old start) (around new t)
-    closes stop ending is ends tells = none_served stop
+    closes stop ending is ends said tells = none_served stop
         (rw (append_assoc g.used used new.ahead, g.ending (used ++ new.ahead), is) ends)
+        (said _ _ _ none_said)
         (tells _ _ _ _ _ (record {
           each = rw (append_assoc g.used used new.ahead) (counted g.marks _ _ (g.each (used ++ new.ahead)) (ap (λ (x : Script Event). length x.events) is));
           written = none_written;
@@ -259,7 +302,7 @@ module _ {Event Mark Held Reply : Type 0} (p : Protocol Event Mark Held Reply) (
 
     -- want of memory: what was answered stays whole
     forgets : Served p most Memory (around old start) (around new t)
-    forgets = none_served Memory tt (inl none_written)
+    forgets = none_served Memory tt (inl none_said) (inl none_written)
 
   breaks_off : (n : ℕ) (s t : Standing Held) (old mid new : Place) → old.ahead ≡ [] → Going p most start (suc n) s old mid → Breaks (next p.grammar) p mid s new t
       → Served p most SinkFailed (around old start) (around new t)
@@ -271,6 +314,7 @@ module _ {Event Mark Held Reply : Type 0} (p : Protocol Event Mark Held Reply) (
     sink = appends_on _ _ _ (text g.done) b.says.front g.sends b.says.sends;
     ending = tt;
     marked = last_marked n s t old mid g b.takes.used b.event b.takes.whole b.says.does new.ahead;
+    said = last_said n s t old mid g b.takes.used b.event b.takes.whole b.says.does new.ahead;
     did = last_did n s t old mid g b.takes.used b.event b.takes.whole b.says.does new.ahead old new;
     tells = record {
       whole = g.done;
@@ -286,10 +330,11 @@ module _ {Event Mark Held Reply : Type 0} (p : Protocol Event Mark Held Reply) (
 
   module _ (n : ℕ) (s t : Standing Held) (old mid new : Place) (e : old.ahead ≡ []) (g : Going p most start (suc n) s old mid) where
     left_served : (stop : Stop) (b : Leaves stop (next p.grammar) p mid s new t) → EndsIn stop (script p.grammar most ((g.used ++ b.takes.used) ++ new.ahead)).ending new.left
+        → ((h : Held) (events : List Event) (marks : List Mark) → AllButLast p h events marks → SaidBy p stop h events marks)
         → (LeavesOff p stop (g.marks ++ b.says.does.mark ∷ []) (turns p start.held (script p.grammar most ((g.used ++ b.takes.used) ++ new.ahead)).events (g.marks ++ b.says.does.mark ∷ [])) (text g.done ++ [])
         → TellsBy p stop (script p.grammar most ((g.used ++ b.takes.used) ++ new.ahead)).events (g.marks ++ b.says.does.mark ∷ []) (turns p start.held (script p.grammar most ((g.used ++ b.takes.used) ++ new.ahead)).events (g.marks ++ b.says.does.mark ∷ [])) ((g.used ++ b.takes.used) ++ new.ahead) (text g.done ++ []))
         → Served p most stop (around old start) (around new t)
-    left_served stop b ends tells = record {
+    left_served stop b ends said tells = record {
       taken = (g.used ++ b.takes.used) ++ new.ahead;
       marks = g.marks ++ b.says.does.mark ∷ [];
       out = text g.done ++ [];
@@ -297,6 +342,7 @@ module _ {Event Mark Held Reply : Type 0} (p : Protocol Event Mark Held Reply) (
       sink = appends_on _ _ _ (text g.done) [] g.sends b.says.sends;
       ending = ends;
       marked = last_marked n s t old mid g b.takes.used b.event b.takes.whole b.says.does new.ahead;
+      said = said _ _ _ (last_said n s t old mid g b.takes.used b.event b.takes.whole b.says.does new.ahead);
       did = last_did n s t old mid g b.takes.used b.event b.takes.whole b.says.does new.ahead old new;
       tells = tells (record {
         said = g.marks;
@@ -311,30 +357,30 @@ module _ {Event Mark Held Reply : Type 0} (p : Protocol Event Mark Held Reply) (
     }
 
     pub turn_ends : (stop : Stop) → TurnEnds (next p.grammar) p stop mid s new t → Served p most stop (around old start) (around new t)
-    turn_ends Ended (f, r) = closes (suc n) s t old mid new f.used e g f.uses f.sends r Ended End (script_next p.grammar n (f.used ++ new.ahead) Closing (f.means new.ahead)) refl (λ events marks done taken out w. w)
-    turn_ends Wrong (f, r) = closes (suc n) s t old mid new f.used e g f.uses f.sends r Wrong Bad (script_next p.grammar n (f.used ++ new.ahead) NoRequest (f.means new.ahead)) refl (λ events marks done taken out w. w)
+    turn_ends Ended (f, r) = closes (suc n) s t old mid new f.used e g f.uses f.sends r Ended End (script_next p.grammar n (f.used ++ new.ahead) Closing (f.means new.ahead)) refl (λ h events marks w. w) (λ events marks done taken out w. w)
+    turn_ends Wrong (f, r) = closes (suc n) s t old mid new f.used e g f.uses f.sends r Wrong Bad (script_next p.grammar n (f.used ++ new.ahead) NoRequest (f.means new.ahead)) refl (λ h events marks w. w) (λ events marks done taken out w. w)
     turn_ends CutOff (f, z, r) =
-        closes (suc n) s t old mid new f.used e g f.uses f.sends r CutOff Cut (script_next p.grammar n (f.used ++ new.ahead) Short (ap (next p.grammar) (drained f.used new.ahead f.none) ∙ f.means)) (refl, z) (λ events marks done taken out w. w)
+        closes (suc n) s t old mid new f.used e g f.uses f.sends r CutOff Cut (script_next p.grammar n (f.used ++ new.ahead) Short (ap (next p.grammar) (drained f.used new.ahead f.none) ∙ f.means)) (refl, z) (λ h events marks w. w) (λ events marks done taken out w. w)
     turn_ends SourceFailed (f, r) =
-        closes (suc n) s t old mid new f.used e g f.uses f.sends r SourceFailed Cut (script_next p.grammar n (f.used ++ new.ahead) Short (ap (next p.grammar) (drained f.used new.ahead f.none) ∙ f.means)) refl (λ events marks done taken out w. w)
+        closes (suc n) s t old mid new f.used e g f.uses f.sends r SourceFailed Cut (script_next p.grammar n (f.used ++ new.ahead) Short (ap (next p.grammar) (drained f.used new.ahead f.none) ∙ f.means)) refl (λ h events marks w. w) (λ events marks done taken out w. w)
     turn_ends SinkFailed b = breaks_off n s t old mid new e g b
     turn_ends Memory (inl (f, r)) = forgets (suc n) s t old mid new f.used e g f.uses f.sends r
-    turn_ends Memory (inr b) = left_served Memory b tt (λ x. inr x)
-    turn_ends OutsideFailed b = left_served OutsideFailed b tt (λ x. x)
+    turn_ends Memory (inr b) = left_served Memory b tt (λ h events marks x. inr x) (λ x. inr x)
+    turn_ends OutsideFailed b = left_served OutsideFailed b tt (λ h events marks x. x) (λ x. x)
     turn_ends Over_stop x = absurd x
 
   module _ (s : Standing Held) (old mid new : Place) (e : old.ahead ≡ []) (g : Going p most start zero s old mid) where
     pub last_ends : (stop : Stop) → LastEnds p.grammar stop mid new → Served p most stop (around old start) (around new s)
-    last_ends Ended f = closes zero s s old mid new f.used e g f.uses f.sends refl Ended End (script_last p.grammar (f.used ++ new.ahead) End (f.means new.ahead)) refl (λ events marks done taken out w. w)
-    last_ends Wrong f = closes zero s s old mid new f.used e g f.uses f.sends refl Wrong Bad (script_last p.grammar (f.used ++ new.ahead) Bad (f.means new.ahead)) refl (λ events marks done taken out w. w)
+    last_ends Ended f = closes zero s s old mid new f.used e g f.uses f.sends refl Ended End (script_last p.grammar (f.used ++ new.ahead) End (f.means new.ahead)) refl (λ h events marks w. w) (λ events marks done taken out w. w)
+    last_ends Wrong f = closes zero s s old mid new f.used e g f.uses f.sends refl Wrong Bad (script_last p.grammar (f.used ++ new.ahead) Bad (f.means new.ahead)) refl (λ h events marks w. w) (λ events marks done taken out w. w)
     last_ends CutOff (f, z) =
-        closes zero s s old mid new f.used e g f.uses f.sends refl CutOff Cut (script_last p.grammar (f.used ++ new.ahead) Cut (ap (last p.grammar) (drained f.used new.ahead f.none) ∙ f.means)) (refl, z) (λ events marks done taken out w. w)
+        closes zero s s old mid new f.used e g f.uses f.sends refl CutOff Cut (script_last p.grammar (f.used ++ new.ahead) Cut (ap (last p.grammar) (drained f.used new.ahead f.none) ∙ f.means)) (refl, z) (λ h events marks w. w) (λ events marks done taken out w. w)
     last_ends SourceFailed f =
-        closes zero s s old mid new f.used e g f.uses f.sends refl SourceFailed Cut (script_last p.grammar (f.used ++ new.ahead) Cut (ap (last p.grammar) (drained f.used new.ahead f.none) ∙ f.means)) refl (λ events marks done taken out w. w)
+        closes zero s s old mid new f.used e g f.uses f.sends refl SourceFailed Cut (script_last p.grammar (f.used ++ new.ahead) Cut (ap (last p.grammar) (drained f.used new.ahead f.none) ∙ f.means)) refl (λ h events marks w. w) (λ events marks done taken out w. w)
     last_ends SinkFailed f = absurd f
     last_ends Memory f = forgets zero s s old mid new f.used e g f.uses f.sends refl
     last_ends OutsideFailed f = absurd f
-    last_ends Over_stop f = closes zero s s old mid new f.used e g f.uses f.sends refl Over_stop Over (script_last p.grammar (f.used ++ new.ahead) Over (f.means new.ahead)) refl (λ events marks done taken out w. w)
+    last_ends Over_stop f = closes zero s s old mid new f.used e g f.uses f.sends refl Over_stop Over (script_last p.grammar (f.used ++ new.ahead) Over (f.means new.ahead)) refl (λ h events marks w. w) (λ events marks done taken out w. w)
 
   -- nothing was begun
   pub no_lines : (left written : Option (List ℕ)) → Served p most Memory (surroundings left written start.held start.ran) (surroundings left written start.held start.ran)

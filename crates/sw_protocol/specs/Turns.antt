@@ -41,6 +41,7 @@ pub record Does {Event Mark Held Reply : Type 0} (p : Protocol Event Mark Held R
 pub record Says {Event Mark Held Reply : Type 0} (p : Protocol Event Mark Held Reply) (event : Event)
     (before after : Standing Held) (written now : Option (List ℕ)) : Type 0 where
   pub does : Does p event before after
+  pub said : p.IsSaid before.held event does.mark
   pub sends : Appends written now (p.turn_of before.held event does.mark).text
 
 -- a request was carried out, and a front of its reply was written

@@ -112,6 +112,7 @@ module _ (setting : Setting) (event : Event) (mark : Mark) (before after : Stand
   says : (written now : Option (List ℕ)) (reply : List ℕ) → reply ≡ turn.text → Appends written now reply → Says (session setting) event before after written now
   says written now reply e a = record {
     does = does;
+    said = tt;
     sends = subst (λ (x : List ℕ). Appends written now x) (e ∙ ap (λ (x : Turn Held Reply). x.text) (sym is)) a;
   }
 

@@ -1,0 +1,5 @@
+pub mod Once
+pub mod Poll
+pub mod Watched
+pub mod Served
+pub mod Run

@@ -1,0 +1,71 @@
+-- What one compile of a disk's folder gives, by how it ended. This project's own rule.
+use Rattle.std.specs.Prelude.{◌≡◌, ℕ, List, [], ◌++◌, Option}
+use Rattle.std.specs.Io.KnownBytes.{Appends}
+use Rattle.sw_text.specs.declared.fault.Fault.{Fault}
+use Rattle.sw_io.specs.Disks.{Course}
+use Rattle.sw_folder.specs.Files.{Files}
+use Rattle.sw_folders.specs.Held.{IsRead, IsBrokenOff}
+use Rattle.sw_command_line.specs.Forms.{Target}
+use Rattle.sw_modules.specs.Fresh.{Setting}
+use Rattle.sw_record.specs.declared.reply.Cause.{Cause}
+use Rattle.sw_record.specs.declared.reply.Outcome.{Outcome}
+use Rattle.sw_record.specs.declared.reply.Outcome.TheVariants.{Css, Error}
+use Rattle.sw_record.specs.Ran.{Ran}
+use Rattle.sw_keeper.specs.Compile.{compiled, paths_of}
+use Rattle.sw_wire.specs.Replies.{fault_text}
+use Rattle.sw_commands.specs.declared.ending.Ending.{Ending}
+use Rattle.sw_commands.specs.declared.ending.Ending.TheVariants.{Css as Css_end, Error as Error_end, SinkFailed, Memory, DiskFailed}
+
+-- what is around a compile: what the disk tells of the folder, the bytes written, and the paths of the bodies that ran
+pub record Surroundings : Type 0 where
+  pub course : Option Course
+  pub written : Option (List ℕ)
+  pub ran : List (List ℕ)
+
+abbrev pub surroundings : Option Course → Option (List ℕ) → List (List ℕ) → Surroundings
+surroundings course written ran = record { course = course; written = written; ran = ran }
+
+abbrev pub status_of : Ending → ℕ
+status_of Css_end = 0
+status_of Error_end = 1
+status_of SinkFailed = 5
+status_of Memory = 6
+status_of DiskFailed = 8
+
+-- the CSS alone, or the line of the fault
+abbrev pub text_of : Outcome → List ℕ
+text_of (Css bytes) = bytes
+text_of (Error fault) = fault_text fault
+
+-- the folder was read, and its evaluation from nothing has this outcome; the bodies of all its runs ran
+pub record Compiles (setting : Setting) (target : Target) (outcome : Outcome) (old new : Surroundings) : Type 0 where
+  pub folder : Files
+  pub read : IsRead old.course new.course folder
+  pub outcome_is : outcome ≡ (compiled setting folder target.paths target.entry []).outcome
+  pub bodies : List (List ℕ × Cause)
+  pub are : Ran [] (compiled setting folder target.paths target.entry []).runs bodies
+  pub told : new.ran ≡ old.ran ++ paths_of bodies
+
+-- a front of what is to be written was written
+pub record Breaks (setting : Setting) (target : Target) (old new : Surroundings) : Type 0 where
+  pub outcome : Outcome
+  pub compiles : Compiles setting target outcome old new
+  pub front : List ℕ
+  pub back : List ℕ
+  pub parts : text_of outcome ≡ front ++ back
+  pub sends : Appends old.written new.written front
+
+-- nothing was written
+pub record Forgets (old new : Surroundings) : Type 0 where
+  pub read : IsBrokenOff old.course new.course
+  pub sends : Appends old.written new.written []
+
+-- what was done, by how it ended
+abbrev pub EndsBy : Ending → Setting → Target → Surroundings → Surroundings → Type 0
+EndsBy Css_end setting target old new =
+    (bytes : List ℕ) × Compiles setting target (Css bytes) old new × Appends old.written new.written bytes
+EndsBy Error_end setting target old new =
+    (fault : Fault) × Compiles setting target (Error fault) old new × Appends old.written new.written (fault_text fault)
+EndsBy SinkFailed setting target old new = Breaks setting target old new
+EndsBy Memory setting target old new = Forgets old new
+EndsBy DiskFailed setting target old new = Forgets old new × (new.ran ≡ old.ran)

@@ -1,0 +1,76 @@
+// One compile of a disk's folder.
+ghost use Rattle.std.specs.Prelude.{◌≡◌, ◌++◌, IfOk};
+ghost use Rattle.sw_io.specs.Causes.{Rose};
+ghost use Rattle.sw_wire.specs.Replies.{fault_text};
+ghost use Rattle.sw_command_line.specs.Forms.{target_seen};
+ghost use Rattle.sw_session.specs.Sheets.{hostless};
+ghost use Rattle.sw_commands.specs.Once.{surroundings, EndsBy, text_of};
+
+use crate::Ending;
+use crate::watched::Watched;
+use std::alloc::Global;
+use sw_command_line::Target;
+use sw_folders::read_folder;
+use sw_io::{Disk, DiskEnd, Sink};
+use sw_protocol::send;
+use sw_record::{Outcome, Reply};
+use sw_text::{Fault, List, Memory};
+use sw_wire::write_reply;
+use sw_world::Engine;
+
+/// Reads the folder, compiles the entry, and writes the CSS bytes alone or the one line `error CODE PATH L:C L:C`;
+/// tells how that ended. The sink is flushed. Where no memory is found or the disk fails, nothing is written.
+pub fn once<K: Sink, D: Disk, E: Engine>(
+    alloc: Global,
+    target: &Target<'_>,
+    sink: &mut K,
+    disk: &mut D,
+    engine: &mut E,
+) -> Ending
+    ensures ends { EndsBy result (hostless E.body) (target_seen target.now)
+        (surroundings (D.course disk.old target.now.dir.now) (K.written sink.old) (E.ran engine.old))
+        (surroundings (D.course disk.new target.now.dir.now) (K.written sink.new) (E.ran engine.new)) }
+    ensures sink_fault { result ≡ Ending.SinkFailed → Rose (K.faults sink.old) (K.faults sink.new) }
+    ensures disk_fault { result ≡ Ending.DiskFailed → Rose (D.faults disk.old) (D.faults disk.new) }
+{
+    let mut watched = Watched::<E>::new(alloc);
+    match read_folder(alloc, disk, target.dir.as_str(), &mut watched) {
+        Err(DiskEnd::Failed) => Ending::DiskFailed,
+        Err(DiskEnd::Memory) => Ending::Memory,
+        Ok(()) => match watched.compile(target.entry, target.paths, engine) {
+            Err(Memory) => Ending::Memory,
+            Ok(reply) => write_outcome(alloc, reply.outcome, sink),
+        },
+    }
+}
+
+fn write_outcome<K: Sink>(alloc: Global, outcome: Outcome, sink: &mut K) -> Ending {
+    match outcome {
+        Outcome::Css(bytes) => write_whole(bytes.as_slice(), Ending::Css, sink),
+        Outcome::Error(fault) => match fault_line(alloc, fault) {
+            Err(Memory) => Ending::Memory,
+            Ok(line) => write_whole(&line, Ending::Error, sink),
+        },
+    }
+}
+
+fn write_whole<K: Sink>(text: &[u8], ending: Ending, sink: &mut K) -> Ending {
+    match send(sink, text) {
+        Ok(()) => ending,
+        Err(_) => Ending::SinkFailed,
+    }
+}
+
+// The line of a fault: a reply to a compile that says nothing else.
+fn fault_line(alloc: Global, fault: Fault) -> Result<Vec<u8>, Memory>
+    ensures { IfOk result (λ line. line.items ≡ fault_text fault) }
+{
+    let reply = Reply {
+        says: List::new(alloc),
+        ran: List::new(alloc),
+        outcome: Outcome::Error(fault),
+    };
+    let mut line = Vec::new(alloc);
+    write_reply(alloc, &reply, &mut line)?;
+    Ok(line)
+}
