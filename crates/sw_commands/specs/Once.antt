@@ -60,6 +60,21 @@ pub record Forgets (old new : Surroundings) : Type 0 where
   pub read : IsBrokenOff old.course new.course
   pub sends : Appends old.written new.written []
 
+-- a front of these bytes was written
+abbrev pub WritesFront : List ℕ → Option (List ℕ) → Option (List ℕ) → Type 0
+WritesFront text written now =
+    (front : List ℕ) × (back : List ℕ) × (text ≡ front ++ back) × Appends written now front
+
+-- what is written of an outcome, by how that ends
+abbrev pub WritesBy : Ending → Outcome → Option (List ℕ) → Option (List ℕ) → Type 0
+WritesBy Css_end (Css bytes) written now = Appends written now bytes
+WritesBy Css_end (Error fault) written now = ⊥
+WritesBy Error_end (Css bytes) written now = ⊥
+WritesBy Error_end (Error fault) written now = Appends written now (fault_text fault)
+WritesBy SinkFailed outcome written now = WritesFront (text_of outcome) written now
+WritesBy Memory outcome written now = Appends written now []
+WritesBy DiskFailed outcome written now = ⊥
+
 -- what was done, by how it ended
 abbrev pub EndsBy : Ending → Setting → Target → Surroundings → Surroundings → Type 0
 EndsBy Css_end setting target old new =

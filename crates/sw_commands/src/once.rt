@@ -1,10 +1,10 @@
 // One compile of a disk's folder.
-ghost use Rattle.std.specs.Prelude.{◌≡◌, ◌++◌, IfOk};
+ghost use Rattle.std.specs.Prelude.{◌≡◌, IfOk};
 ghost use Rattle.sw_io.specs.Causes.{Rose};
 ghost use Rattle.sw_wire.specs.Replies.{fault_text};
 ghost use Rattle.sw_command_line.specs.Forms.{target_seen};
 ghost use Rattle.sw_session.specs.Sheets.{hostless};
-ghost use Rattle.sw_commands.specs.Once.{surroundings, EndsBy, text_of};
+ghost use Rattle.sw_commands.specs.Once.{surroundings, EndsBy, WritesBy};
 
 use crate::Ending;
 use crate::watched::Watched;
@@ -44,20 +44,23 @@ pub fn once<K: Sink, D: Disk, E: Engine>(
     }
 }
 
-fn write_outcome<K: Sink>(alloc: Global, outcome: Outcome, sink: &mut K) -> Ending {
+// What is written of an outcome, and how that ends.
+fn write_outcome<K: Sink>(alloc: Global, outcome: Outcome, sink: &mut K) -> Ending
+    ensures ends { WritesBy result outcome (K.written sink.old) (K.written sink.new) }
+    ensures fault { result ≡ Ending.SinkFailed → Rose (K.faults sink.old) (K.faults sink.new) }
+{
     match outcome {
-        Outcome::Css(bytes) => write_whole(bytes.as_slice(), Ending::Css, sink),
+        Outcome::Css(bytes) => match send(sink, bytes.as_slice()) {
+            Ok(()) => Ending::Css,
+            Err(_) => Ending::SinkFailed,
+        },
         Outcome::Error(fault) => match fault_line(alloc, fault) {
             Err(Memory) => Ending::Memory,
-            Ok(line) => write_whole(&line, Ending::Error, sink),
+            Ok(line) => match send(sink, &line) {
+                Ok(()) => Ending::Error,
+                Err(_) => Ending::SinkFailed,
+            },
         },
-    }
-}
-
-fn write_whole<K: Sink>(text: &[u8], ending: Ending, sink: &mut K) -> Ending {
-    match send(sink, text) {
-        Ok(()) => ending,
-        Err(_) => Ending::SinkFailed,
     }
 }
 

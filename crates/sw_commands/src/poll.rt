@@ -1,5 +1,5 @@
 // What a poll does at each line.
-ghost use Rattle.std.specs.Prelude.{◌≡◌};
+ghost use Rattle.std.specs.Prelude.{◌≡◌, bytes_eq, codes};
 
 use crate::scan::scan;
 use crate::watched::Watched;
@@ -49,7 +49,14 @@ impl<'t, E: Engine, D: Disk> Protocol<E, D> for Poll<'t, E> {
     ) -> Result<(), Stop> {
         let _ = source;
         if is_scan(&lines.line) {
-            scan(self, sink, engine, disk)
+            scan(
+                self.alloc,
+                &self.target,
+                &mut self.watched,
+                sink,
+                engine,
+                disk,
+            )
         } else if is_end(&lines.line) {
             Err(Stop::Ended)
         } else {
@@ -68,10 +75,14 @@ impl<'t, E: Engine, D: Disk> Protocol<E, D> for Poll<'t, E> {
     }
 }
 
-fn is_scan(line: &[u8]) -> bool {
+fn is_scan(line: &[u8]) -> bool
+    ensures { result ≡ bytes_eq line.now (codes "scan") }
+{
     line == b"scan".as_slice()
 }
 
-fn is_end(line: &[u8]) -> bool {
+fn is_end(line: &[u8]) -> bool
+    ensures { result ≡ bytes_eq line.now (codes "end") }
+{
     line == b"end".as_slice()
 }

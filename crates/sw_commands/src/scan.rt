@@ -1,6 +1,18 @@
 // A scan: the folder is read and compiled, and the reply is sent.
-use crate::poll::Poll;
+ghost use Rattle.std.specs.Prelude.{◌≢◌, Option, OnOk, IfErr};
+ghost use Rattle.std.specs.Io.KnownBytes.{Appends};
+ghost use Rattle.sw_io.specs.Disks.{Course};
+ghost use Rattle.sw_folders.specs.Held.{IsRead};
+ghost use Rattle.sw_wire.specs.Replies.{reply_text};
+ghost use Rattle.sw_protocol.specs.Turns.{standing, Says, SayStops, Cause};
+ghost use Rattle.sw_command_line.specs.Forms.{target_seen};
+ghost use Rattle.sw_session.specs.Sheets.{hostless};
+ghost use Rattle.sw_session.specs.Edits.{SendEnds};
+ghost use Rattle.sw_commands.specs.Poll.{Scan, held, poll};
+
+use crate::watched::Watched;
 use std::alloc::Global;
+use sw_command_line::Target;
 use sw_folders::read_folder;
 use sw_io::{Disk, DiskEnd, Sink};
 use sw_protocol::{Stop, send};
@@ -12,44 +24,75 @@ use sw_world::Engine;
 /// Reads the folder again, compiles the entry and sends the reply to a compile. A compile that finds no memory is
 /// refused; where none is found for the folder or the reply, or the disk fails, the poll ends.
 pub(crate) fn scan<K: Sink, D: Disk, E: Engine>(
-    poll: &mut Poll<'_, E>,
+    alloc: Global,
+    target: &Target<'_>,
+    watched: &mut Watched<E>,
     sink: &mut K,
     engine: &mut E,
     disk: &mut D,
-) -> Result<(), Stop> {
-    poll.watched.clear();
-    match read_folder(poll.alloc, disk, poll.target.dir.as_str(), &mut poll.watched) {
+) -> Result<(), Stop>
+    ensures ok { OnOk result (Says (poll (hostless E.body)) Scan
+        (standing (held (target_seen target.now) (D.course disk.old target.now.dir.now) watched.old.kept) (E.ran engine.old))
+        (standing (held (target_seen target.now) (D.course disk.new target.now.dir.now) watched.new.kept) (E.ran engine.new))
+        (K.written sink.old) (K.written sink.new)) }
+    ensures err { IfErr result (λ stop. SayStops (poll (hostless E.body)) stop Scan
+        (standing (held (target_seen target.now) (D.course disk.old target.now.dir.now) watched.old.kept) (E.ran engine.old))
+        (standing (held (target_seen target.now) (D.course disk.new target.now.dir.now) watched.new.kept) (E.ran engine.new))
+        (K.written sink.old) (K.written sink.new)) }
+    ensures sink_cause { Cause Stop.SinkFailed (K.faults sink.old) (K.faults sink.new) result }
+    ensures disk_cause { Cause Stop.OutsideFailed (D.faults disk.old) (D.faults disk.new) result }
+{
+    watched.clear();
+    match read_folder(alloc, disk, target.dir.as_str(), watched) {
         Err(DiskEnd::Failed) => Err(Stop::OutsideFailed),
         Err(DiskEnd::Memory) => Err(Stop::Memory),
-        Ok(()) => compile(poll, sink, engine),
+        Ok(()) => compile(alloc, target, watched, sink, engine),
     }
 }
 
+// The folder that was read is compiled, whatever the disk told of it.
 fn compile<K: Sink, E: Engine>(
-    poll: &mut Poll<'_, E>,
+    alloc: Global,
+    target: &Target<'_>,
+    watched: &mut Watched<E>,
     sink: &mut K,
     engine: &mut E,
-) -> Result<(), Stop> {
-    match poll
-        .watched
-        .compile(poll.target.entry, poll.target.paths, engine)
-    {
-        Ok(reply) => send_reply(poll.alloc, &reply, sink),
-        Err(Memory) => send_text(memory_reply(), sink),
+) -> Result<(), Stop>
+    ensures ok { OnOk result ((before now : Option Course) → IsRead before now watched.old.folder
+        → Says (poll (hostless E.body)) Scan
+        (standing (held (target_seen target.now) before watched.old.kept) (E.ran engine.old))
+        (standing (held (target_seen target.now) now watched.new.kept) (E.ran engine.new))
+        (K.written sink.old) (K.written sink.new)) }
+    ensures err { IfErr result (λ stop. (before now : Option Course) → IsRead before now watched.old.folder
+        → SayStops (poll (hostless E.body)) stop Scan
+        (standing (held (target_seen target.now) before watched.old.kept) (E.ran engine.old))
+        (standing (held (target_seen target.now) now watched.new.kept) (E.ran engine.new))
+        (K.written sink.old) (K.written sink.new)) }
+    ensures cause { Cause Stop.SinkFailed (K.faults sink.old) (K.faults sink.new) result }
+    ensures no_disk { IfErr result (λ stop. stop ≢ Stop.OutsideFailed) }
+{
+    match watched.compile(target.entry, target.paths, engine) {
+        Ok(reply) => send_reply(alloc, &reply, sink),
+        Err(Memory) => match send(sink, memory_reply()) {
+            Ok(()) => Ok(()),
+            Err(_) => Err(Stop::SinkFailed),
+        },
     }
 }
 
-fn send_reply<K: Sink>(alloc: Global, reply: &Reply, sink: &mut K) -> Result<(), Stop> {
+// The reply is sent. Where no memory is found for its text, nothing is written.
+fn send_reply<K: Sink>(alloc: Global, reply: &Reply, sink: &mut K) -> Result<(), Stop>
+    ensures ok { OnOk result (Appends (K.written sink.old) (K.written sink.new) (reply_text reply.now)) }
+    ensures err { IfErr result (λ stop. SendEnds stop (reply_text reply.now) (K.written sink.old)
+        (K.written sink.new)) }
+    ensures cause { Cause Stop.SinkFailed (K.faults sink.old) (K.faults sink.new) result }
+{
     let mut text = Vec::new(alloc);
     match write_reply(alloc, reply, &mut text) {
         Err(Memory) => Err(Stop::Memory),
-        Ok(()) => send_text(&text, sink),
-    }
-}
-
-fn send_text<K: Sink>(text: &[u8], sink: &mut K) -> Result<(), Stop> {
-    match send(sink, text) {
-        Ok(()) => Ok(()),
-        Err(_) => Err(Stop::SinkFailed),
+        Ok(()) => match send(sink, &text) {
+            Ok(()) => Ok(()),
+            Err(_) => Err(Stop::SinkFailed),
+        },
     }
 }
