@@ -1,5 +1,3 @@
-pub mod Once
 pub mod Poll
-pub mod Watched
 pub mod Served
 pub mod Run

@@ -4,8 +4,8 @@ use Rattle.sw_io.specs.Disks.{Course}
 use Rattle.sw_command_line.specs.Forms.{Form, Session, Once, Poll}
 use Rattle.sw_modules.specs.Fresh.{Setting}
 use Rattle.sw_session.specs.Served as session
-use Rattle.sw_commands.specs.declared.ending.Ending.{Ending}
-use Rattle.sw_commands.specs.Once as once
+use Rattle.sw_disk_compile.specs.declared.ending.Ending.{Ending}
+use Rattle.sw_disk_compile.specs.Once as once
 use Rattle.sw_commands.specs.Served as poll
 
 -- what is around the program: the bytes left in the source, those written into the sink, what the disk tells of each

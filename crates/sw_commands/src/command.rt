@@ -5,12 +5,12 @@ ghost use Rattle.sw_command_line.specs.Forms.{form_of};
 ghost use Rattle.sw_session.specs.Sheets.{hostless};
 ghost use Rattle.sw_commands.specs.Run.{surroundings, Runs};
 
-use crate::once::once;
 use crate::service::poll_folder;
 use std::alloc::Global;
 use sw_command_line::{Command, command_of};
+use sw_disk_compile::once;
 use sw_io::{Disk, Sink, Source};
-use sw_session::serve;
+use sw_session::{SheetReader, serve};
 use sw_text::Name;
 use sw_world::{Engine, NoHosts};
 
@@ -39,7 +39,9 @@ pub fn run<S: Source, K: Sink, D: Disk, E: Engine>(
     match command_of(words) {
         None => NO_COMMAND,
         Some(Command::Session) => serve(alloc, source, sink, engine, &mut NoHosts),
-        Some(Command::Once(target)) => once(alloc, &target, sink, disk, engine).status(),
+        Some(Command::Once(target)) => {
+            once(alloc, &SheetReader, &target, sink, disk, engine).status()
+        },
         Some(Command::Poll(target)) => poll_folder(alloc, &target, source, sink, disk, engine),
     }
 }

@@ -3,14 +3,9 @@
 #![tactic(auto)]
 
 mod command;
-mod ending;
-mod once;
 mod poll;
 mod scan;
 mod service;
-mod watched;
 
 pub use command::run;
-pub use ending::Ending;
-pub use once::once;
 pub use service::poll_folder;

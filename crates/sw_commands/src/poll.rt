@@ -2,18 +2,19 @@
 ghost use Rattle.std.specs.Prelude.{◌≡◌, bytes_eq, codes};
 
 use crate::scan::scan;
-use crate::watched::Watched;
 use std::alloc::Global;
 use sw_command_line::Target;
+use sw_disk_compile::Watched;
 use sw_io::{Disk, Sink, Source};
 use sw_protocol::{Lines, Protocol, Stop};
+use sw_session::SheetReader;
 use sw_world::Engine;
 
 /// A disk's folder with its kept runs, which is read and compiled again and again.
 #[derive(Drop)]
 pub(crate) struct Poll<'t, E: Engine> {
     pub(crate) target: Target<'t>,
-    pub(crate) watched: Watched<E>,
+    pub(crate) watched: Watched<SheetReader, E>,
     pub(crate) alloc: Global,
 }
 

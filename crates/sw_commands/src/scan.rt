@@ -10,13 +10,14 @@ ghost use Rattle.sw_session.specs.Sheets.{hostless};
 ghost use Rattle.sw_session.specs.Edits.{SendEnds};
 ghost use Rattle.sw_commands.specs.Poll.{Scan, held, poll};
 
-use crate::watched::Watched;
 use std::alloc::Global;
 use sw_command_line::Target;
+use sw_disk_compile::Watched;
 use sw_folders::read_folder;
 use sw_io::{Disk, DiskEnd, Sink};
 use sw_protocol::{Stop, send};
 use sw_record::Reply;
+use sw_session::SheetReader;
 use sw_text::Memory;
 use sw_wire::{memory_reply, write_reply};
 use sw_world::Engine;
@@ -26,7 +27,7 @@ use sw_world::Engine;
 pub(crate) fn scan<K: Sink, D: Disk, E: Engine>(
     alloc: Global,
     target: &Target<'_>,
-    watched: &mut Watched<E>,
+    watched: &mut Watched<SheetReader, E>,
     sink: &mut K,
     engine: &mut E,
     disk: &mut D,
@@ -54,7 +55,7 @@ pub(crate) fn scan<K: Sink, D: Disk, E: Engine>(
 fn compile<K: Sink, E: Engine>(
     alloc: Global,
     target: &Target<'_>,
-    watched: &mut Watched<E>,
+    watched: &mut Watched<SheetReader, E>,
     sink: &mut K,
     engine: &mut E,
 ) -> Result<(), Stop>
@@ -71,7 +72,7 @@ fn compile<K: Sink, E: Engine>(
     ensures cause { Cause Stop.SinkFailed (K.faults sink.old) (K.faults sink.new) result }
     ensures no_disk { IfErr result (λ stop. stop ≢ Stop.OutsideFailed) }
 {
-    match watched.compile(target.entry, target.paths, engine) {
+    match watched.compile(&SheetReader, target.entry, target.paths, engine) {
         Ok(reply) => send_reply(alloc, &reply, sink),
         Err(Memory) => match send(sink, memory_reply()) {
             Ok(()) => Ok(()),

@@ -6,11 +6,12 @@ ghost use Rattle.sw_session.specs.Sheets.{hostless};
 ghost use Rattle.sw_commands.specs.Served.{surroundings, ServedWith};
 
 use crate::poll::Poll;
-use crate::watched::Watched;
 use std::alloc::Global;
 use sw_command_line::Target;
+use sw_disk_compile::Watched;
 use sw_io::{Disk, Sink, Source};
 use sw_protocol::{Lines, Service, Stop};
+use sw_session::SheetReader;
 use sw_world::Engine;
 
 const MOST_REQUESTS: u32 = 1_000_000;
@@ -39,7 +40,7 @@ pub fn poll_folder<S: Source, K: Sink, D: Disk, E: Engine>(
         Ok(lines) => {
             let protocol = Poll {
                 target: *target,
-                watched: Watched::<E>::new(alloc),
+                watched: Watched::<SheetReader, E>::new(alloc),
                 alloc,
             };
             let mut service = Service { lines, protocol };

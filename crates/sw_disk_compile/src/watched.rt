@@ -1,35 +1,35 @@
 // The files of a disk's folder, as they were read last.
 ghost use Rattle.std.specs.Prelude.{◌≡◌, [], IfOk, OnErr};
 ghost use Rattle.std.specs.FinMap as files;
-ghost use Rattle.sw_world.specs.Hosts.{HostState};
+ghost use Rattle.sw_folder.specs.Files.{IsFolder};
+ghost use Rattle.sw_folder.specs.Edits.{after_removal, folder_after};
 ghost use Rattle.sw_keeper.specs.Compile.{compiled, CompilesTo, BreaksOff};
-ghost use Rattle.sw_session.specs.Sheets.{hostless};
+ghost use Rattle.sw_disk_compile.specs.Once.{hostless};
 
 use std::alloc::Global;
 use std::marker::Model;
 use sw_folder::EditFault;
 use sw_folders::Holder;
-use sw_keeper::Keeper;
+use sw_keeper::{Keeper, Reader};
 use sw_record::Reply;
-use sw_session::SheetReader;
 use sw_text::{List, Memory, Name};
 use sw_world::{Engine, NoHosts};
 
-/// Files, and the runs that are kept of their compiles.
+/// The files of a disk's folder as they were read last, and the runs that are kept of their compiles.
 #[derive(Drop)]
-pub(crate) struct Watched<E: Engine> {
-    keeper: Keeper<SheetReader, E>,
+pub struct Watched<R: Reader, E: Engine> {
+    keeper: Keeper<R, E>,
     paths: List<Name>,
     alloc: Global,
 }
 
-impl<E: Engine> Model for Watched<E> {
+impl<R: Reader, E: Engine> Model for Watched<R, E> {
     ghost use Rattle.std.specs.Coded.{codes};
     ghost use Rattle.sw_folder.specs.Files.{files_code};
     ghost use Rattle.sw_tree.specs.contracts.statement.Statement as statement;
     ghost use Rattle.sw_values.specs.contracts.plain.Plain as plain;
     ghost use Rattle.sw_keeper.specs.Keeping.{Keeping};
-    ghost use Rattle.sw_commands.specs.Watched.{Covers};
+    ghost use Rattle.sw_disk_compile.specs.Watched.{Covers};
 
     ghost Value = { Keeping };
 
@@ -40,9 +40,9 @@ impl<E: Engine> Model for Watched<E> {
     ghost invariant = { λ watched. Covers watched.paths watched.keeper.folder };
 }
 
-impl<E: Engine> Watched<E> {
+impl<R: Reader, E: Engine> Watched<R, E> {
     /// No file, and no kept run.
-    pub(crate) fn new(alloc: Global) -> Watched<E>
+    pub fn new(alloc: Global) -> Watched<R, E>
         ensures { result ≡ record { folder = files.empty; kept = [] } }
     {
         Watched {
@@ -53,36 +53,37 @@ impl<E: Engine> Watched<E> {
     }
 
     /// Takes all files out. The kept runs stay. Takes no memory.
-    pub(crate) fn clear(&mut self)
+    pub fn clear(&mut self)
         ensures folder { self.new.folder ≡ files.empty }
         ensures kept { self.new.kept ≡ self.old.kept }
     {
-        self.keeper.folder().keeps_limits();
-        'paths: while let Some(path) = self.paths.pop() {
-            let _ = self.keeper.remove(path.as_str());
+        'paths: for path in self.paths.as_slice() {
+            take_out(&mut self.keeper, path.as_str());
         }
+        self.paths.truncate(0);
     }
 
     /// Compiles an entry, as `Keeper::compile` does without functions of a host.
-    pub(crate) fn compile(
+    pub fn compile(
         &mut self,
+        reader: &R,
         entry: &Name,
         paths: &[Name],
         engine: &mut E,
     ) -> Result<Reply, Memory>
         ensures ok { IfOk result (λ reply. CompilesTo
-            (compiled (hostless E.body) self.old.folder paths.now entry.now []) entry.now reply self.old self.new []
+            (compiled (hostless R.reads E.body) self.old.folder paths.now entry.now []) entry.now reply self.old self.new []
             (E.ran engine.old) (E.ran engine.new)) }
-        ensures err { OnErr result (BreaksOff (hostless E.body) self.old.folder paths.now entry.now [] []
+        ensures err { OnErr result (BreaksOff (hostless R.reads E.body) self.old.folder paths.now entry.now [] []
             (E.ran engine.old) (E.ran engine.new)) }
         ensures unchanged { OnErr result (self.new ≡ self.old) }
     {
         self.keeper
-            .compile(&SheetReader, entry, paths, engine, &mut NoHosts)
+            .compile(reader, entry, paths, engine, &mut NoHosts)
     }
 }
 
-impl<E: Engine> Holder for Watched<E> {
+impl<R: Reader, E: Engine> Holder for Watched<R, E> {
     ghost use Rattle.sw_keeper.specs.Keeping.{Tables};
 
     ghost folder = { λ watched. watched.folder };
@@ -99,4 +100,14 @@ impl<E: Engine> Holder for Watched<E> {
     fn holds(&self, path: &str) -> bool {
         self.keeper.folder().text(path).is_some()
     }
+}
+
+// Takes a file out, where it is there.
+fn take_out<R: Reader, E: Engine>(keeper: &mut Keeper<R, E>, path: &str)
+    ensures folder { keeper.new.folder ≡ folder_after (after_removal path.now keeper.old.folder) keeper.old.folder }
+    ensures kept { keeper.new.kept ≡ keeper.old.kept }
+    ensures limits { IsFolder keeper.old.folder }
+{
+    keeper.folder().keeps_limits();
+    let _ = keeper.remove(path);
 }

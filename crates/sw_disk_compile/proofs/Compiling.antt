@@ -11,9 +11,9 @@ use Rattle.sw_record.specs.declared.reply.Outcome.{Outcome}
 use Rattle.sw_record.specs.declared.reply.Outcome.TheVariants.{Css, Error}
 use Rattle.sw_keeper.specs.Compile.{compiled, CompilesTo}
 use Rattle.sw_keeper.specs.Keeping.{Keeping}
-use Rattle.sw_commands.specs.declared.ending.Ending.{Ending}
-use Rattle.sw_commands.specs.declared.ending.Ending.TheVariants.{Css as Css_end, Error as Error_end, SinkFailed, Memory, DiskFailed}
-use Rattle.sw_commands.specs.Once.{Surroundings, Compiles, WritesBy, EndsBy}
+use Rattle.sw_disk_compile.specs.declared.ending.Ending.{Ending}
+use Rattle.sw_disk_compile.specs.declared.ending.Ending.TheVariants.{Css as Css_end, Error as Error_end, SinkFailed, Memory, DiskFailed}
+use Rattle.sw_disk_compile.specs.Once.{Surroundings, Compiles, WritesBy, EndsBy}
 
 pub read_on : (before now : Option Course) (folder : Files) → IsRead before now folder → IsBrokenOff before now
 read_on before now folder read = λ c e. inr ((read c e).0)

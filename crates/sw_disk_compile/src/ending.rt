@@ -1,6 +1,6 @@
 // How one compile ends.
 ghost use Rattle.std.specs.Prelude.{◌≡◌};
-ghost use Rattle.sw_commands.specs.Once.{status_of};
+ghost use Rattle.sw_disk_compile.specs.Once.{status_of};
 
 /// How one compile of a disk's folder ended.
 #[derive(Clone, Copy, Debug, PartialEq, Eq)]

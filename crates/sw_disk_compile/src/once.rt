@@ -3,15 +3,14 @@ ghost use Rattle.std.specs.Prelude.{◌≡◌, IfOk};
 ghost use Rattle.sw_io.specs.Causes.{Rose};
 ghost use Rattle.sw_wire.specs.Replies.{fault_text};
 ghost use Rattle.sw_command_line.specs.Forms.{target_seen};
-ghost use Rattle.sw_session.specs.Sheets.{hostless};
-ghost use Rattle.sw_commands.specs.Once.{surroundings, EndsBy, WritesBy};
+ghost use Rattle.sw_disk_compile.specs.Once.{surroundings, hostless, EndsBy, WritesBy};
 
-use crate::Ending;
-use crate::watched::Watched;
+use crate::{Ending, Watched};
 use std::alloc::Global;
 use sw_command_line::Target;
 use sw_folders::read_folder;
 use sw_io::{Disk, DiskEnd, Sink};
+use sw_keeper::Reader;
 use sw_protocol::send;
 use sw_record::{Outcome, Reply};
 use sw_text::{Fault, List, Memory};
@@ -20,24 +19,25 @@ use sw_world::Engine;
 
 /// Reads the folder, compiles the entry, and writes the CSS bytes alone or the one line `error CODE PATH L:C L:C`;
 /// tells how that ended. The sink is flushed. Where no memory is found or the disk fails, nothing is written.
-pub fn once<K: Sink, D: Disk, E: Engine>(
+pub fn once<R: Reader, K: Sink, D: Disk, E: Engine>(
     alloc: Global,
+    reader: &R,
     target: &Target<'_>,
     sink: &mut K,
     disk: &mut D,
     engine: &mut E,
 ) -> Ending
-    ensures ends { EndsBy result (hostless E.body) (target_seen target.now)
+    ensures ends { EndsBy result (hostless R.reads E.body) (target_seen target.now)
         (surroundings (D.course disk.old target.now.dir.now) (K.written sink.old) (E.ran engine.old))
         (surroundings (D.course disk.new target.now.dir.now) (K.written sink.new) (E.ran engine.new)) }
     ensures sink_fault { result ≡ Ending.SinkFailed → Rose (K.faults sink.old) (K.faults sink.new) }
     ensures disk_fault { result ≡ Ending.DiskFailed → Rose (D.faults disk.old) (D.faults disk.new) }
 {
-    let mut watched = Watched::<E>::new(alloc);
+    let mut watched = Watched::<R, E>::new(alloc);
     match read_folder(alloc, disk, target.dir.as_str(), &mut watched) {
         Err(DiskEnd::Failed) => Ending::DiskFailed,
         Err(DiskEnd::Memory) => Ending::Memory,
-        Ok(()) => match watched.compile(target.entry, target.paths, engine) {
+        Ok(()) => match watched.compile(reader, target.entry, target.paths, engine) {
             Err(Memory) => Ending::Memory,
             Ok(reply) => write_outcome(alloc, reply.outcome, sink),
         },
