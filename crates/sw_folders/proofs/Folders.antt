@@ -1,5 +1,5 @@
 -- What the reading of a listed folder gives.
-use Rattle.std.proofs.Common.{◌≡◌, ℕ, List, Bor, map, Some, Ok, Err, OnOk, subst, ap, ◌∙◌}
+use Rattle.std.proofs.Common.{◌≡◌, ℕ, List, Bor, Some, Ok, Err, OnOk, subst, ap, ◌∙◌}
 use Rattle.std.specs.declared.option.Option.{Option}
 use Rattle.std.specs.declared.result.Result.{Result}
 use Rattle.std.specs.FinMap.{empty}

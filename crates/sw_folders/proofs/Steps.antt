@@ -1,5 +1,5 @@
 -- How files come to be held, one after the other.
-use Rattle.std.proofs.Common.{◌≡◌, ℕ, ◌+◌, ◌<◌, ◌≤◌, Bool, true, false, cond, if◌then◌else◌, nat_le, List, [], ◌∷◌, length, map, drop, get_or, Bor, None, Some, Ok, refl, sym, ap, ◌∙◌, arith, drop-cons, add-one}
+use Rattle.std.proofs.Common.{◌≡◌, ℕ, ◌+◌, ◌<◌, ◌≤◌, Bool, true, false, cond, if◌then◌else◌, nat_le, List, [], ◌∷◌, length, map, drop, get_or, Bor, None, Some, Ok, refl, sym, ap, ◌∙◌, drop-cons, add-one}
 use Rattle.std.specs.declared.option.Option.{Option}
 use Rattle.std.proofs.lemmas.Bool.{le-leb}
 use Rattle.std.proofs.lemmas.List.{drop_all}
@@ -50,7 +50,8 @@ module _ (files : List File) where
   pub held_on : (paths : List (Bor (List ℕ))) (at : ℕ) (d : Bor (List ℕ)) (folder next : Files) → at < length paths → nat_le most_files (len folder) ≡ false
       → next ≡ with_sheet files (get_or paths at d).now folder → held_by files (texts (drop at paths)) folder ≡ held_by files (texts (drop (at + 1) paths)) next
   held_on paths at d folder next lt room e =
-      ap (λ (ps : List (Bor (List ℕ))). held_by files (texts ps) folder) (rw add-one (drop-cons paths at d lt))
+      let dropped : drop at paths ≡ get_or paths at d ∷ drop (at + 1) paths = rw add-one (drop-cons paths at d lt) in
+      ap (λ (ps : List (Bor (List ℕ))). held_by files (texts ps) folder) dropped
       ∙ held_next (get_or paths at d).now (texts (drop (at + 1) paths)) folder room
       ∙ ap (held_by files (texts (drop (at + 1) paths))) (sym e)
 
