@@ -1,5 +1,5 @@
 -- Which paths the files have, when some are put and when all are taken out.
-use Rattle.std.proofs.Common.{◌≡◌, ◌≢◌, ℕ, Bool, true, false, not, ◌||◌, cond, if◌then◌else◌, List, [], ◌∷◌, ◌++◌, None, Some, Ok, Err, refl, sym, ap, ◌∙◌, subst, inl, inr, ◌⊎◌, is_some}
+use Rattle.std.proofs.Common.{◌≡◌, ℕ, suc, ◌+◌, ◌<◌, ◌≤◌, length, drop, get_or, drop-cons, add-one, OnOk, OnErr, Bool, true, false, not, ◌||◌, cond, if◌then◌else◌, List, [], ◌∷◌, ◌++◌, None, Some, Ok, Err, refl, sym, ap, ◌∙◌, subst, inl, inr, ◌⊎◌, is_some}
 use Rattle.std.specs.declared.option.Option.{Option}
 use Rattle.std.specs.declared.result.Result.{Result}
 use Rattle.std.specs.Str.{bytes_eq}
@@ -7,6 +7,7 @@ use Rattle.std.specs.List.{list_any}
 use Rattle.std.specs.Ordering.{is_eq, nat_cmp}
 use Rattle.std.specs.Cmp.Lexicographic.{slice_cmp, nat_list_cmp_total}
 use Rattle.std.specs.FinMap.{get, contains_key, insert, remove, empty, get-empty, get-insert, get-remove, same_map, slice_cmp-IsAntisymmetric, nat_cmp-IsAntisymmetric}
+use Rattle.std.proofs.lemmas.List.{drop_all}
 use Rattle.std.proofs.lemmas.Map.Text.{is_eq-slice_cmp}
 use Rattle.std.proofs.lemmas.Slice.Eq.{bytes_eq-Decides}
 use Rattle.sw_folder.specs.declared.edit.EditFault.{EditFault}
@@ -14,6 +15,7 @@ use Rattle.sw_folder.specs.declared.edit.EditFault.TheVariants.{BadPath, NoSuchF
 use Rattle.sw_folder.specs.Paths.{is_path}
 use Rattle.sw_folder.specs.Files.{Files, IsFolder}
 use Rattle.sw_folder.specs.Edits.{after_put, put_fault, after_removal, removal_fault, unless, folder_after}
+use Rattle.sw_keeper.specs.Keeping.{Keeping}
 use Rattle.sw_disk_compile.specs.Watched.{is_listed, Covers}
 
 -- one path more
@@ -25,13 +27,13 @@ or_left : (a b : Bool) → a ≡ true → a || b ≡ true
 or_left true b e = refl
 or_left false b e = cc
 
+listed_step : (b x y : Bool) → (x ≡ true → y ≡ true) → b || x ≡ true → b || y ≡ true
+listed_step true x y f h = refl
+listed_step false x y f h = f h
+
 listed_more : (paths : List (List ℕ)) (more path : List ℕ) → is_listed paths path ≡ true → is_listed (paths ++ more ∷ []) path ≡ true
 listed_more [] more path e = cc
-listed_more (first ∷ paths) more path e = by (bytes_eq path first) e
-  where
-    by : (b : Bool) → b || is_listed paths path ≡ true → b || is_listed (paths ++ more ∷ []) path ≡ true
-    by true h = refl
-    by false h = listed_more paths more path h
+listed_more (first ∷ paths) more path e = listed_step (bytes_eq path first) (is_listed paths path) (is_listed (paths ++ more ∷ []) path) (listed_more paths more path) e
 
 listed_last : (paths : List (List ℕ)) (path : List ℕ) → bytes_eq path path ≡ true → is_listed (paths ++ path ∷ []) path ≡ true
 listed_last [] path e = or_left (bytes_eq path path) false e
@@ -113,5 +115,26 @@ pub cleared : (folder : Files) → Covers [] folder → folder ≡ empty
 cleared folder covers = same_map nat_list_cmp_total (slice_cmp-IsAntisymmetric nat_cmp-IsAntisymmetric) folder empty
     (λ path. no_key (get folder path) (λ there. not_true (covers path there)) ∙ sym (get-empty _ path))
 
-pub covers_none : Covers [] empty
-covers_none = λ path there. absurd (not_true (ap is_some (sym (get-empty _ path)) ∙ there))
+pub covers_empty : (paths : List (List ℕ)) (folder : Files) → folder ≡ empty → Covers paths folder
+covers_empty paths folder e = λ path there. absurd (not_true (ap is_some (sym (get-empty _ path)) ∙ ap (λ (f : Files). contains_key f path) (sym e) ∙ there))
+
+-- a put, however it ends
+pub covers_either : {T E : Type 0} (r : Result T E) (paths listed : List (List ℕ)) (name path bytes : List ℕ) (old new : Keeping) → listed ≡ paths ++ name ∷ [] → name ≡ path
+    → OnOk r (after_put path bytes old.folder ≡ Ok new.folder) → OnErr r (new ≡ old) → Covers paths old.folder → Covers listed new.folder
+covers_either (Ok x) paths listed name path bytes old new l n o u covers =
+    subst (λ (ps : List (List ℕ)). Covers ps new.folder) (sym (l ∙ ap (λ (p : List ℕ). paths ++ p ∷ []) n)) (covers_put paths path bytes old.folder new.folder o covers)
+covers_either (Err e) paths listed name path bytes old new l n o u covers =
+    subst (λ (ps : List (List ℕ)). Covers ps new.folder) (sym l)
+    (subst (λ (k : Keeping). Covers (paths ++ name ∷ []) k.folder) (sym u) (covers_more paths name old.folder covers))
+
+-- the next of a list of paths
+pub covers_next : (paths : List (List ℕ)) (at : ℕ) (item path : List ℕ) (folder after : Files) → at < length paths → item ≡ get_or paths at item → path ≡ item → IsFolder folder
+    → after ≡ folder_after (after_removal path folder) folder → Covers (drop at paths) folder → Covers (drop (at + 1) paths) after
+covers_next paths at item path folder after lt is same limits e covers =
+    let dropped : drop at paths ≡ item ∷ drop (at + 1) paths = rw add-one (drop-cons paths at item lt ∙ ap (λ (x : List ℕ). x ∷ drop (suc at) paths) (sym is)) in
+    subst (λ (f : Files). Covers (drop (at + 1) paths) f) (sym e)
+    (subst (λ (p : List ℕ). Covers (drop (at + 1) paths) (folder_after (after_removal p folder) folder)) (sym same)
+    (covers_taken (drop (at + 1) paths) item folder limits (subst (λ (ps : List (List ℕ)). Covers ps folder) dropped covers)))
+
+pub covers_last : (paths : List (List ℕ)) (at : ℕ) (folder : Files) → length paths ≤ at → Covers (drop at paths) folder → folder ≡ empty
+covers_last paths at folder le covers = cleared folder (subst (λ (ps : List (List ℕ)). Covers ps folder) (drop_all at paths le) covers)

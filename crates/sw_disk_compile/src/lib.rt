@@ -2,10 +2,10 @@
 //! of them. Files flow in from a disk, messages and CSS or a fault flow out, and CSS or the line of a fault into a sink.
 #![tactic(auto)]
 
+mod compile;
 mod ending;
-mod once;
 mod watched;
 
+pub use compile::once;
 pub use ending::Ending;
-pub use once::once;
 pub use watched::Watched;

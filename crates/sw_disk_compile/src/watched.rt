@@ -5,6 +5,7 @@ ghost use Rattle.sw_folder.specs.Files.{IsFolder};
 ghost use Rattle.sw_folder.specs.Edits.{after_removal, folder_after};
 ghost use Rattle.sw_keeper.specs.Compile.{compiled, CompilesTo, BreaksOff};
 ghost use Rattle.sw_disk_compile.specs.Once.{hostless};
+ghost use Rattle.sw_disk_compile.specs.Watched.{Covers};
 
 use std::alloc::Global;
 use std::marker::Model;
@@ -57,9 +58,7 @@ impl<R: Reader, E: Engine> Watched<R, E> {
         ensures folder { self.new.folder ≡ files.empty }
         ensures kept { self.new.kept ≡ self.old.kept }
     {
-        'paths: for path in self.paths.as_slice() {
-            take_out(&mut self.keeper, path.as_str());
-        }
+        take_out_all(&mut self.keeper, self.paths.as_slice());
         self.paths.truncate(0);
     }
 
@@ -99,6 +98,17 @@ impl<R: Reader, E: Engine> Holder for Watched<R, E> {
 
     fn holds(&self, path: &str) -> bool {
         self.keeper.folder().text(path).is_some()
+    }
+}
+
+// Takes the files with these paths out, which are all.
+fn take_out_all<R: Reader, E: Engine>(keeper: &mut Keeper<R, E>, paths: &[Name])
+    requires { Covers paths.now keeper.old.folder }
+    ensures folder { keeper.new.folder ≡ files.empty }
+    ensures kept { keeper.new.kept ≡ keeper.old.kept }
+{
+    'paths: for path in paths {
+        take_out(keeper, path.as_str());
     }
 }
 
