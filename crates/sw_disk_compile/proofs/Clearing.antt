@@ -53,7 +53,7 @@ put_by folder after path bytes (Some fault) e = cc
 pub covers_put : (paths : List (List ℕ)) (path bytes : List ℕ) (folder after : Files) → after_put path bytes folder ≡ Ok after → Covers paths folder → Covers (paths ++ path ∷ []) after
 covers_put paths path bytes folder after e covers = λ other there.
     let at : is_some (cond (is_eq (slice_cmp nat_cmp other path)) (Some bytes) (get folder other)) ≡ true =
-      ap is_some (sym (get-insert nat_list_cmp_total folder path bytes other)) ∙ ap (λ (m : Files). contains_key m other) (sym (put_by folder after path bytes (put_fault folder path bytes) e)) ∙ there in
+    ap is_some (sym (get-insert nat_list_cmp_total folder path bytes other)) ∙ ap (λ (m : Files). contains_key m other) (sym (put_by folder after path bytes (put_fault folder path bytes) e)) ∙ there in
     elim (some_is (is_eq (slice_cmp nat_cmp other path)) bytes (get folder other) at) [
       | inl same ↦ let is : bytes_eq other path ≡ true = sym (is_eq-slice_cmp other path) ∙ same in
           let one : other ≡ path = (bytes_eq-Decides other path).0 is in
