@@ -1,5 +1,5 @@
 -- What comes of one compile of a disk's folder.
-use Rattle.std.proofs.Common.{◌≡◌, ℕ, List, [], ◌++◌, refl, sym, ap, ◌∙◌, inr}
+use Rattle.std.proofs.Common.{◌≡◌, [], inr}
 use Rattle.std.specs.declared.option.Option.{Option}
 use Rattle.sw_io.specs.Disks.{Course}
 use Rattle.sw_folder.specs.Files.{Files}
