@@ -1,1 +1,2 @@
 mod Scanning
+mod Statuses
