@@ -1,14 +1,13 @@
 -- What a body of any engine is that stops at a load, and then has its answer.
-use Rattle.std.proofs.Common.{◌≡◌, List, [], ◌∷◌, ◌++◌, refl, sym, ◌∙◌, ap, subst, append-nil}
+use Rattle.std.proofs.Common.{◌≡◌, List, [], ◌∷◌, ◌++◌, refl, sym, ◌∙◌, ap, subst, append-nil, append_assoc}
 use Rattle.sw_world.specs.declared.op.Op.{Op}
 use Rattle.sw_world.specs.declared.op.Op.TheVariants.{Load, Find, Get, Put, Say, Call}
 use Rattle.sw_world.specs.declared.answer.Answer.{Answer}
 use Rattle.sw_world.specs.declared.answer.Answer.TheVariants.{Loaded, Refused, Owner, Callable, BuiltIn, NoNamespace, NoMember, LeftOut, Conflict, Value, Done, Hosted}
 use Rattle.sw_world.specs.declared.end.Turn.TheVariants.{Load as Turn_Load}
-use Rattle.sw_world.specs.Body.{Pair, Job, BodyOf, answers, Goes}
+use Rattle.sw_world.specs.Body.{Pair, Next, Job, BodyOf, answers, Goes}
 use Rattle.sw_world.specs.Progress.{Status, Waiting, Progress, IsAt, IsBody, begun, given}
 use Rattle.sw_world.specs.Questions.{IsLoad, Fits}
-use Rattle.sw_announcer.proofs.Engines.{goes-append}
 use Rattle.sw_starving.specs.Ready.{AnswersLoads, IsReady, IsStopped}
 
 pub begun_ready : (body : BodyOf) (job : Job) (p : Progress) → p ≡ begun job [] → IsReady body p
@@ -42,6 +41,10 @@ pub can_give : (body : BodyOf) (p : Progress) (op : Op) (a : Answer) → IsStopp
 can_give body p op a at is =
     let here = at_status body p (Waiting op) at.is_body at.stopped in
     (op, at.stopped, fits_load op a here.1 is)
+
+goes-append : (b : List Answer → Next) (before : List Answer) (ps qs : List Pair) → Goes b before ps → Goes b (before ++ answers ps) qs → Goes b before (ps ++ qs)
+goes-append b before [] qs g h = subst (λ (l : List Answer). Goes b l qs) (append-nil before) h
+goes-append b before (p ∷ ps) qs g h = (g.0, g.1, goes-append b (before ++ p.1 ∷ []) ps qs g.2 (subst (λ (l : List Answer). Goes b l qs) (sym (append_assoc before (p.1 ∷ []) (answers ps))) h))
 
 is_given : (body : BodyOf) (p : Progress) (op : Op) (a : Answer) → IsBody body p → p.status ≡ Waiting op → AnswersLoads a → IsBody body (given p op a)
 is_given body p op a is_p waits is =

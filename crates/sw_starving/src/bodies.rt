@@ -1,5 +1,7 @@
 // Bodies of any engine that find no memory, and then do.
-ghost use Rattle.std.specs.Prelude.{◌≡◌, IfOk, None};
+ghost use Rattle.std.specs.Prelude.{◌≡◌, IfOk, OnOk, None};
+ghost use Rattle.sw_world.specs.declared.op.Op.{Op};
+ghost use Rattle.sw_world.specs.declared.end.Turn.TheVariants.{Load};
 ghost use Rattle.sw_starving.specs.Ready.{AnswersLoads, IsReady, IsStopped};
 
 use crate::broken::Broken;
@@ -40,6 +42,17 @@ fn go_fed<E: Engine>(
     }
 }
 
+// Gives a body that stopped at a load this answer.
+fn give_to<E: Engine>(engine: &E, body: &mut E::Body, answer: &Answer) -> Result<(), Memory>
+    requires stopped { (op : Op) × IsStopped E.body (E.progress body.old) (Load op) }
+    requires answers { AnswersLoads answer.now }
+    ensures { OnOk result (IsReady E.body (E.progress body.new)) }
+{
+    let answer = answer.share()?;
+    engine.give(body, answer);
+    Ok(())
+}
+
 // Runs a body on to its end, or to a load, to which it gives this answer.
 fn stop<E: Engine>(
     alloc: Global,
@@ -54,7 +67,7 @@ fn stop<E: Engine>(
 {
     match go_fed(alloc, engine, body, world)? {
         Turn::Load(_) => {
-            engine.give(body, answer.share()?);
+            give_to(engine, body, answer)?;
             Ok(None)
         }
         Turn::Ended(end) => Ok(Some(end)),

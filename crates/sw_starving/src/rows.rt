@@ -32,7 +32,7 @@ pub fn rows<E: Engine>(
     let path = module.path.as_str();
     let answer = loaded(rt.alloc())?;
     for at in 0..MOST_QUESTIONS {
-        let run = run(rt.alloc(), engine, module, &answer, at)?;
+        let run = run_body(rt.alloc(), engine, module, &answer, at)?;
         let line = run.line.as_str();
         if !run.starved {
             println!(rt; "{name}, {path}: {line}")?;
@@ -40,7 +40,7 @@ pub fn rows<E: Engine>(
         }
         println!(rt; "{name}, {path}, starved at {at}: {line}")?;
     }
-    let run = run(
+    let run = run_body(
         rt.alloc(),
         engine,
         module,
@@ -53,7 +53,7 @@ pub fn rows<E: Engine>(
 }
 
 // A body from its start to its end, whose loads have this answer, and whose world finds no memory at this question.
-fn run<E: Engine>(
+fn run_body<E: Engine>(
     alloc: Global,
     engine: &mut E,
     module: &Module,

@@ -1,7 +1,5 @@
 // A world that answers each question with what fits it.
-ghost use Rattle.std.specs.Prelude.{◌≡◌, ℕ, List, Option, IfOk};
-ghost use Rattle.sw_tree.specs.declared.callable.Kind.TheVariants.{Variable};
-ghost use Rattle.sw_world.specs.declared.op.Op.TheVariants.{Find, Get};
+ghost use Rattle.std.specs.Prelude.{IfOk};
 ghost use Rattle.sw_world.specs.Questions.{IsLoad, Fits};
 
 use std::alloc::Global;
@@ -38,24 +36,13 @@ impl Told {
     }
 }
 
-fn owner(alloc: Global, name: &Name) -> Result<Answer, Memory>
-    ensures { IfOk result (λ a. (site : List ℕ) (space : Option (List ℕ)) (n : List ℕ)
-        → Fits (Find site space Variable n) a) }
-{
-    let name = name.share()?;
-    let path = Name::new(alloc, "lib.scss")?;
-    Ok(Answer::Owner { path, name })
-}
-
-fn value(alloc: Global) -> Result<Answer, Memory>
-    ensures { IfOk result (λ a. (owner n : List ℕ) → Fits (Get owner n) a) }
-{
+fn value(alloc: Global) -> Result<Value, Memory> {
     let text = Name::new(alloc, "v")?;
     match Value::of(Node::Text {
         text,
         quoted: false,
     }) {
-        Ok(value) => Ok(Answer::Value(value)),
+        Ok(value) => Ok(value),
         Err(_) => Err(Memory),
     }
 }
@@ -69,9 +56,16 @@ fn answer(alloc: Global, op: &Op) -> Result<Answer, Memory>
             kind: Kind::Variable,
             name,
             ..
-        } if name.as_str() != "gone" => owner(alloc, name),
+        } if name.as_str() != "gone" => {
+            let name = name.share()?;
+            let path = Name::new(alloc, "lib.scss")?;
+            Ok(Answer::Owner { path, name })
+        }
         Op::Find { .. } => Ok(Answer::NoMember),
-        Op::Get { .. } => value(alloc),
+        Op::Get { .. } => {
+            let value = value(alloc)?;
+            Ok(Answer::Value(value))
+        }
         Op::Put { .. } | Op::Say { .. } => Ok(Answer::Done),
         Op::Call { .. } => Ok(Answer::Hosted(None)),
         Op::Load { .. } => unreachable!(),
