@@ -4,8 +4,8 @@ use crate::places::sheet;
 use std::alloc::Global;
 use sw_row_files::{Refusal, yes_or_no};
 use sw_scss_parse::{ReadEnd, read_sheet};
+use sw_syntax_tree::{Sheet, globals_of};
 use sw_text::Shared;
-use sw_tree::{Sheet, globals_of};
 
 pub fn answer(alloc: Global, name: &str, text: &str) -> Result<String, Refusal> {
     let (left, right) = text.split_once(" ; ").unwrap_or((text, ""));

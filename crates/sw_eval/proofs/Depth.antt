@@ -1,7 +1,7 @@
 -- One level of an evaluation.
 use Rattle.std.proofs.Common.{◌≡◌, ℕ, suc, ◌-◌, ◌<◌, ap, arith}
-use Rattle.sw_tree.specs.declared.expr.Expr.{Expr}
-use Rattle.sw_tree.specs.declared.statement.Statement.{Statement}
+use Rattle.sw_syntax_tree.specs.declared.expr.Expr.{Expr}
+use Rattle.sw_syntax_tree.specs.declared.statement.Statement.{Statement}
 use Rattle.sw_eval.specs.declared.state.State.{State}
 use Rattle.sw_eval.specs.Means.{value_one, does_one, value_to, does_to}
 

@@ -1,8 +1,8 @@
 -- The laws of the body of a sheet: they are laws of every talk.
 use Rattle.std.proofs.Common.{◌≡◌, List, [], ◌∙◌, ap, refl, arith}
-use Rattle.sw_tree.specs.declared.statement.Statement.{Statement}
+use Rattle.sw_syntax_tree.specs.declared.statement.Statement.{Statement}
 use Rattle.sw_world.specs.Laws.{EndsForGood, EndsInTime, AsksFromSources, NamesOnce, EndsRefused, most_asked}
-use Rattle.sw_tree.specs.Globals.{globals}
+use Rattle.sw_syntax_tree.specs.Globals.{globals}
 use Rattle.sw_eval.specs.Laws.{run_ends, run_keeps, run_refused, run_gives, run_sourced}
 use Rattle.sw_eval.specs.Left.{finish_of, end_of, names, names-left, once_after}
 use Rattle.sw_eval.specs.Means.{body, begin, tops}

@@ -6,9 +6,9 @@ use Rattle.std.proofs.lemmas.List.Sums.{sum_by-append}
 use Rattle.std.proofs.lemmas.Map.Steps.{list_any_congr}
 use Rattle.std.specs.Cmp.Lexicographic.{nat_list_eq_equiv}
 use Rattle.std.specs.List.{list_any}
-use Rattle.sw_tree.specs.declared.statement.Statement.{Statement}
-use Rattle.sw_tree.specs.declared.sheet.Sheet.{Sheet}
-use Rattle.sw_tree.specs.Globals.{declared, joined, globals_after}
+use Rattle.sw_syntax_tree.specs.declared.statement.Statement.{Statement}
+use Rattle.sw_syntax_tree.specs.declared.sheet.Sheet.{Sheet}
+use Rattle.sw_syntax_tree.specs.Globals.{declared, joined, globals_after}
 use Rattle.sw_values.specs.declared.plain.Plain.{Plain}
 use Rattle.sw_values.specs.declared.plain.Plain.TheVariants as N
 use Rattle.sw_world.specs.declared.end.Finish.{Finish}

@@ -4,6 +4,7 @@ pub mod Ran
 pub mod Did
 pub mod Told
 pub mod Scope
+pub mod Layers
 pub mod Means
 pub mod Left
 pub mod Body_laws

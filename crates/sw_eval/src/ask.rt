@@ -17,8 +17,8 @@ use crate::asked::Asked;
 use crate::stop::{Stop, fails};
 use crate::walk::Walk;
 use std::alloc::Global;
+use sw_syntax_tree::Kind;
 use sw_text::{FaultCode, Memory, Name, Span};
-use sw_tree::Kind;
 use sw_values::Value;
 use sw_world::{Answer, Op, World};
 

@@ -1,6 +1,6 @@
 // What a body leaves behind.
 ghost use Rattle.std.specs.Prelude.{◌≡◌, [], option_copied, OnOk, IfOk};
-ghost use Rattle.sw_tree.specs.Globals.{declared};
+ghost use Rattle.sw_syntax_tree.specs.Globals.{declared};
 ghost use Rattle.sw_world.specs.declared.end.End.TheVariants.{Done};
 ghost use Rattle.sw_eval.specs.Left.{or_null, left_one, left_by, finish_of};
 
@@ -9,18 +9,18 @@ use std::alloc::Global;
 use std::mem;
 use sw_css_tree::CssTree;
 use sw_scope::Scopes;
+use sw_syntax_tree::{Sheet, Statement};
 use sw_text::{List, Memory, Name, Shared};
-use sw_tree::{Sheet, Statement};
 use sw_values::Value;
 use sw_world::{End, Finish, Table};
 
 // The name that a statement declares.
-#[tactic(auto, unfolding(sw_tree::specs::Globals::declared))]
+#[tactic(auto, unfolding(sw_syntax_tree::specs::Globals::declared))]
 fn declared(statement: &Statement) -> Option<&Name>
     ensures { option_copied result ≡ declared statement.now }
 {
     match statement {
-        Statement::Variable { name, .. } => Some(name),
+        Statement::Variable(variable) => Some(&variable.name),
         _ => None,
     }
 }

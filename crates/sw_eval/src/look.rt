@@ -5,8 +5,8 @@ ghost use Rattle.sw_eval.specs.Means.{outside, variable, qualified, targeted, ge
 use crate::parts::{got, owner, target};
 use crate::stop::{Stop, fails};
 use crate::walk::Walk;
+use sw_syntax_tree::{Kind, Qualified};
 use sw_text::{FaultCode, Name, Span};
-use sw_tree::{Kind, Qualified};
 use sw_values::Value;
 use sw_world::World;
 
@@ -75,38 +75,40 @@ impl Walk {
     pub(crate) fn qualified<W: World>(
         &mut self,
         q: &Qualified,
+        at: &Span,
         world: &mut W,
     ) -> Result<Value, Stop>
-        ensures { Goes_on W.gives (qualified q.now) self.old world.old result self.new world.new }
+        ensures { Goes_on W.gives (qualified q.now at.now) self.old world.old result self.new world.new }
     {
         if q.name.is_private() {
-            return fails(FaultCode::Private, &q.span);
+            return fails(FaultCode::Private, at);
         }
-        let space = q.space.share()?;
+        let space = q.namespace.name.share()?;
         self.outside(
             FaultCode::UnknownMember,
             Some(space),
             &q.name,
-            &q.span,
-            &q.space_span,
+            at,
+            &q.namespace.span,
             world,
         )
     }
 
-    // The owner of a variable behind a namespace that is assigned.
+    // The owner of a variable behind a namespace that is assigned; the variable stands at the first place.
     pub(crate) fn targeted<W: World>(
         &mut self,
         q: &Qualified,
+        name_at: &Span,
         at: &Span,
         world: &mut W,
     ) -> Result<usize, Stop>
-        ensures { Goes_on W.gives (targeted q.now at.now) self.old world.old result self.new world.new }
+        ensures { Goes_on W.gives (targeted q.now name_at.now at.now) self.old world.old result self.new world.new }
     {
         if q.name.is_private() {
-            return fails(FaultCode::Private, &q.span);
+            return fails(FaultCode::Private, name_at);
         }
-        let space = q.space.share()?;
+        let space = q.namespace.name.share()?;
         let a = self.find(Some(space), Kind::Variable, &q.name, at, world)?;
-        target(at, &q.span, &q.space_span, a.0, &a.1)
+        target(at, name_at, &q.namespace.span, a.0, &a.1)
     }
 }

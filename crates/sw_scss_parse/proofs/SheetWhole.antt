@@ -14,8 +14,8 @@ use Rattle.sw_tokens.specs.Faults.{TellsFault, IsFaultBy}
 use Rattle.sw_tokens.specs.declared.token.Token.{Token}
 use Rattle.sw_tokens.specs.declared.token.Fault10.{Fault10}
 use Rattle.sw_tokens.specs.declared.token.Fault10.TheVariants as unclosed
-use Rattle.sw_tree.specs.declared.sheet.Sheet.{Sheet}
-use Rattle.sw_tree.specs.declared.statement.Statement.{Statement}
+use Rattle.sw_syntax_tree.specs.declared.sheet.Sheet.{Sheet}
+use Rattle.sw_syntax_tree.specs.declared.statement.Statement.{Statement}
 use Rattle.sw_scss_parse.proofs.Decided.{fit, forms_nested}
 use Rattle.sw_scss_parse.proofs.Terminals.{positive}
 use Rattle.sw_scss_parse.proofs.StatementsOf.{statements_of_map}

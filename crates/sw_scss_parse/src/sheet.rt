@@ -11,9 +11,9 @@ use crate::source::Source;
 use crate::terminal::lexemes_of;
 use std::alloc::Global;
 use sw_grammar::ReadError;
+use sw_syntax_tree::Sheet;
 use sw_text::{Fault, FaultCode, Shared, SheetText};
 use sw_tokens::Tokens;
-use sw_tree::Sheet;
 
 // How many levels of brackets may be open.
 const LEVELS: u8 = 128;

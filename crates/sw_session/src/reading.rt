@@ -7,8 +7,8 @@ ghost use Rattle.sw_scss_parse.specs.SheetReading.{sheet_of};
 use std::alloc::Global;
 use sw_keeper::Reader;
 use sw_scss_parse::{ReadEnd, read_sheet};
+use sw_syntax_tree::Sheet;
 use sw_text::{Fault, FaultCode, Memory, Name, Shared, SheetText, Span};
-use sw_tree::Sheet;
 
 /// Reads each file by the extension of its path. A file that isn't `.scss` gives `Syntax` at its first place.
 #[derive(Clone, Copy, Debug)]

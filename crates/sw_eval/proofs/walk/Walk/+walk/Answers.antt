@@ -1,5 +1,5 @@
 use Rattle.std.proofs.Common.{◌≡◌, arith}
-use Rattle.sw_tree.specs.declared.statement.Statement as S
+use Rattle.sw_syntax_tree.specs.declared.statement.Statement as S
 use Rattle.sw_eval.specs.Ran.{still}
 use Rattle.sw_eval.specs.Means.{block, framed, rule, does_one, does_to}
 use Rattle.sw_eval.proofs.Steps.{no_memory, no_memory_by, gives_state, did_value, did_err, did_then, did_plain, ran_then, ran_did}
@@ -27,15 +27,11 @@ does_one-returns-in-Assignment g t c = rw c.in-Assignment.is c.assigned.ensures
 
 pub does_one-returns-in-Declaration : goal.does_one-returns-in-Declaration
 unfolding does_one S.out-Statement denote.Hole.Carrier.out
-does_one-returns-in-Declaration g t c = rw c.in-Declaration.is (rw c.plain.ensures at c.declaration.ensures)
+does_one-returns-in-Declaration g t c = rw c.in-Declaration.is c.declaration.ensures
 
 pub does_one-returns-in-Rule : goal.does_one-returns-in-Rule
 unfolding does_one
-does_one-returns-in-Rule g t c = rw (c.in-Rule.is, out_Rule) (rw (c.plain-in-Rule.ensures, c.as_slice.ensures) at c.rule.ensures)
-
-pub does_one-returns-in-Use : goal.does_one-returns-in-Use
-unfolding does_one S.out-Statement denote.Hole.Carrier.out
-does_one-returns-in-Use g t c = rw c.in-Use.is (did_plain _ c.args.self.now.state _ _ _ (c.fails.ensures c.args.self.now.state))
+does_one-returns-in-Rule g t c = rw (c.in-Rule.is, out_Rule) c.rule.ensures
 
 pub rule-returns-then-is_open : goal.rule-returns-then-is_open
 unfolding rule
@@ -43,22 +39,24 @@ rule-returns-then-is_open g t c =
     rw (← c.is_open.ensures, c.if-is_open.true) (did_plain _ c.args.self.now.state _ _ _ (c.fails.ensures c.args.self.now.state))
 
 pub rule-returns-in_err-selectors : goal.rule-returns-in_err-selectors
-rule-returns-in_err-selectors g t c = no_memory _ c.args.self.now.state _ _ _ c.from_residual.ensures
+unfolding rule
+rule-returns-in_err-selectors g t c =
+    rw (← c.is_open.ensures, c.if-is_open.false) (did_err _ (did_plain _ c.args.self.now.state _ _ _ (c.in_err-selectors.ensures c.args.self.now.state)) c.from_residual.ensures)
 
 pub rule-returns-in_err-opening : goal.rule-returns-in_err-opening
 unfolding rule
 rule-returns-in_err-opening g t c =
-    rw (← c.is_open.ensures, c.if-is_open.false, ← c.in_ok-selectors.ensures) (did_err _ (did_plain _ _ _ _ _ c.in_err-opening.ensures) c.from_residual-in_err-opening.ensures)
+    rw (← c.is_open.ensures, c.if-is_open.false) (did_then _ (did_plain _ c.args.self.now.state _ _ _ (c.in_ok-selectors.ensures c.args.self.now.state)) (did_err _ (did_plain _ _ _ _ _ c.in_err-opening.ensures) c.from_residual-in_err-opening.ensures))
 
 pub rule-returns-in_err-framed : goal.rule-returns-in_err-framed
 unfolding rule
 rule-returns-in_err-framed g t c =
-    rw (← c.is_open.ensures, c.if-is_open.false, ← c.in_ok-selectors.ensures) (did_then _ (did_plain _ _ _ _ _ c.in_ok-opening.ensures) (did_err _ c.in_err-framed.ensures c.from_residual-in_err-framed.ensures))
+    rw (← c.is_open.ensures, c.if-is_open.false) (did_then _ (did_plain _ c.args.self.now.state _ _ _ (c.in_ok-selectors.ensures c.args.self.now.state)) (did_then _ (did_plain _ _ _ _ _ c.in_ok-opening.ensures) (did_err _ (rw c.as_slice.ensures at c.in_err-framed.ensures) c.from_residual-in_err-framed.ensures)))
 
 pub rule-returns : goal.rule-returns
 unfolding rule
 rule-returns g t c =
-    rw (← c.is_open.ensures, c.if-is_open.false, ← c.in_ok-selectors.ensures, c.close.ensures) (did_then _ (did_plain _ _ _ _ _ c.in_ok-opening.ensures) (did_then _ c.in_ok-framed.ensures (did_value _ _ _ _)))
+    rw (← c.is_open.ensures, c.if-is_open.false, c.close.ensures) (did_then _ (did_plain _ c.args.self.now.state _ _ _ (c.in_ok-selectors.ensures c.args.self.now.state)) (did_then _ (did_plain _ _ _ _ _ c.in_ok-opening.ensures) (did_then _ (rw c.as_slice.ensures at c.in_ok-framed.ensures) (did_value _ _ _ _))))
 
 pub framed-returns-in_err-enter : goal.framed-returns-in_err-enter
 framed-returns-in_err-enter g t c = no_memory_by _ _ _ _ _ _ _ _ c.in_err-enter.ensures c.from_residual.ensures

@@ -2,14 +2,18 @@ use Rattle.sw_eval.specs.Means.{variable_set}
 use Rattle.sw_eval.proofs.Steps.{no_memory, did_err, did_then, did_plain}
 use Rattle.sw_eval.proofs.walk.Walk.variable_set.Goals as goal
 
+pub returns-then-is_flagged : goal.returns-then-is_flagged
+unfolding variable_set
+returns-then-is_flagged g c = rw (← c.is_flagged.ensures, c.if-is_flagged.true) (did_plain _ c.args.self.now.state _ _ _ (c.fails.ensures c.args.self.now.state))
+
 pub returns-in_err-value : goal.returns-in_err-value
 unfolding variable_set
-returns-in_err-value g c = did_err _ c.in_err-value.ensures c.from_residual.ensures
+returns-in_err-value g c = rw (← c.is_flagged.ensures, c.if-is_flagged.false) (did_err _ c.in_err-value.ensures c.from_residual.ensures)
 
 pub returns-in_err-name : goal.returns-in_err-name
 unfolding variable_set
-returns-in_err-name g c = did_then _ c.in_ok-value.ensures (no_memory _ c.value.new.self.state _ _ _ c.from_residual-in_err-name.ensures)
+returns-in_err-name g c = rw (← c.is_flagged.ensures, c.if-is_flagged.false) (did_then _ c.in_ok-value.ensures (no_memory _ c.value.new.self.state _ _ _ c.from_residual-in_err-name.ensures))
 
 pub returns : goal.returns
 unfolding variable_set
-returns g c = did_then _ c.in_ok-value.ensures (did_plain _ _ _ _ _ (rw c.in_ok-name.ensures at c.set_by.ensures))
+returns g c = rw (← c.is_flagged.ensures, c.if-is_flagged.false) (did_then _ c.in_ok-value.ensures (did_plain _ _ _ _ _ (rw c.in_ok-name.ensures at c.set_by.ensures)))
