@@ -1,11 +1,15 @@
 -- What a turn of `@each` gives its variables (the Sass specification on `@each`).
-use Rattle.std.specs.Prelude.{ℕ, zero, suc, ◌==◌, if◌then◌else◌, List, [], ◌∷◌, Ok}
+use Rattle.std.specs.Prelude.{ℕ, zero, suc, ◌==◌, if◌then◌else◌, List, [], ◌∷◌, Option, Some, None, Ok}
 use Rattle.sw_text.specs.declared.place.Span.{Span}
 use Rattle.sw_values.specs.declared.plain.Plain.{Plain}
 use Rattle.sw_values.specs.declared.plain.Plain.TheVariants as P
 use Rattle.sw_values.specs.Items.{items_of}
 use Rattle.sw_literals.specs.Answers.{Answer, with}
 use Rattle.sw_literals.specs.Quotients.{plain_at}
+
+abbrev pub or_null : Option Plain → Plain
+or_null (Some value) = value
+or_null None = P.Null
 
 -- the first so many, and null for each that is missing
 abbrev pub filled : ℕ → List Plain → List Plain

@@ -1,6 +1,6 @@
 -- What signs and operators make of operands that were evaluated (the Sass specification on operators; places of faults
 -- are this project's own).
-use Rattle.std.specs.Prelude.{Bool, true, false, not, ◌&&◌, if◌then◌else◌, List, [], ◌∷◌, Option, Some, None, Ok, Err}
+use Rattle.std.specs.Prelude.{Bool, true, false, not, ◌&&◌, if◌then◌else◌, List, [], ◌∷◌, Option, Some, None, Ok}
 use Rattle.sw_text.specs.declared.place.Span.{Span}
 use Rattle.sw_units.specs.declared.number.Number.{Number}
 use Rattle.sw_values.specs.declared.plain.Plain.{Plain}

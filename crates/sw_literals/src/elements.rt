@@ -1,7 +1,7 @@
 // What a turn over a list gives its variables.
-ghost use Rattle.std.specs.Prelude.{◌≡◌, IfOk};
+ghost use Rattle.std.specs.Prelude.{◌≡◌, IfOk, slice_get};
 ghost use Rattle.sw_literals.specs.Answers.{Returns};
-ghost use Rattle.sw_literals.specs.Elements.{filled, parts_of, all_plain, taken_apart};
+ghost use Rattle.sw_literals.specs.Elements.{or_null, filled, parts_of, all_plain, taken_apart};
 
 use crate::quotients::plain_at;
 use crate::refused::Refused;
@@ -9,17 +9,23 @@ use std::alloc::Global;
 use sw_text::{List, Memory, Span};
 use sw_values::Value;
 
+// The value at a place, or null.
+fn part_at(values: &[Value], at: usize) -> Result<Value, Memory>
+    ensures { IfOk result (λ part. part ≡ or_null (slice_get values.now at)) }
+{
+    match values.get(at) {
+        Some(value) => value.share(),
+        None => Ok(Value::null()),
+    }
+}
+
 // The first so many values, and null for each that is missing.
 fn filled(alloc: Global, count: usize, values: &[Value]) -> Result<List<Value>, Memory>
     ensures { IfOk result (λ parts. parts ≡ filled count values.now) }
 {
     let mut parts = List::new(alloc);
     'parts: for at in 0..count {
-        let part = match values.get(at) {
-            Some(value) => value.share()?,
-            None => Value::null(),
-        };
-        parts.push(part)?;
+        parts.push(part_at(values, at)?)?;
     }
     Ok(parts)
 }
@@ -42,7 +48,8 @@ fn all_plain(alloc: Global, values: &[Value], at: &Span) -> Result<List<Value>, 
 {
     let mut all = List::new(alloc);
     'values: for value in values {
-        all.push(plain_at(value, at)?)?;
+        let plain = plain_at(value, at)?;
+        all.push(plain)?;
     }
     Ok(all)
 }

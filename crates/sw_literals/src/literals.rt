@@ -53,6 +53,7 @@ pub fn string_value(text: Name, quoted: bool, at: &Span) -> Result<Value, Refuse
     within(Node::Text { text, quoted }, at)
 }
 
+#[tactic(auto, using(crate::proofs::Limits::colour_is_within))]
 fn colour_or(colour: Option<Colour>, text: &Name, at: &Span) -> Result<Value, Refused>
     ensures { Returns result (colour_or colour text.now at.now) }
 {

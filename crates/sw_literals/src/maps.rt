@@ -15,6 +15,7 @@ use sw_values::{Value, ValueFault, map_of};
 
 // The greatest weight of a value, and its greatest nesting.
 const MOST_WEIGHT: u32 = 1_048_576;
+
 const DEEPEST: u16 = 1_000;
 
 // How heavy pairs are, or more than a value may weigh.
@@ -47,7 +48,13 @@ fn nesting_of(pairs: &[(Value, Value)]) -> u16
 fn fits(pairs: &[(Value, Value)]) -> bool
     ensures { result ≡ is_within (P.Map pairs.now) }
 {
-    weight_of(pairs) < MOST_WEIGHT && nesting_of(pairs) < DEEPEST
+    if weight_of(pairs) >= MOST_WEIGHT {
+        return false;
+    }
+    if nesting_of(pairs) >= DEEPEST {
+        return false;
+    }
+    true
 }
 
 // Where the key of a pair is written.

@@ -1,6 +1,7 @@
 // Signs before an operand.
 ghost use Rattle.std.specs.Prelude.{◌≡◌};
-ghost use Rattle.sw_literals.specs.Answers.{Returns};
+ghost use Rattle.sw_ops.specs.Operators.{unary};
+ghost use Rattle.sw_literals.specs.Answers.{Returns, of_op};
 ghost use Rattle.sw_literals.specs.Operations.{sign_of, signed, prefixed};
 
 use crate::making::of_op;
@@ -23,6 +24,12 @@ fn sign_of(sign: Sign) -> Op1
     }
 }
 
+fn one_signed(alloc: Global, sign: Sign, value: Value, at: &Span) -> Result<Value, Refused>
+    ensures { Returns result (of_op at.now (unary (sign_of sign) value)) }
+{
+    of_op(unary(alloc, sign_of(sign), &value), at)
+}
+
 // The value of an operand with signs before it, of which the last is the innermost.
 fn signed(alloc: Global, signs: &[Sign], value: Value, at: &Span) -> Result<Value, Refused>
     ensures { Returns result (signed signs.now value at.now) }
@@ -31,7 +38,10 @@ fn signed(alloc: Global, signs: &[Sign], value: Value, at: &Span) -> Result<Valu
     let mut left = signs.len();
     'signs: while left > 0 {
         left -= 1;
-        value = of_op(unary(alloc, sign_of(signs[left]), &value), at)?;
+        match one_signed(alloc, signs[left], value, at) {
+            Ok(inner) => value = inner,
+            Err(refused) => return Err(refused),
+        }
     }
     Ok(value)
 }

@@ -98,7 +98,12 @@ pub fn joined(alloc: Global, pieces: &[Name], at: &Span) -> Result<Name, Refused
 fn all_blank(items: &[Value]) -> bool
     ensures { result ≡ all_blank items.now }
 {
-    items.iter().all(|item| item.is_blank())
+    'items: for item in items {
+        if !item.is_blank() {
+            return false;
+        }
+    }
+    true
 }
 
 fn blank_list(bracketed: bool, items: &[Value]) -> bool
@@ -116,7 +121,9 @@ fn is_void(value: &Value) -> bool
 {
     match value.node() {
         Node::List {
-            items, bracketed, ..
+            items,
+            bracketed,
+            ..
         } => blank_list(*bracketed, items.get().as_slice()),
         Node::Args { items, .. } => blank_list(false, items.get().as_slice()),
         Node::Number(_) => value.is_blank(),
