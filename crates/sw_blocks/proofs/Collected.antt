@@ -1,5 +1,5 @@
 -- What the parts behind the first block of `@if` hold.
-use Rattle.std.proofs.Common.{◌≡◌, ℕ, List, [], ◌∷◌, ◌++◌, map, Option, Some, None, refl, ap}
+use Rattle.std.proofs.Common.{◌≡◌, List, [], ◌∷◌, ◌++◌, map, Option, Some, None, refl, ap}
 use Rattle.sw_syntax_tree.specs.declared.statement.Statement.{Statement}
 use Rattle.sw_syntax_tree.specs.declared.statement.Branch.{Branch}
 use Rattle.sw_syntax.specs.Parts.{Branches, branches_of, block_of}

@@ -1,5 +1,5 @@
 -- What the table makes of what was read of statements with blocks.
-use Rattle.std.specs.Prelude.{ℕ, List, [], ◌∷◌, Option, Some, None}
+use Rattle.std.specs.Prelude.{ℕ, List, [], Option, Some, None}
 use Rattle.sw_text.specs.declared.place.Span.{Span}
 use Rattle.sw_syntax_tree.specs.declared.expr.Expr.{Expr}
 use Rattle.sw_syntax_tree.specs.declared.expr.Argument.{Argument}

@@ -228,12 +228,7 @@ fn if_with(
 }
 
 #[tactic(auto, using(crate::proofs::Collected::collected))]
-fn if_of(
-    source: &Source,
-    at: usize,
-    head: usize,
-    chosen: Chosen,
-) -> Result<Statement, Memory>
+fn if_of(source: &Source, at: usize, head: usize, chosen: Chosen) -> Result<Statement, Memory>
     ensures { IfOk result (λ statement. to_if source.now at head (Values chosen.first.condition ∷ Behind head
         ∷ chosen_parts chosen) ≡ States statement ∷ []) }
 {

@@ -1,8 +1,7 @@
 // Functions and mixins.
 ghost use Rattle.std.specs.Prelude.{◌≡◌, ◌∷◌, [], ◌++◌, IfOk};
 ghost use Rattle.sw_syntax.specs.Parts.{Behind, Blocks, States};
-ghost use Rattle.sw_syntax.specs.Sources.{span_between};
-ghost use Rattle.sw_syntax.specs.Actions.{name_at, to_callable};
+ghost use Rattle.sw_syntax.specs.Actions.{to_callable};
 ghost use Rattle.sw_syntax.specs.Statements.{function, mixin};
 ghost use Rattle.sw_syntax.specs.Reads.{reads, Reads};
 ghost use Rattle.sw_expr_inner.specs.Deeper.{Callable as CallableInner};
@@ -11,13 +10,14 @@ ghost use Rattle.sw_blocks.specs.Inner.{ReadingInner};
 ghost use Rattle.sw_blocks.specs.Made.{written_params};
 
 use crate::block::headed_at;
+use crate::name::name_between;
 use std::alloc::Global;
 use sw_callable_heads::{CallableHead, function_head_at, mixin_head_at};
 use sw_expr_nodes::given_up;
 use sw_grammar::ReadError;
-use sw_syntax::{Source, bytes_at, found, span_between};
+use sw_syntax::{Source, found};
 use sw_syntax_tree::{Callable, Kind, Params, Statement};
-use sw_text::{List, Memory, Name, Shared, Span};
+use sw_text::{List, Memory, Shared};
 
 /// The parameters that are written, or none.
 pub(crate) fn params_of(alloc: Global, params: Option<Params>) -> Params
@@ -32,19 +32,6 @@ pub(crate) fn params_of(alloc: Global, params: Option<Params>) -> Params
     }
 }
 
-fn name_of(
-    alloc: Global,
-    source: &Source,
-    places: (usize, usize),
-    name: usize,
-) -> Result<(Name, Span), Memory>
-    ensures name { IfOk result (λ both. both.0 ≡ name_at source.now name) }
-    ensures span { IfOk result (λ both. both.1 ≡ span_between source.now places.0 places.1) }
-{
-    let span = span_between(source, places.0, places.1)?;
-    Ok((Name::dashed(alloc, bytes_at(source, name))?, span))
-}
-
 #[tactic(auto, using(crate::proofs::Made::callable_is))]
 fn callable_of(
     alloc: Global,
@@ -57,7 +44,7 @@ fn callable_of(
     ensures { IfOk result (λ statement. to_callable source.now kind places.0 places.1 ((callable_parts head ++ Behind
         places.1 ∷ []) ++ Blocks block ∷ []) ≡ States statement ∷ []) }
 {
-    match name_of(alloc, source, places, head.name) {
+    match name_between(alloc, source, places, head.name) {
         Ok((name, span)) => {
             let callable = Callable {
                 kind,

@@ -2,7 +2,7 @@
 ghost use Rattle.std.specs.Prelude.{◌≡◌, ◌∷◌, [], ◌++◌, IfOk};
 ghost use Rattle.sw_syntax.specs.Parts.{Behind, Blocks, States};
 ghost use Rattle.sw_syntax.specs.Sources.{span_between};
-ghost use Rattle.sw_syntax.specs.Actions.{name_at, names_at, to_each, to_for};
+ghost use Rattle.sw_syntax.specs.Actions.{names_at, to_each, to_for};
 ghost use Rattle.sw_syntax.specs.Statements.{each, for_};
 ghost use Rattle.sw_syntax.specs.Reads.{reads, Reads};
 ghost use Rattle.sw_expr_inner.specs.Deeper.{Callable};
@@ -11,6 +11,7 @@ ghost use Rattle.sw_blocks.specs.Inner.{ReadingInner};
 ghost use Rattle.sw_blocks.specs.Made.{bounds_of, for_of};
 
 use crate::block::headed_at;
+use crate::name::name_between;
 use std::alloc::Global;
 use sw_expr_nodes::given_up;
 use sw_grammar::ReadError;
@@ -48,7 +49,10 @@ fn named_of(
     ensures span { IfOk result (λ both. both.1 ≡ span_between source.now at place) }
 {
     let span = span_between(source, at, place)?;
-    Ok((names_at(alloc, source, head.first, head.rest.as_slice())?, span))
+    Ok((
+        names_at(alloc, source, head.first, head.rest.as_slice())?,
+        span,
+    ))
 }
 
 #[tactic(auto, using(crate::proofs::Made::each_is))]
@@ -106,20 +110,6 @@ fn bounds_of(
     Shared::new(alloc, Bounds { from, to, through })
 }
 
-fn counter_of(
-    alloc: Global,
-    source: &Source,
-    at: usize,
-    place: usize,
-    name: usize,
-) -> Result<(Name, Span), Memory>
-    ensures name { IfOk result (λ both. both.0 ≡ name_at source.now name) }
-    ensures span { IfOk result (λ both. both.1 ≡ span_between source.now at place) }
-{
-    let span = span_between(source, at, place)?;
-    Ok((Name::dashed(alloc, bytes_at(source, name))?, span))
-}
-
 fn for_with(
     alloc: Global,
     source: &Source,
@@ -158,7 +148,7 @@ fn for_of(
     ensures { IfOk result (λ statement. to_for source.now at place ((for_parts head ++ Behind place ∷ []) ++ Blocks
         block ∷ []) ≡ States statement ∷ []) }
 {
-    match counter_of(alloc, source, at, place, head.name) {
+    match name_between(alloc, source, (at, place), head.name) {
         Ok(counter) => for_with(alloc, source, counter, head, block),
         Err(error) => Err(given_up((head, block), error)),
     }

@@ -11,6 +11,7 @@ mod counted;
 mod declaration;
 mod include;
 mod media;
+mod name;
 mod rule;
 
 pub use at_rule::at_rule_at;
