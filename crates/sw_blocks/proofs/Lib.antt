@@ -1,0 +1,4 @@
+pub mod Braces
+pub mod Collected
+pub mod Repeated
+pub mod Made
