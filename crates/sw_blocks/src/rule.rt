@@ -1,0 +1,135 @@
+// Rules, `@supports` and `@at-root`: a text and a block.
+ghost use Rattle.std.specs.Prelude.{◌≡◌, ◌∷◌, [], ◌++◌, IfOk};
+ghost use Rattle.sw_syntax.specs.Parts.{Texts, Behind, Blocks, States};
+ghost use Rattle.sw_syntax.specs.Actions.{to_rule, to_supports, to_at_root};
+ghost use Rattle.sw_syntax.specs.Statements.{rule, supports, at_root};
+ghost use Rattle.sw_syntax.specs.Reads.{reads, Reads};
+ghost use Rattle.sw_expr_inner.specs.Deeper.{Callable};
+ghost use Rattle.sw_statement_parts.specs.Rows.{text_in};
+ghost use Rattle.sw_blocks.specs.Inner.{ReadingInner};
+
+use crate::block::headed_at;
+use std::alloc::Global;
+use sw_expr_nodes::given_up;
+use sw_grammar::ReadError;
+use sw_statement_heads::{at_root_head_at, rule_head_at, supports_head_at};
+use sw_syntax::{Source, found, span_between};
+use sw_syntax_tree::{AtRoot, Rule, Statement, Supports, Text};
+use sw_text::{List, Memory};
+
+fn rule_of(
+    source: &Source,
+    at: usize,
+    head: usize,
+    selector: Text,
+    block: List<Statement>,
+) -> Result<Statement, Memory>
+    ensures { IfOk result (λ statement. to_rule source.now at head (Texts selector ∷ Behind head ∷ Blocks block ∷ [])
+        ≡ States statement ∷ []) }
+{
+    match span_between(source, at, head) {
+        Ok(span) => Ok(Statement::Rule(Rule {
+            selector,
+            block,
+            span,
+        })),
+        Err(error) => Err(given_up((selector, block), error)),
+    }
+}
+
+/// A rule: a selector and its block.
+#[tactic(auto, unfolding(sw_grammar::specs::Readers::parse, sw_syntax::specs::Statements::rule))]
+pub fn rule_at<S: Fn(u8, usize) -> Result<(List<Statement>, usize), ReadError> + Copy>(
+    alloc: Global,
+    inner: S,
+    source: &Source,
+    levels: u8,
+    at: usize,
+) -> Result<(Statement, usize), ReadError>
+    requires callable { Callable (S.Fn.pre inner) levels }
+    requires reading { ReadingInner (S.Fn.post inner) source.now levels }
+    ensures { Reads (λ statement. States statement ∷ []) result (reads source.now levels rule at) }
+{
+    let (selector, head) = rule_head_at(alloc, source, levels, at)?;
+    let ((selector, block), place) = headed_at(inner, source, levels, head, selector)?;
+    let statement = found(rule_of(source, at, head, selector, block))?;
+    Ok((statement, place))
+}
+
+fn supports_of(
+    source: &Source,
+    at: usize,
+    head: usize,
+    condition: Text,
+    block: List<Statement>,
+) -> Result<Statement, Memory>
+    ensures { IfOk result (λ statement. to_supports source.now at head (Texts condition ∷ Behind head ∷ Blocks block
+        ∷ []) ≡ States statement ∷ []) }
+{
+    match span_between(source, at, head) {
+        Ok(span) => Ok(Statement::Supports(Supports {
+            condition,
+            block,
+            span,
+        })),
+        Err(error) => Err(given_up((condition, block), error)),
+    }
+}
+
+/// `@supports` with its condition and its block.
+#[tactic(auto, unfolding(sw_grammar::specs::Readers::parse, sw_syntax::specs::Statements::supports))]
+pub fn supports_at<S: Fn(u8, usize) -> Result<(List<Statement>, usize), ReadError> + Copy>(
+    alloc: Global,
+    inner: S,
+    source: &Source,
+    levels: u8,
+    at: usize,
+) -> Result<(Statement, usize), ReadError>
+    requires callable { Callable (S.Fn.pre inner) levels }
+    requires reading { ReadingInner (S.Fn.post inner) source.now levels }
+    ensures { Reads (λ statement. States statement ∷ []) result (reads source.now levels supports at) }
+{
+    let (condition, head) = supports_head_at(alloc, source, levels, at)?;
+    let ((condition, block), place) = headed_at(inner, source, levels, head, condition)?;
+    let statement = found(supports_of(source, at, head, condition, block))?;
+    Ok((statement, place))
+}
+
+fn at_root_of(
+    source: &Source,
+    at: usize,
+    head: usize,
+    selector: Option<Text>,
+    block: List<Statement>,
+) -> Result<Statement, Memory>
+    ensures { IfOk result (λ statement. to_at_root source.now at head ((text_in selector ++ Behind head ∷ []) ++ Blocks
+        block ∷ []) ≡ States statement ∷ []) }
+{
+    match span_between(source, at, head) {
+        Ok(span) => Ok(Statement::AtRoot(AtRoot {
+            selector,
+            block,
+            span,
+        })),
+        Err(error) => Err(given_up((selector, block), error)),
+    }
+}
+
+/// `@at-root` with its selector and its block.
+#[tactic(auto, unfolding(sw_grammar::specs::Readers::parse, sw_syntax::specs::Statements::at_root))]
+pub fn at_root_at<S: Fn(u8, usize) -> Result<(List<Statement>, usize), ReadError> + Copy>(
+    alloc: Global,
+    inner: S,
+    source: &Source,
+    levels: u8,
+    at: usize,
+) -> Result<(Statement, usize), ReadError>
+    requires callable { Callable (S.Fn.pre inner) levels }
+    requires reading { ReadingInner (S.Fn.post inner) source.now levels }
+    ensures { Reads (λ statement. States statement ∷ []) result (reads source.now levels at_root at) }
+{
+    let (selector, head) = at_root_head_at(alloc, source, levels, at)?;
+    let ((selector, block), place) = headed_at(inner, source, levels, head, selector)?;
+    let statement = found(at_root_of(source, at, head, selector, block))?;
+    Ok((statement, place))
+}
