@@ -17,7 +17,7 @@ use Rattle.sw_sheet_parse.specs.Starts.{comment_starts, plain_starts, load_start
 
 -- what each row begins with
 record Firsts (source : Source) : Type 0 where
-  of_semicolon : first (skip (just T.Semicolon)) ≡ (just T.Semicolon)
+  of_semicolon : first {V = Part} {F = Form} (skip (just T.Semicolon)) ≡ (just T.Semicolon)
   of_set : first (set source) ≡ dollars
   of_assigned : first (assigned source) ≡ (just T.Owner)
   of_declaration : first (declaration source) ≡ words

@@ -73,9 +73,7 @@ fn is_worded_number(number: u8) -> bool
 fn is_statement_number(number: u8) -> bool
     ensures { result ≡ member number statement_starts }
 {
-    let plain = is_plain_number(number);
-    let worded = is_worded_number(number);
-    plain || worded
+    is_plain_number(number) || is_worded_number(number)
 }
 
 /// Whether a statement begins at a place, or a `;` alone.

@@ -3,12 +3,24 @@ ghost use Rattle.std.specs.Prelude.{◌≡◌, slice_get, None, IfOk};
 ghost use Rattle.std.specs.Str.{IsCharBoundary};
 ghost use Rattle.sw_syntax.specs.Sources.{bytes, span_from, lexeme_at, token_of};
 ghost use Rattle.sw_expr_parse.specs.Readings.{token_span, fault_at, IsEnd, EndsBy};
+ghost use Rattle.sw_sheet_parse.specs.Readings.{end_without_tokens};
 
 use sw_expr_parse::ReadEnd;
 use sw_grammar::ReadError;
 use sw_syntax::Source;
 use sw_terminals::Lexeme;
 use sw_text::{Fault, FaultCode, Memory, Span};
+use sw_tokens::Fault10;
+
+/// How reading ends where the text has no tokens.
+pub(crate) fn end_without_tokens(fault: Fault10) -> ReadEnd
+    ensures { result ≡ end_without_tokens fault }
+{
+    match fault {
+        Fault10::Fault(fault) => ReadEnd::Fault(fault),
+        Fault10::Memory => ReadEnd::Memory,
+    }
+}
 
 /// How reading ends where the reader of the grammar stops so.
 pub(crate) fn end_of(source: &Source, error: ReadError) -> ReadEnd

@@ -5,10 +5,10 @@
 
 mod begin;
 mod fault;
-mod read;
 mod simple;
 mod statement;
+mod statements;
 mod whole;
 
-pub use read::read_statements;
-pub use whole::{read, read_list};
+pub use statements::read_statements;
+pub use whole::{read, read_list, sheets_are_of_the_grammar};

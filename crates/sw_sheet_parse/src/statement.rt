@@ -17,9 +17,7 @@ use sw_blocks::{
 use sw_callable_heads::content_at;
 use sw_expr_nodes::{begins_word, is_dollar};
 use sw_grammar::ReadError;
-use sw_statement_heads::{
-    assigned_at, debug_at, error_at, forward_at, return_at, set_at, warn_at,
-};
+use sw_statement_heads::{assigned_at, debug_at, error_at, forward_at, return_at, set_at, warn_at};
 use sw_statement_parts::charset_at;
 use sw_syntax::{Source, is_at};
 use sw_syntax_tree::Statement;

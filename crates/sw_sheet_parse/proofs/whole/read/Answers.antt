@@ -1,12 +1,20 @@
-use Rattle.sw_sheet_parse.proofs.Sheets.{tokens_read, unclosed_read, memory_read}
+use Rattle.sw_sheet_parse.proofs.Sheets.{tokens_returned, tokens_saw, unclosed_returned, unclosed_saw}
 use Rattle.sw_sheet_parse.proofs.whole.read.Goals as goal
 
-pub returns-in-Ok : goal.returns-in-Ok
-returns-in-Ok c =
-    tokens_read c.args.text.now _ c.read_list.result c.in-Ok.ensures.tokens c.in-Ok.ensures.sheet c.read_list.ensures
+pub returns-in-Ok-clause-result : goal.returns-in-Ok-clause-result
+returns-in-Ok-clause-result c =
+    tokens_returned c.args.text.now _ c.read_list.result c.in-Ok.ensures.tokens c.in-Ok.ensures.sheet
+    c.read_list.ensures.result
 
-pub returns-in-Err-Fault : goal.returns-in-Err-Fault
-returns-in-Err-Fault c = unclosed_read c.args.text.now _ (rw c.in-Err-Fault.field-0-is at c.in-Err-Fault.ensures.fault)
+pub returns-in-Ok-clause-seen : goal.returns-in-Ok-clause-seen
+returns-in-Ok-clause-seen c =
+    tokens_saw c.args.text.now _ c.read_list.result c.in-Ok.ensures.tokens c.in-Ok.ensures.sheet
+    c.read_list.ensures.seen
 
-pub returns-in-Err-Memory : goal.returns-in-Err-Memory
-returns-in-Err-Memory c = memory_read c.args.text.now
+pub returns-in-Err-clause-result : goal.returns-in-Err-clause-result
+returns-in-Err-clause-result c =
+    rw c.end_without_tokens.ensures (unclosed_returned c.args.text.now _ c.in-Err.ensures.fault)
+
+pub returns-in-Err-clause-seen : goal.returns-in-Err-clause-seen
+returns-in-Err-clause-seen c =
+    rw c.end_without_tokens.ensures (unclosed_saw c.args.text.now _ c.in-Err.ensures.fault)

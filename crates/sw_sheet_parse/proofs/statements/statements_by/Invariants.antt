@@ -3,7 +3,7 @@ use Rattle.sw_grammar.specs.Grammar.{many, prepend}
 use Rattle.sw_syntax.specs.Parts.{States}
 use Rattle.sw_syntax.specs.Statements.{statement}
 use Rattle.sw_syntax.specs.Reads.{reader}
-use Rattle.sw_sheet_parse.proofs.read.statements_by.Given as goal
+use Rattle.sw_sheet_parse.proofs.statements.statements_by.Given as goal
 
 abbrev pub invariant-items : goal.invariant-items
 invariant-items g l =

@@ -1,5 +1,5 @@
 use Rattle.std.proofs.Common.{◌+◌, ◌*◌}
-use Rattle.sw_sheet_parse.proofs.read.+fn-read_statements-statements_by+read_statements.Given as goal
+use Rattle.sw_sheet_parse.proofs.statements.+fn-read_statements-statements_by+read_statements.Given as goal
 
 abbrev pub decreases-statements_by : goal.decreases-statements_by
 decreases-statements_by l = 2 * l.lower + 1

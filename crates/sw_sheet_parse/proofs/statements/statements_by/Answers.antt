@@ -4,7 +4,7 @@ use Rattle.sw_grammar.proofs.Loops.{at_first, loop_step, loop_end, loop_fails, g
 use Rattle.sw_syntax.specs.Statements.{statement}
 use Rattle.sw_syntax.proofs.Decided.{fit}
 use Rattle.sw_sheet_parse.proofs.Choices.{repeated}
-use Rattle.sw_sheet_parse.proofs.read.statements_by.Goals as goal
+use Rattle.sw_sheet_parse.proofs.statements.statements_by.Goals as goal
 
 pub returns-in_err-item : goal.returns-in_err-item
 returns-in_err-item g c =
