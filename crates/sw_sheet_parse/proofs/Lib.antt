@@ -1,0 +1,6 @@
+pub mod Choices
+pub mod Rows
+pub mod LaidLemmas
+pub mod StatesOf
+pub mod Alike
+pub mod Sheets

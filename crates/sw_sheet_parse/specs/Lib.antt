@@ -1,0 +1,4 @@
+pub mod Starts
+pub mod Laid
+pub mod Seen
+pub mod Readings

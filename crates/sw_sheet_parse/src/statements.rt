@@ -1,0 +1,79 @@
+// The readers of statements, one behind the other.
+ghost use Rattle.std.specs.Prelude.{◌≡◌, ◌<◌, ◌++◌, map, OnOk, IfErr};
+ghost use Rattle.sw_syntax.specs.Parts.{States};
+ghost use Rattle.sw_syntax.specs.Reads.{reader};
+ghost use Rattle.sw_expr_inner.specs.Deeper.{Callable};
+ghost use Rattle.sw_blocks.specs.Inner.{statements, ReadsStatements, ReadingInner};
+ghost use Rattle.sw_sheet_parse.specs.Starts.{statement_in};
+
+use crate::begin::begins_statement;
+use crate::statement::statement_at;
+use std::alloc::Global;
+use sw_grammar::ReadError;
+use sw_syntax::{Source, found};
+use sw_syntax_tree::Statement;
+use sw_text::{List, Memory};
+
+fn added(list: &mut List<Statement>, item: Option<Statement>) -> Result<(), Memory>
+    ensures { OnOk result (map States list.new ≡ map States list.old ++ statement_in item) }
+{
+    match item {
+        None => Ok(()),
+        Some(statement) => list.push(statement),
+    }
+}
+
+/// Puts what was read behind the others.
+fn grown(list: &mut List<Statement>, item: Option<Statement>) -> Result<(), ReadError>
+    ensures more { OnOk result (map States list.new ≡ map States list.old ++ statement_in item) }
+    ensures memory { IfErr result (λ error. error ≡ ReadError.Memory) }
+{
+    found(added(list, item))
+}
+
+/// Any number of statements, over a reader of those in blocks.
+#[tactic(auto, unfolding(sw_grammar::specs::Readers::parse))]
+fn statements_by<S: Fn(u8, usize) -> Result<(List<Statement>, usize), ReadError> + Copy>(
+    alloc: Global,
+    inner: S,
+    source: &Source,
+    levels: u8,
+    at: usize,
+) -> Result<(List<Statement>, usize), ReadError>
+    requires callable { Callable (S.Fn.pre inner) levels }
+    requires reading { ReadingInner (S.Fn.post inner) source.now levels }
+    ensures { ReadsStatements result (reader source.now levels (statements source.now) at) }
+{
+    let mut list = List::new(alloc);
+    let mut place = at;
+    'items: while begins_statement(source, place) {
+        let (item, next) = statement_at(alloc, inner, source, levels, place)?;
+        grown(&mut list, item)?;
+        place = next;
+    }
+    Ok((list, place))
+}
+
+/// The statements from a place on, where so many levels of brackets may be opened, and the place behind them.
+pub fn read_statements(
+    alloc: Global,
+    source: &Source,
+    levels: u8,
+    at: usize,
+) -> Result<(List<Statement>, usize), ReadError>
+    ensures { ReadsStatements result (reader source.now levels (statements source.now) at) }
+{
+    statements_by(
+        alloc,
+        |lower: u8, place: usize| -> Result<(List<Statement>, usize), ReadError>
+            requires { lower < levels }
+            ensures { ReadsStatements result (reader source.entry.now lower (statements source.entry.now) place) }
+        {
+            let _ = &levels;
+            read_statements(alloc, source, lower, place)
+        },
+        source,
+        levels,
+        at,
+    )
+}
