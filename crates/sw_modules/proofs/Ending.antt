@@ -5,7 +5,7 @@ use Rattle.std.specs.FinMap.{get}
 use Rattle.std.proofs.lemmas.List.{length-take}
 use Rattle.sw_text.specs.declared.place.Span.{Span}
 use Rattle.sw_text.specs.declared.fault.Fault.{Fault}
-use Rattle.sw_tree.specs.declared.sheet.Sheet.{Sheet}
+use Rattle.sw_syntax_tree.specs.declared.sheet.Sheet.{Sheet}
 use Rattle.sw_values.specs.declared.plain.Plain.{Plain}
 use Rattle.sw_folder.specs.Resolution.{resolved}
 use Rattle.sw_folder.specs.declared.resolve.ResolveFault.{ResolveFault}

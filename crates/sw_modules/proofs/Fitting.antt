@@ -1,8 +1,8 @@
 -- That answers fit their questions.
 use Rattle.std.proofs.Common.{◌≡◌, ℕ, Bool, true, false, List, Option, None, Some, Result, Ok, Err, IfOk, cond, is_some, bytes_eq, sym, subst}
 use Rattle.std.specs.Map.{lookup}
-use Rattle.sw_tree.specs.declared.callable.Kind.{Kind}
-use Rattle.sw_tree.specs.declared.callable.Kind.TheVariants.{Variable, Function, Mixin}
+use Rattle.sw_syntax_tree.specs.declared.callable.Kind.{Kind}
+use Rattle.sw_syntax_tree.specs.declared.callable.Kind.TheVariants.{Variable, Function, Mixin}
 use Rattle.sw_world.specs.declared.op.Op.{Op}
 use Rattle.sw_world.specs.declared.op.Op.TheVariants.{Load, Find, Get, Put, Say, Call}
 use Rattle.sw_world.specs.declared.answer.Answer.{Answer}

@@ -4,8 +4,8 @@ use Rattle.std.specs.Prelude.{ℕ, List, bytes_eq, Option, None, Some, is_some, 
 use Rattle.std.specs.Option.{option_map_or}
 use Rattle.std.specs.Map.{lookup}
 use Rattle.sw_text.specs.Names.{is_private}
-use Rattle.sw_tree.specs.declared.callable.Kind.{Kind}
-use Rattle.sw_tree.specs.declared.callable.Kind.TheVariants.{Variable, Function, Mixin}
+use Rattle.sw_syntax_tree.specs.declared.callable.Kind.{Kind}
+use Rattle.sw_syntax_tree.specs.declared.callable.Kind.TheVariants.{Variable, Function, Mixin}
 use Rattle.sw_values.specs.declared.plain.Plain.{Plain}
 use Rattle.sw_values.specs.declared.plain.Plain.TheVariants.{Null}
 use Rattle.sw_world.specs.declared.answer.Answer.{Answer}

@@ -14,8 +14,8 @@ use crate::loads::{is_innermost, use_of};
 use crate::names::{Found, variable_of};
 use crate::{Live, Used};
 use std::alloc::Global;
+use sw_syntax_tree::Kind;
 use sw_text::{Memory, Name, Span};
-use sw_tree::Kind;
 use sw_values::Value;
 use sw_world::{Answer, Hosts, Op, SayKind, World};
 

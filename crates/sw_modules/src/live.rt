@@ -72,7 +72,7 @@ pub struct Live<'a> {
 impl<'a> Model for Live<'a> {
     ghost use Rattle.std.specs.Coded.{codes};
     ghost use Rattle.sw_folder.specs.Files.{files_code};
-    ghost use Rattle.sw_tree.specs.contracts.statement.Statement as statement;
+    ghost use Rattle.sw_syntax_tree.specs.contracts.statement.Statement as statement;
     ghost use Rattle.sw_values.specs.contracts.plain.Plain as plain;
     ghost use Rattle.sw_modules.specs.State.{State};
 
