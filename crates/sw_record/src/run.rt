@@ -27,6 +27,7 @@ pub struct Run<E: Engine> {
 
 impl<E: Engine> Model for Run<E> {
     ghost use Rattle.std.specs.Coded.{codes};
+    ghost use Rattle.sw_syntax_tree.specs.contracts.expr.ExprKind as expr;
     ghost use Rattle.sw_syntax_tree.specs.contracts.statement.Statement as statement;
     ghost use Rattle.sw_values.specs.contracts.plain.Plain as plain;
     ghost use Rattle.std.specs.Prelude.{◌≡◌};
@@ -34,7 +35,7 @@ impl<E: Engine> Model for Run<E> {
 
     ghost Value = { Kept };
 
-    ghost coded = { Prim.hlevel (codes, statement.the_row.coded, plain.the_row.coded) };
+    ghost coded = { Prim.hlevel (codes, expr.the_row.coded, statement.the_row.coded, plain.the_row.coded) };
 
     ghost view = { λ run. record {
       sheet = run.sheet;
