@@ -6,7 +6,7 @@ ghost use Rattle.indexmap.specs.IndexMap.{insert_entry};
 ghost use Rattle.sw_modules.specs.Uses.{no_uses};
 ghost use Rattle.sw_modules.specs.State.{module_of, used_by, with_variable};
 
-use crate::{Module, Uses, Variables};
+use crate::{Module, Uses};
 use indexmap::IndexMap;
 use std::alloc::Global;
 use std::marker::Model;
@@ -23,7 +23,7 @@ pub struct Loaded {
 impl Model for Loaded {
     ghost use Rattle.std.specs.Prelude.{List, ℕ};
     ghost use Rattle.std.specs.Coded.{codes};
-    ghost use Rattle.sw_tree.specs.contracts.statement.Statement as statement;
+    ghost use Rattle.sw_syntax_tree.specs.contracts.statement.Statement as statement;
     ghost use Rattle.sw_values.specs.contracts.plain.Plain as plain;
     ghost use Rattle.sw_modules.specs.declared.module.Module.{Module};
 
@@ -78,10 +78,7 @@ impl Loaded {
             ≡ insert_entry bytes_eq self.old path.now (module_of finish.now no_uses)) }
         ensures err { OnErr result (self.new ≡ self.old) }
     {
-        let held = Module {
-            variables: Variables::of(finish)?,
-            uses: Uses::new(alloc),
-        };
+        let held = Module::of(alloc, finish)?;
         self.entries.insert(path.share()?, held)?;
         Ok(())
     }
