@@ -20,7 +20,7 @@ use Rattle.sw_modules.specs.declared.uses.Uses.{Uses}
 use Rattle.sw_modules.specs.BuiltIns.{is_sass}
 use Rattle.sw_modules.specs.State.{State, path_in, uses_in}
 use Rattle.sw_text.specs.Names.{is_private}
-use Rattle.sw_modules.specs.Names.{variable_of, callable_of, own_member, loaded_own, built_in_member, member_of, public_of, public_member, is_member, brings, brings_other, brought, star_member, used_member, own_or_used, loaded_member, found}
+use Rattle.sw_modules.specs.Names.{variable_of, callable_of, own_member, loaded_own, built_in_member, member_of, public_of, public_member, is_member, brings, brings_other, brought, used_member, loaded_member, found}
 use Rattle.sw_modules.specs.Outside.{Functions, Outside, plain}
 
 module _ (site : List ℕ) (space : Option (List ℕ)) (name : List ℕ) where

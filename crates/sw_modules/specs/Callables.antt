@@ -1,5 +1,5 @@
--- The functions and mixins of a module by their names (the Sass specification's modules: of two of one kind and name the
--- later one counts).
+-- The functions and mixins of a module by their names (the Sass specification's modules): of two of one kind and name
+-- the later one counts.
 use Rattle.std.specs.Prelude.{List, [], bytes_eq}
 use Rattle.std.specs.List.{fold}
 use Rattle.indexmap.specs.IndexMap.{insert_entry}

@@ -1,7 +1,7 @@
--- What a name means in a module (the Sass specification's modules). Behind a namespace it is a public member of the module
--- that is used so. Without one it is an own member of the module in which it is written, or else a public member of the
--- modules that are used there `as *`; what is forwarded isn't looked at yet. A built-in module has the members that its
--- documentation gives it, of which some are left out.
+-- What a name means in a module (the Sass specification's modules). Behind a namespace it is a public member of the
+-- module that is used so. Without one it is an own member of the module in which it is written, or else a public member
+-- of the modules that are used there `as *`; what is forwarded isn't looked at yet. A built-in module has the members
+-- that the Sass reference documentation gives it, of which this language leaves out some.
 use Rattle.std.specs.Prelude.{ℕ, List, bytes_eq, find, Bool, true, false, ◌&&◌, not, Option, None, Some, if◌then◌else◌}
 use Rattle.std.specs.List.{list_any}
 use Rattle.std.specs.Option.{option_map_or}

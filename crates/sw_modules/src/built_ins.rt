@@ -4,9 +4,9 @@ ghost use Rattle.std.specs.List.{starts_with};
 ghost use Rattle.sw_modules.specs.BuiltIns.{is_sass, is_built_in};
 ghost use Rattle.sw_modules.specs.Loads.{refused, first_explicit, built_in_unless, built_in_used, AnswersLoad};
 
+use crate::Live;
 use crate::live::MOST_OPEN;
 use crate::loads::{first_explicit, refused};
-use crate::Live;
 use sw_builtins::member;
 use sw_text::{FaultCode, List, Memory, Name, Shared, Span};
 use sw_world::{Answer, Given, How};

@@ -73,13 +73,14 @@ pub struct Live<'a> {
 impl<'a> Model for Live<'a> {
     ghost use Rattle.std.specs.Coded.{codes};
     ghost use Rattle.sw_folder.specs.Files.{files_code};
+    ghost use Rattle.sw_syntax_tree.specs.contracts.expr.ExprKind as expr;
     ghost use Rattle.sw_syntax_tree.specs.contracts.statement.Statement as statement;
     ghost use Rattle.sw_values.specs.contracts.plain.Plain as plain;
     ghost use Rattle.sw_modules.specs.State.{State};
 
     ghost Value = { State };
 
-    ghost coded = { Prim.hlevel (codes, files_code, statement.the_row.coded, plain.the_row.coded) };
+    ghost coded = { Prim.hlevel (codes, files_code, expr.the_row.coded, statement.the_row.coded, plain.the_row.coded) };
 
     ghost view = { λ live. record {
       folder = live.folder.now;
@@ -167,9 +168,9 @@ impl<'a> Live<'a> {
         }
     }
 
-    /// The answer to a load, or the module whose body has to run for it. The refusals come in this order, but for a
-    /// built-in module: the URL means no file or several; the module is being loaded; 64 loads are open; the module is loaded and a `with` gives
-    /// values to it; its namespace stands for a module already. After `Memory` the state is as before.
+    /// The answer to a load, or the module whose body has to run for it. The refusals of a URL of the folder come in
+    /// this order: it means no file or several; the module is being loaded; 64 loads are open; the module is loaded and
+    /// a `with` gives values to it; its namespace stands for a module already. After `Memory` the state is as before.
     pub fn begin(&mut self, op: &Op) -> Result<Begin, Memory>
         requires { IsLoad op.now }
         ensures ok { IfOk result (λ begin. begun op.now self.old ≡ (begin, self.new)) }

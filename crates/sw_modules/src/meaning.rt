@@ -103,7 +103,7 @@ impl<'a> Live<'a> {
         name: &Name,
     ) -> Result<Found, Memory>
         ensures { IfOk result (λ it. it.answer
-            ≡ loaded_member self.now site.now (Some at.1.now) space.now kind name.now) }
+            ≡ loaded_member self.now site.now (Some at.entry.1.now) space.now kind name.now) }
     {
         match space {
             None => self.own_or_used(at, site, kind, name),
@@ -118,8 +118,8 @@ impl<'a> Live<'a> {
         kind: Kind,
         name: &Name,
     ) -> Result<Found, Memory>
-        ensures { IfOk result (λ it. it.answer ≡ own_or_used (own_member kind name.now site.now at.1.now)
-            (star_member self.now kind name.now at.1.now.uses.others)) }
+        ensures { IfOk result (λ it. it.answer ≡ own_or_used (own_member kind name.now site.now at.entry.1.now)
+            (star_member self.now kind name.now at.entry.1.now.uses.others)) }
     {
         let near = Recent {
             space: self.recent.space,

@@ -64,11 +64,7 @@ fn variable_of(
     }
 }
 
-fn callable_of(
-    body: Option<&Shared<Callable>>,
-    path: &Name,
-    near: Recent,
-) -> Result<Found, Memory>
+fn callable_of(body: Option<&Shared<Callable>>, path: &Name, near: Recent) -> Result<Found, Memory>
     ensures { IfOk result (λ it. it.answer ≡ callable_of path.now (option_copied body.entry)) }
 {
     let answer = match body {

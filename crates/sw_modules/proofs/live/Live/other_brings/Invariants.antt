@@ -1,7 +1,7 @@
 use Rattle.std.proofs.Common.{◌≡◌, drop}
 use Rattle.std.specs.List.{list_any}
 use Rattle.sw_modules.specs.Names.{brings_other}
-use Rattle.sw_modules.proofs.meaning.Live.other_brings.Given as goal
+use Rattle.sw_modules.proofs.live.Live.other_brings.Given as goal
 
 abbrev pub invariant-uses : goal.invariant-uses
 invariant-uses l =

@@ -1,6 +1,6 @@
 use Rattle.std.proofs.Common.{◌≡◌, drop, find}
 use Rattle.sw_modules.specs.Names.{brings}
-use Rattle.sw_modules.proofs.meaning.Live.first_star.Given as goal
+use Rattle.sw_modules.proofs.live.Live.first_star.Given as goal
 
 abbrev pub invariant-uses : goal.invariant-uses
 invariant-uses l =
