@@ -1,9 +1,11 @@
 -- One level of an evaluation.
 use Rattle.std.proofs.Common.{◌≡◌, ℕ, suc, ◌-◌, ◌<◌, ap, arith}
-use Rattle.sw_tree.specs.declared.expr.Expr.{Expr}
-use Rattle.sw_tree.specs.declared.statement.Statement.{Statement}
+use Rattle.sw_syntax_tree.specs.declared.expr.Expr.{Expr}
+use Rattle.sw_syntax_tree.specs.declared.statement.Statement.{Statement}
 use Rattle.sw_eval.specs.declared.state.State.{State}
-use Rattle.sw_eval.specs.Means.{value_one, does_one, value_to, does_to}
+use Rattle.sw_eval.specs.Expressions.{value_one}
+use Rattle.sw_eval.specs.Statements.{does_one}
+use Rattle.sw_eval.specs.Means.{value_to, does_to}
 
 pub one_level : (depth : ℕ) (e : Expr) (s : State) → 0 < depth → value_to depth e s ≡ value_one e s
 unfolding value_to

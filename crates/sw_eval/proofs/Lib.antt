@@ -1,6 +1,7 @@
 pub mod Answered
 pub mod Steps
 pub mod Loops
+pub mod Choices
 pub mod Depth
 pub mod Opens
 pub mod Weighs

@@ -7,7 +7,9 @@ use Rattle.sw_values.specs.declared.plain.Plain.{Plain}
 use Rattle.sw_values.specs.Weight.{is_within, most as most_weight}
 use Rattle.sw_values.specs.Texts.{Shown}
 use Rattle.sw_eval.specs.Talk.{Gives, Fails}
-use Rattle.sw_eval.specs.Means.{fault, weighed, text_by}
+use Rattle.sw_eval.specs.Asking.{fault}
+use Rattle.sw_eval.specs.Expressions.{weighed}
+use Rattle.sw_eval.specs.Output.{text_by}
 use Rattle.sw_eval.specs.declared.state.State.{State}
 
 is_le : (n m : ℕ) → n ≤ m → nat_le n m ≡ true

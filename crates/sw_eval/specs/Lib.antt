@@ -3,7 +3,15 @@ pub mod Laws
 pub mod Ran
 pub mod Did
 pub mod Told
+pub mod Layers
+pub mod Asking
 pub mod Scope
+pub mod Texts
+pub mod Variables
+pub mod Expressions
+pub mod Output
+pub mod Flow
+pub mod Statements
 pub mod Means
 pub mod Left
 pub mod Body_laws

@@ -5,6 +5,7 @@
 mod ask;
 mod asked;
 mod engine;
+mod flow;
 mod here;
 mod laws;
 mod left;

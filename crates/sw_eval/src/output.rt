@@ -2,7 +2,7 @@
 ghost use Rattle.std.specs.Prelude.{◌≡◌, true};
 ghost use Rattle.sw_css_tree.specs.Output.{is_open, closed};
 ghost use Rattle.sw_eval.specs.Did.{IsReturn};
-ghost use Rattle.sw_eval.specs.Means.{numbered, opening, text_of, lining, declaring, written};
+ghost use Rattle.sw_eval.specs.Output.{numbered, opening, text_of, lining, declaring, written};
 ghost use Rattle.sw_eval.specs.declared.state.State.{State};
 
 use crate::state::State;
@@ -13,7 +13,7 @@ use sw_text::{FaultCode, Name, Span};
 use sw_values::{Value, ValueFault};
 
 // What follows belongs to this statement; in an open rule it belongs to the rule's.
-#[tactic(auto, unfolding(crate::specs::Means::numbered))]
+#[tactic(auto, unfolding(crate::specs::Output::numbered))]
 pub(crate) fn numbered(css: &mut CssTree, number: usize)
     ensures { css.new ≡ numbered number css.old }
 {
@@ -46,7 +46,7 @@ fn text_of(alloc: Global, value: &Value, at: &Span) -> Result<Name, Stop>
 
 impl State {
     // Opens a rule.
-    #[tactic(auto, unfolding(crate::specs::Means::opening))]
+    #[tactic(auto, unfolding(crate::specs::Output::opening))]
     pub(crate) fn opening(&mut self, selectors: Name, at: &Span) -> Result<(), Stop>
         ensures { IsReturn result self.new (opening selectors at.now self.old) }
     {
@@ -69,7 +69,7 @@ impl State {
         }
     }
 
-    #[tactic(auto, unfolding(crate::specs::Means::declaring))]
+    #[tactic(auto, unfolding(crate::specs::Output::declaring))]
     fn declaring(&mut self, property: Name, text: Name, at: &Span) -> Result<(), Stop>
         ensures { IsReturn result self.new (declaring property text at.now self.old) }
     {

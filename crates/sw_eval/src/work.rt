@@ -1,15 +1,17 @@
 // Expressions and statements.
 ghost use Rattle.sw_eval.specs.Did.{Goes_on};
-ghost use Rattle.sw_eval.specs.Means.{value_one, value_to, variable_set, assigned, declaration, block, framed, rule, does_one, does_to};
+ghost use Rattle.sw_eval.specs.Expressions.{value_one};
+ghost use Rattle.sw_eval.specs.Statements.{variable_set, assigned, assigned_always, assigned_default, declaration, rule, does_one};
+ghost use Rattle.sw_eval.specs.Means.{value_to, does_to};
 
 use crate::output::close;
-use crate::parts::{place_of, plain, span_of, weighed};
+use crate::parts::{is_null, place_of, plain, word};
 use crate::stop::{Stop, fails};
 use crate::walk::Walk;
 use sw_scope::FrameKind;
-use sw_text::{FaultCode, Name, Span};
-use sw_tree::{Expr, Qualified, Statement};
-use sw_values::{Node, Value};
+use sw_syntax_tree::{Assignment, Declaration, Expr, ExprKind, Rule, Statement, Variable};
+use sw_text::{FaultCode, Span};
+use sw_values::Value;
 use sw_world::World;
 
 impl Walk {
@@ -23,7 +25,7 @@ impl Walk {
         ensures { Goes_on W.gives (value_to depth e.now) self.old world.old result self.new world.new }
     {
         if depth == 0 {
-            return fails(FaultCode::Depth, span_of(e));
+            return fails(FaultCode::Depth, &e.span);
         }
         self.value_one(e, world)
     }
@@ -31,17 +33,24 @@ impl Walk {
     fn value_one<W: World>(&mut self, e: &Expr, world: &mut W) -> Result<Value, Stop>
         ensures { Goes_on W.gives (value_one e.now) self.old world.old result self.new world.new }
     {
-        match e {
-            Expr::Word(word) => {
-                let text = plain(&word.parts).share()?;
-                let node = Node::Text {
-                    text,
-                    quoted: false,
-                };
-                weighed(node, &word.span)
-            }
-            Expr::Variable { name, span } => self.variable(name, span, world),
-            Expr::Qualified(q) => self.qualified(q, world),
+        match &e.kind {
+            ExprKind::Word(parts) => word(parts, &e.span),
+            ExprKind::Variable(name) => self.variable(name, &e.span, world),
+            ExprKind::Qualified(q) => self.qualified(q.get(), &e.span, world),
+            ExprKind::Number(_)
+            | ExprKind::Quoted(_)
+            | ExprKind::Hash(_)
+            | ExprKind::Constant(_)
+            | ExprKind::Url(_)
+            | ExprKind::Special(_)
+            | ExprKind::Call { .. }
+            | ExprKind::Parent
+            | ExprKind::Important
+            | ExprKind::Prefixed { .. }
+            | ExprKind::Chain { .. }
+            | ExprKind::List { .. }
+            | ExprKind::Paren(_)
+            | ExprKind::Map(_) => fails(FaultCode::BadPlace, &e.span),
         }
     }
 
@@ -49,63 +58,122 @@ impl Walk {
     fn variable_set<W: World>(
         &mut self,
         inner: u32,
-        name: &Name,
-        e: &Expr,
+        statement: &Variable,
         world: &mut W,
-    ) -> Result<(), Stop>
-        ensures { Goes_on W.gives (variable_set (value_to inner) name.now e.now) self.old world.old
-            result self.new world.new }
+    ) -> Result<Option<Value>, Stop>
+        ensures { Goes_on W.gives (variable_set (value_to inner) statement.now) self.old world.old result
+            self.new world.new }
     {
-        let value = self.value(inner, e, world)?;
-        let name = name.share()?;
-        self.state.set_by(name, value)
+        let kept = self.kept(statement.flags, &statement.name, &statement.span, world)?;
+        if kept {
+            return Ok(None);
+        }
+        let value = self.value(inner, &statement.value, world)?;
+        self.stored(
+            statement.flags.global,
+            &statement.name,
+            value,
+            &statement.span,
+            world,
+        )?;
+        Ok(None)
     }
 
     // An assignment to a variable behind a namespace.
     fn assigned<W: World>(
         &mut self,
         inner: u32,
-        q: &Qualified,
-        e: &Expr,
-        at: &Span,
+        statement: &Assignment,
         world: &mut W,
-    ) -> Result<(), Stop>
-        ensures { Goes_on W.gives (assigned (value_to inner) q.now e.now at.now) self.old world.old
-            result self.new world.new }
+    ) -> Result<Option<Value>, Stop>
+        ensures { Goes_on W.gives (assigned (value_to inner) statement.now) self.old world.old result
+            self.new world.new }
     {
-        let value = self.value(inner, e, world)?;
-        let owner = self.targeted(q, at, world)?;
-        self.putting(owner, value, at, world)
+        if statement.flags.default {
+            self.assigned_default(inner, statement, world)
+        } else {
+            self.assigned_always(inner, statement, world)
+        }
+    }
+
+    fn assigned_always<W: World>(
+        &mut self,
+        inner: u32,
+        statement: &Assignment,
+        world: &mut W,
+    ) -> Result<Option<Value>, Stop>
+        ensures { Goes_on W.gives (assigned_always (value_to inner) statement.now) self.old world.old result
+            self.new world.new }
+    {
+        let value = self.value(inner, &statement.value, world)?;
+        let owner = self.targeted(
+            &statement.target,
+            &statement.target_span,
+            &statement.span,
+            world,
+        )?;
+        self.putting(owner, value, &statement.span, world)?;
+        Ok(None)
+    }
+
+    // An assignment with `!default` to a variable behind a namespace.
+    fn assigned_default<W: World>(
+        &mut self,
+        inner: u32,
+        statement: &Assignment,
+        world: &mut W,
+    ) -> Result<Option<Value>, Stop>
+        ensures { Goes_on W.gives (assigned_default (value_to inner) statement.now) self.old world.old result
+            self.new world.new }
+    {
+        let owner = self.targeted(
+            &statement.target,
+            &statement.target_span,
+            &statement.span,
+            world,
+        )?;
+        let old = self.getting(owner, &statement.span, world)?;
+        if !is_null(&old) {
+            return Ok(None);
+        }
+        let value = self.value(inner, &statement.value, world)?;
+        self.putting(owner, value, &statement.span, world)?;
+        Ok(None)
     }
 
     // A declaration, which stands in a rule.
     fn declaration<W: World>(
         &mut self,
         inner: u32,
-        property: &Name,
-        e: &Expr,
-        at: &Span,
+        statement: &Declaration,
         world: &mut W,
-    ) -> Result<(), Stop>
-        ensures { Goes_on W.gives (declaration (value_to inner) property.now e.now at.now) self.old
-            world.old result self.new world.new }
+    ) -> Result<Option<Value>, Stop>
+        ensures { Goes_on W.gives (declaration (value_to inner) statement.now) self.old world.old result
+            self.new world.new }
     {
         if !self.state.css.is_open() {
-            return fails(FaultCode::BadPlace, at);
+            return fails(FaultCode::BadPlace, &statement.span);
         }
-        let value = self.value(inner, e, world)?;
-        self.state
-            .written(self.alloc, property, &value, span_of(e), at)
+        let property = plain(&statement.property.parts, &statement.property.span)?;
+        let value = self.value(inner, &statement.value, world)?;
+        self.state.written(
+            self.alloc,
+            &property,
+            &value,
+            &statement.value.span,
+            &statement.span,
+        )?;
+        Ok(None)
     }
 
-    // A statement, at most so deep.
+    // A statement, at most so deep. A value that it gives ends what is around it.
     #[cycle(walk)]
     pub(crate) fn does<W: World>(
         &mut self,
         depth: u32,
         statement: &Statement,
         world: &mut W,
-    ) -> Result<(), Stop>
+    ) -> Result<Option<Value>, Stop>
         ensures { Goes_on W.gives (does_to depth statement.now) self.old world.old result self.new world.new }
     {
         if depth == 0 {
@@ -120,31 +188,40 @@ impl Walk {
         inner: u32,
         statement: &Statement,
         world: &mut W,
-    ) -> Result<(), Stop>
+    ) -> Result<Option<Value>, Stop>
         ensures { Goes_on W.gives (does_one (value_to inner) (does_to inner) statement.now) self.old world.old result
             self.new world.new }
     {
         match statement {
-            Statement::Variable { name, value, .. } => {
-                self.variable_set(inner, name, value, world)
-            }
-            Statement::Assignment {
-                target,
-                value,
-                span,
+            Statement::Variable(one) => self.variable_set(inner, one, world),
+            Statement::Assignment(one) => self.assigned(inner, one, world),
+            Statement::Declaration(one) => self.declaration(inner, one, world),
+            Statement::Rule(one) => self.rule(inner, one, world),
+            Statement::If {
+                branches,
+                otherwise,
                 ..
-            } => self.assigned(inner, target, value, span, world),
-            Statement::Declaration {
-                property,
-                value,
-                span,
-            } => self.declaration(inner, plain(&property.parts), value, span, world),
-            Statement::Rule {
-                selector,
-                block,
-                span,
-            } => self.rule(inner, plain(&selector.parts), block.as_slice(), span, world),
-            Statement::Use { span, .. } => fails(FaultCode::BadPlace, span),
+            } => self.branches(inner, branches.as_slice(), otherwise, world),
+            Statement::While(one) => self.repeat_in(inner, one, world),
+            Statement::Use(_)
+            | Statement::Properties(_)
+            | Statement::Custom(_)
+            | Statement::Forward(_)
+            | Statement::Callable(_)
+            | Statement::Include { .. }
+            | Statement::Content(_)
+            | Statement::Return(_)
+            | Statement::Say(_)
+            | Statement::Each(_)
+            | Statement::For(_)
+            | Statement::Media(_)
+            | Statement::Supports(_)
+            | Statement::AtRoot(_)
+            | Statement::Charset(_)
+            | Statement::Import(_)
+            | Statement::Extend(_)
+            | Statement::AtRule(_)
+            | Statement::Comment(_) => fails(FaultCode::BadPlace, place_of(statement)),
         }
     }
 
@@ -152,48 +229,19 @@ impl Walk {
     fn rule<W: World>(
         &mut self,
         inner: u32,
-        selectors: &Name,
-        all: &[Statement],
-        at: &Span,
+        statement: &Rule,
         world: &mut W,
-    ) -> Result<(), Stop>
-        ensures { Goes_on W.gives (rule (does_to inner) selectors.now all.now at.now) self.old world.old result
+    ) -> Result<Option<Value>, Stop>
+        ensures { Goes_on W.gives (rule (does_to inner) statement.now) self.old world.old result
             self.new world.new }
     {
         if self.state.css.is_open() {
-            return fails(FaultCode::BadPlace, at);
+            return fails(FaultCode::BadPlace, &statement.span);
         }
-        let selectors = selectors.share()?;
-        self.state.opening(selectors, at)?;
-        self.framed(inner, FrameKind::Block, all, world)?;
+        let selectors = plain(&statement.selector.parts, &statement.selector.span)?;
+        self.state.opening(selectors, &statement.span)?;
+        let value = self.framed(inner, FrameKind::Block, statement.block.as_slice(), world)?;
         close(&mut self.state.css);
-        Ok(())
-    }
-
-    // A block in a frame of its own.
-    #[cycle(walk)]
-    fn framed<W: World>(
-        &mut self,
-        inner: u32,
-        kind: FrameKind,
-        all: &[Statement],
-        world: &mut W,
-    ) -> Result<(), Stop>
-        ensures { Goes_on W.gives (framed (does_to inner) kind all.now) self.old world.old result self.new world.new }
-    {
-        self.state.enter(kind)?;
-        self.block(inner, all, world)?;
-        self.state.leave();
-        Ok(())
-    }
-
-    #[cycle(walk)]
-    fn block<W: World>(&mut self, inner: u32, all: &[Statement], world: &mut W) -> Result<(), Stop>
-        ensures { Goes_on W.gives (block (does_to inner) all.now) self.old world.old result self.new world.new }
-    {
-        for one in all {
-            self.does(inner, one, world)?;
-        }
-        Ok(())
+        Ok(value)
     }
 }

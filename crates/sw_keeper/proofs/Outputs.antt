@@ -6,7 +6,7 @@ use Rattle.std.proofs.lemmas.List.Concat.{flat_map-append}
 use Rattle.sw_text.specs.declared.place.Span.{Span}
 use Rattle.sw_text.specs.declared.fault.Fault.{Fault}
 use Rattle.sw_text.specs.declared.fault.FaultCode.TheVariants.{Loop, Depth}
-use Rattle.sw_tree.specs.declared.sheet.Sheet.{Sheet}
+use Rattle.sw_syntax_tree.specs.declared.sheet.Sheet.{Sheet}
 use Rattle.sw_values.specs.declared.plain.Plain.{Plain}
 use Rattle.sw_css_tree.specs.Output.{Output}
 use Rattle.sw_css_print.specs.Page.{print}

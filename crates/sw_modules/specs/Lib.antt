@@ -1,5 +1,7 @@
 pub mod Uses
+pub mod Callables
 pub mod State
+pub mod BuiltIns
 pub mod Names
 pub mod Loads
 pub mod Outside

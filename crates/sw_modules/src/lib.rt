@@ -3,17 +3,21 @@
 #![tactic(auto)]
 
 mod ask;
+mod built_ins;
+mod callables;
 mod ends;
 mod laws;
 mod live;
 mod loaded;
 mod loads;
+mod meaning;
 mod module;
 mod names;
 mod uses;
 mod variables;
 
 pub use ask::Asked;
+pub use callables::Callables;
 pub use laws::{calls_lead, comes_by, ends_by_bodies};
 pub use live::{Begin, Enter, Finished, Live};
 pub use loaded::Loaded;

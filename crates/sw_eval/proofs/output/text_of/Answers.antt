@@ -1,7 +1,7 @@
 use Rattle.std.proofs.Common.{sym, ◌∙◌, ap, true}
 use Rattle.sw_values.specs.Texts.{shown}
 use Rattle.sw_eval.specs.Talk.{Gives}
-use Rattle.sw_eval.specs.Means.{text_of}
+use Rattle.sw_eval.specs.Output.{text_of}
 use Rattle.sw_eval.proofs.Weighs.{text_ok, text_over, text_none}
 use Rattle.sw_eval.proofs.output.text_of.Goals as goal
 

@@ -1,5 +1,5 @@
 use Rattle.std.proofs.Common.{refl}
-use Rattle.sw_eval.specs.Means.{written}
+use Rattle.sw_eval.specs.Output.{written}
 use Rattle.sw_eval.proofs.Steps.{plain_err, plain_then}
 use Rattle.sw_eval.proofs.state.State.written.Goals as goal
 

@@ -1,0 +1,10 @@
+use Rattle.sw_eval.proofs.Steps.{did_value}
+use Rattle.sw_eval.proofs.walk.Walk.got_or_null.Goals as goal
+
+pub returns-in-Some : goal.returns-in-Some
+returns-in-Some g c =
+    rw c.in-Some.is c.getting.ensures
+
+pub returns-in-None : goal.returns-in-None
+returns-in-None g c =
+    rw (c.in-None.is, c.null.ensures) (did_value _ c.args.self.now.state _ _)

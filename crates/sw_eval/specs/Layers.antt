@@ -1,0 +1,69 @@
+-- One level of the parts of a sheet's tree.
+use Rattle.sw_text.specs.declared.place.Span.{Span}
+use Rattle.sw_syntax_tree.specs.declared.callable.Callable.{Callable}
+use Rattle.sw_syntax_tree.specs.declared.callable.Content.{Content}
+use Rattle.sw_syntax_tree.specs.declared.expr.Argument.{Argument}
+use Rattle.sw_syntax_tree.specs.declared.expr.Callee.{Callee}
+use Rattle.sw_syntax_tree.specs.declared.expr.Expr.{Expr}
+use Rattle.sw_syntax_tree.specs.declared.expr.ExprKind.{ExprKind}
+use Rattle.sw_syntax_tree.specs.declared.expr.ExprKind.TheOpen.{ExprKind-F, Parts-F}
+use Rattle.sw_syntax_tree.specs.declared.expr.Link.{Link}
+use Rattle.sw_syntax_tree.specs.declared.expr.Pair.{Pair}
+use Rattle.sw_syntax_tree.specs.declared.statement.AtRoot.{AtRoot}
+use Rattle.sw_syntax_tree.specs.declared.statement.AtRule.{AtRule}
+use Rattle.sw_syntax_tree.specs.declared.statement.Branch.{Branch}
+use Rattle.sw_syntax_tree.specs.declared.statement.Each.{Each}
+use Rattle.sw_syntax_tree.specs.declared.statement.For.{For}
+use Rattle.sw_syntax_tree.specs.declared.statement.Media.{Media}
+use Rattle.sw_syntax_tree.specs.declared.statement.Properties.{Properties}
+use Rattle.sw_syntax_tree.specs.declared.statement.Rule.{Rule}
+use Rattle.sw_syntax_tree.specs.declared.statement.Statement.{Statement, out-Statement}
+use Rattle.sw_syntax_tree.specs.declared.statement.Statement.TheOpen.{Statement-F}
+use Rattle.sw_syntax_tree.specs.declared.statement.Supports.{Supports}
+use Rattle.sw_syntax_tree.specs.declared.statement.While.{While}
+use Rattle.sw_syntax_tree.specs.declared.text.Parts.{Parts}
+use Rattle.sw_syntax_tree.specs.declared.text.Piece.{Piece}
+use Rattle.sw_syntax_tree.specs.declared.text.Text.{Text}
+
+-- of a statement
+abbrev pub Layer : Type 0
+Layer = Statement-F Statement Callable Content AtRoot AtRule Branch Each For Media Properties Rule Supports While
+
+-- of an expression
+abbrev pub Kinds : Type 0
+Kinds = ExprKind-F ExprKind Parts Piece Argument Callee Expr Link Pair Text
+
+-- of a text
+abbrev pub Texts : Type 0
+Texts = Parts-F ExprKind Parts Piece Argument Callee Expr Link Pair Text
+
+-- where a statement stands
+abbrev pub place_by : Layer → Span
+place_by (Statement-F.Variable x) = x.span
+place_by (Statement-F.Assignment x) = x.span
+place_by (Statement-F.Declaration x) = x.span
+place_by (Statement-F.Rule x) = x.span
+place_by (Statement-F.Use x) = x.span
+place_by (Statement-F.Properties x) = x.span
+place_by (Statement-F.Custom x) = x.span
+place_by (Statement-F.Forward x) = x.span
+place_by (Statement-F.Callable x) = x.span
+place_by (Statement-F.Include mixin content at) = at
+place_by (Statement-F.Content x) = x.span
+place_by (Statement-F.Return x) = x.span
+place_by (Statement-F.Say x) = x.span
+place_by (Statement-F.If branches otherwise at) = at
+place_by (Statement-F.Each x) = x.span
+place_by (Statement-F.For x) = x.span
+place_by (Statement-F.While x) = x.span
+place_by (Statement-F.Media x) = x.span
+place_by (Statement-F.Supports x) = x.span
+place_by (Statement-F.AtRoot x) = x.span
+place_by (Statement-F.Charset at) = at
+place_by (Statement-F.Import x) = x.span
+place_by (Statement-F.Extend x) = x.span
+place_by (Statement-F.AtRule x) = x.span
+place_by (Statement-F.Comment text) = text.span
+
+unfoldable pub place_of : Statement → Span
+place_of x = place_by (out-Statement x)
