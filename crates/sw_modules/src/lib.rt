@@ -1,5 +1,5 @@
 //! What is outside the bodies of one compile: which module a load opens or answers, what a name means, what variables
-//! hold. Questions come up from the engine; the folder is read, answers go down.
+//! hold. Questions come up from the engine; the folder and the names of built-in modules are read, answers go down.
 #![tactic(auto)]
 
 mod ask;

@@ -239,7 +239,8 @@ impl<'a> Live<'a> {
     {
         if is_sass(path.as_str()) {
             let meaning = find(Some(path.as_str()), kind, name.as_str());
-            return Ok(self.missed(built_in_member(path, name, meaning)?));
+            let answer = built_in_member(path, name, meaning)?;
+            return Ok(self.built_in(answer, near));
         }
         match self.loaded().find(path, near.module) {
             None => Ok(self.missed(Answer::NoMember)),
@@ -252,6 +253,18 @@ impl<'a> Live<'a> {
                 own_member(held, path, kind, name, near)
             }
         }
+    }
+
+    // The places of loaded modules and their variables stay.
+    fn built_in(&self, answer: Answer, near: Recent) -> Found
+        ensures { result.answer ≡ answer }
+    {
+        let recent = Recent {
+            space: near.space,
+            module: self.recent.module,
+            variable: self.recent.variable,
+        };
+        Found { answer, recent }
     }
 
     fn missed(&self, answer: Answer) -> Found
