@@ -41,7 +41,7 @@ pub(crate) fn of_op(answer: Result<Value, OpFault>, at: &Span) -> Result<Value, 
     }
 }
 
-/// The code of a fault of numbers; none of their operations that can't want memory has the last.
+/// The code of a fault of numbers. Want of memory, of which no operation tells that takes none, counts as too large.
 pub(crate) fn number_code(fault: NumberFault) -> FaultCode
     ensures { result ≡ number_code fault }
 {
