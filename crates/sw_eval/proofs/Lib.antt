@@ -1,6 +1,7 @@
 pub mod Answered
 pub mod Steps
 pub mod Loops
+pub mod Counts
 pub mod Choices
 pub mod Depth
 pub mod Opens

@@ -9,6 +9,7 @@ pub mod Scope
 pub mod Texts
 pub mod Variables
 pub mod Expressions
+pub mod Selecting
 pub mod Output
 pub mod Flow
 pub mod Statements

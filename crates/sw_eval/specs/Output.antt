@@ -9,6 +9,7 @@ use Rattle.sw_css_tree.specs.declared.block.Line.TheVariants as L
 use Rattle.sw_css_tree.specs.Output.{Output, is_open, rule_opened, lined, most as most_bytes}
 use Rattle.sw_eval.specs.Talk.{Gives, Fails, bind}
 use Rattle.sw_eval.specs.Asking.{fault}
+use Rattle.sw_eval.specs.Selecting.{selected}
 use Rattle.sw_eval.specs.Did.{Eval}
 
 -- what follows belongs to this statement; in an open rule it belongs to the rule's
@@ -20,8 +21,13 @@ abbrev pub output_is : Output → Span → Eval (Unit {0})
 output_is out at s =
     if nat_le out.bytes most_bytes then Gives (tt, record s { css = out }) else Fails (fault C.TooLarge at)
 
-unfoldable pub opening : List ℕ → Span → Eval (Unit {0})
-opening selectors at s = output_is (rule_opened s.css selectors) at s
+-- a rule with these selectors is open
+unfoldable pub opened : List ℕ → Span → Eval (Unit {0})
+opened selectors at s = output_is (rule_opened s.css selectors) at s
+
+-- a rule is open, whose selectors have this text, which stands at the first place; the rule stands at the second
+unfoldable pub opening : List ℕ → Span → Span → Eval (Unit {0})
+opening text text_at at s = bind (selected text text_at s) (λ q. opened q.0 at q.1)
 
 -- a text, at most as heavy as a value, of what can be written in CSS
 abbrev pub text_by : Shown → Span → Eval (List ℕ)

@@ -29,7 +29,7 @@ module _ (does : Statement → Eval (Option Plain)) where
   rule x s =
       if is_open s.css then Fails (fault C.BadPlace x.span)
       else bind (plain x.selector.parts x.selector.span s)
-      (λ t. bind (opening t.0 x.span t.1)
+      (λ t. bind (opening t.0 x.selector.span x.span t.1)
       (λ q. bind (framed does F.Block x.block q.1) (λ r. Gives (r.0, record r.1 { css = closed r.1.css }))))
 
 module _ (value : Expr → Eval Plain) where

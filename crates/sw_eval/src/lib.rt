@@ -13,6 +13,7 @@ mod look;
 mod output;
 mod parts;
 mod place;
+mod selecting;
 mod state;
 mod stop;
 mod top;

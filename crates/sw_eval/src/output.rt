@@ -2,9 +2,10 @@
 ghost use Rattle.std.specs.Prelude.{◌≡◌, true};
 ghost use Rattle.sw_css_tree.specs.Output.{is_open, closed};
 ghost use Rattle.sw_eval.specs.Did.{IsReturn};
-ghost use Rattle.sw_eval.specs.Output.{numbered, opening, text_of, lining, declaring, written};
+ghost use Rattle.sw_eval.specs.Output.{numbered, opened, opening, text_of, lining, declaring, written};
 ghost use Rattle.sw_eval.specs.declared.state.State.{State};
 
+use crate::selecting::selected;
 use crate::state::State;
 use crate::stop::{Stop, fails};
 use std::alloc::Global;
@@ -45,16 +46,30 @@ fn text_of(alloc: Global, value: &Value, at: &Span) -> Result<Name, Stop>
 }
 
 impl State {
-    // Opens a rule.
-    #[tactic(auto, unfolding(crate::specs::Output::opening))]
-    pub(crate) fn opening(&mut self, selectors: Name, at: &Span) -> Result<(), Stop>
-        ensures { IsReturn result self.new (opening selectors at.now self.old) }
+    // Opens a rule with these selectors.
+    #[tactic(auto, unfolding(crate::specs::Output::opened))]
+    fn opened(&mut self, selectors: Name, at: &Span) -> Result<(), Stop>
+        ensures { IsReturn result self.new (opened selectors at.now self.old) }
     {
         match self.css.open_rule(selectors) {
             Ok(()) => Ok(()),
             Err(TreeFault::TooLarge) => fails(FaultCode::TooLarge, at),
             Err(TreeFault::Memory) => Err(Stop::Memory),
         }
+    }
+
+    // Opens a rule, whose selectors have this text, which stands at the first place; the rule stands at the second.
+    pub(crate) fn opening(
+        &mut self,
+        alloc: Global,
+        text: &Name,
+        text_at: &Span,
+        at: &Span,
+    ) -> Result<(), Stop>
+        ensures { IsReturn result self.new (opening text.now text_at.now at.now self.old) }
+    {
+        let selectors = selected(alloc, text, text_at)?;
+        self.opened(selectors, at)
     }
 
     // A line of the open rule.

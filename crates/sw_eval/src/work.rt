@@ -239,7 +239,12 @@ impl Walk {
             return fails(FaultCode::BadPlace, &statement.span);
         }
         let selectors = plain(&statement.selector.parts, &statement.selector.span)?;
-        self.state.opening(selectors, &statement.span)?;
+        self.state.opening(
+            self.alloc,
+            &selectors,
+            &statement.selector.span,
+            &statement.span,
+        )?;
         let value = self.framed(inner, FrameKind::Block, statement.block.as_slice(), world)?;
         close(&mut self.state.css);
         Ok(value)
