@@ -11,6 +11,8 @@ use Rattle.sw_values.specs.declared.plain.Plain.{Plain}
 use Rattle.sw_values.specs.Shape.{truth_of}
 use Rattle.sw_scope.specs.declared.mark.FrameKind.{FrameKind}
 use Rattle.sw_scope.specs.declared.mark.FrameKind.TheVariants as F
+use Rattle.sw_literals.specs.declared.quotients.Parens.{Parens}
+use Rattle.sw_literals.specs.declared.quotients.Parens.TheVariants as P
 use Rattle.sw_eval.specs.Talk.{Talk, Gives, Fails, bind}
 use Rattle.sw_eval.specs.Asking.{fault}
 use Rattle.sw_eval.specs.Scope.{entered, left}
@@ -46,10 +48,10 @@ module _ (does : Statement → Eval (Option Plain)) where
   otherwise_by (Some xs) s = framed F.Flow xs s
 
 -- only false and null don't hold
-unfoldable pub holds : (Expr → Eval Plain) → Expr → Eval Bool
-holds value e s = bind (value e s) (λ v. Gives (truth_of v.0, v.1))
+unfoldable pub holds : (Parens → Expr → Eval Plain) → Expr → Eval Bool
+holds value e s = bind (value P.Outside e s) (λ v. Gives (truth_of v.0, v.1))
 
-module _ (value : Expr → Eval Plain) (does : Statement → Eval (Option Plain)) where
+module _ (value : Parens → Expr → Eval Plain) (does : Statement → Eval (Option Plain)) where
   -- the block of the first condition that holds, or else the last one
   abbrev pub branches : Option (List Statement) → List Branch → Eval (Option Plain)
   branches otherwise [] s = otherwise_by does otherwise s

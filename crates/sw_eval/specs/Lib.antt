@@ -2,6 +2,7 @@ pub mod Talk
 pub mod Laws
 pub mod Ran
 pub mod Did
+pub mod Refusals
 pub mod Told
 pub mod Layers
 pub mod Asking

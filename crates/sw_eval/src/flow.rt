@@ -50,7 +50,7 @@ impl Walk {
     fn holds<W: World>(&mut self, inner: u32, e: &Expr, world: &mut W) -> Result<bool, Stop>
         ensures { Goes_on W.gives (holds (value_to inner) e.now) self.old world.old result self.new world.new }
     {
-        let test = self.value(inner, e, world)?;
+        let test = self.statement_value(inner, e, world)?;
         Ok(test.truth())
     }
 

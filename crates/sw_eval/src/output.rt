@@ -2,16 +2,16 @@
 ghost use Rattle.std.specs.Prelude.{◌≡◌, true};
 ghost use Rattle.sw_css_tree.specs.Output.{is_open, closed};
 ghost use Rattle.sw_eval.specs.Did.{IsReturn};
-ghost use Rattle.sw_eval.specs.Output.{numbered, opened, opening, text_of, lining, declaring, written};
-ghost use Rattle.sw_eval.specs.declared.state.State.{State};
+ghost use Rattle.sw_eval.specs.Output.{numbered, opened, opening, lining, declaring, declaring_by, written};
 
 use crate::selecting::selected;
 use crate::state::State;
 use crate::stop::{Stop, fails};
 use std::alloc::Global;
 use sw_css_tree::{CssTree, TreeFault};
+use sw_literals::declaration_text;
 use sw_text::{FaultCode, Name, Span};
-use sw_values::{Value, ValueFault};
+use sw_values::Value;
 
 // What follows belongs to this statement; in an open rule it belongs to the rule's.
 #[tactic(auto, unfolding(crate::specs::Output::numbered))]
@@ -29,19 +29,6 @@ pub(crate) fn close(css: &mut CssTree)
 {
     if css.is_open() {
         css.close();
-    }
-}
-
-// The value's text.
-fn text_of(alloc: Global, value: &Value, at: &Span) -> Result<Name, Stop>
-    ensures { (s : State) → IsReturn result s (text_of value.now at.now s) }
-{
-    match value.css_text(alloc, true) {
-        Ok(text) => Ok(text),
-        Err(ValueFault::NotCss) => fails(FaultCode::NotCss, at),
-        Err(ValueFault::TooLarge) => fails(FaultCode::TooLarge, at),
-        Err(ValueFault::DuplicateKey(_)) => unreachable!(),
-        Err(ValueFault::Memory) => Err(Stop::Memory),
     }
 }
 
@@ -94,22 +81,28 @@ impl State {
         self.lining(property, text, at)
     }
 
+    // A declaration of this text, if there is one.
+    fn declaring_by(&mut self, property: Name, text: Option<Name>, at: &Span) -> Result<(), Stop>
+        ensures { IsReturn result self.new (declaring_by property text at.now self.old) }
+    {
+        match text {
+            Some(text) => self.declaring(property, text, at),
+            None => Ok(()),
+        }
+    }
+
     // A declaration of this value, whose expression stands at the first place and whose statement at the second.
     pub(crate) fn written(
         &mut self,
         alloc: Global,
-        property: &Name,
+        property: Name,
         value: &Value,
         value_at: &Span,
         at: &Span,
     ) -> Result<(), Stop>
-        ensures { IsReturn result self.new (written property.now value.now value_at.now at.now self.old) }
+        ensures { IsReturn result self.new (written property value.now value_at.now at.now self.old) }
     {
-        if value.is_blank() {
-            return Ok(());
-        }
-        let property = property.share()?;
-        let text = text_of(alloc, value, value_at)?;
-        self.declaring(property, text, at)
+        let text = declaration_text(alloc, value, value_at)?;
+        self.declaring_by(property, text, at)
     }
 }

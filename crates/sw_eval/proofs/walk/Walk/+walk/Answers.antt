@@ -46,22 +46,22 @@ rule-returns-then-is_open g t c =
 pub rule-returns-in_err-selectors : goal.rule-returns-in_err-selectors
 unfolding rule
 rule-returns-in_err-selectors g t c =
-    rw (← c.is_open.ensures, c.if-is_open.false) (did_err _ (did_plain _ c.args.self.now.state _ _ _ (c.in_err-selectors.ensures c.args.self.now.state)) c.from_residual.ensures)
+    rw (← c.is_open.ensures, c.if-is_open.false) (did_err _ c.in_err-selectors.ensures c.from_residual.ensures)
 
 pub rule-returns-in_err-opening : goal.rule-returns-in_err-opening
 unfolding rule
 rule-returns-in_err-opening g t c =
-    rw (← c.is_open.ensures, c.if-is_open.false) (did_then _ (did_plain _ c.args.self.now.state _ _ _ (c.in_ok-selectors.ensures c.args.self.now.state)) (did_err _ (did_plain _ _ _ _ _ c.in_err-opening.ensures) c.from_residual-in_err-opening.ensures))
+    rw (← c.is_open.ensures, c.if-is_open.false) (did_then _ c.in_ok-selectors.ensures (did_err _ (did_plain _ _ _ _ _ c.in_err-opening.ensures) c.from_residual-in_err-opening.ensures))
 
 pub rule-returns-in_err-value : goal.rule-returns-in_err-value
 unfolding rule
 rule-returns-in_err-value g t c =
-    rw (← c.is_open.ensures, c.if-is_open.false) (did_then _ (did_plain _ c.args.self.now.state _ _ _ (c.in_ok-selectors.ensures c.args.self.now.state)) (did_then _ (did_plain _ _ _ _ _ c.in_ok-opening.ensures) (did_err _ (rw c.as_slice.ensures at c.in_err-value.ensures) c.from_residual-in_err-value.ensures)))
+    rw (← c.is_open.ensures, c.if-is_open.false) (did_then _ c.in_ok-selectors.ensures (did_then _ (did_plain _ _ _ _ _ c.in_ok-opening.ensures) (did_err _ (rw c.as_slice.ensures at c.in_err-value.ensures) c.from_residual-in_err-value.ensures)))
 
 pub rule-returns : goal.rule-returns
 unfolding rule
 rule-returns g t c =
-    rw (← c.is_open.ensures, c.if-is_open.false, c.close.ensures) (did_then _ (did_plain _ c.args.self.now.state _ _ _ (c.in_ok-selectors.ensures c.args.self.now.state)) (did_then _ (did_plain _ _ _ _ _ c.in_ok-opening.ensures) (did_then _ (rw c.as_slice.ensures at c.in_ok-value.ensures) (did_value _ _ _ _))))
+    rw (← c.is_open.ensures, c.if-is_open.false, c.close.ensures) (did_then _ c.in_ok-selectors.ensures (did_then _ (did_plain _ _ _ _ _ c.in_ok-opening.ensures) (did_then _ (rw c.as_slice.ensures at c.in_ok-value.ensures) (did_value _ _ _ _))))
 
 pub framed-returns-in_err-enter : goal.framed-returns-in_err-enter
 framed-returns-in_err-enter g t c = no_memory_by _ _ _ _ _ _ _ _ c.in_err-enter.ensures c.from_residual.ensures

@@ -1,0 +1,32 @@
+-- One level of each expression and text that holds others in a list or behind a count of owners.
+use Rattle.std.proofs.Common.{◌≡◌, List, sym, ◌∙◌, ap}
+use Rattle.sw_syntax_tree.specs.declared.expr.Expr.{Expr}
+use Rattle.sw_syntax_tree.specs.declared.expr.Link.{Link}
+use Rattle.sw_syntax_tree.specs.declared.expr.Pair.{Pair}
+use Rattle.sw_syntax_tree.specs.declared.expr.Sign.{Sign}
+use Rattle.sw_syntax_tree.specs.declared.expr.Separator.{Separator}
+use Rattle.sw_syntax_tree.specs.declared.expr.Around.{Around}
+use Rattle.sw_syntax_tree.specs.declared.expr.ExprKind.{out-ExprKind, out-roll-ExprKind}
+use Rattle.sw_syntax_tree.specs.declared.expr.ExprKind.TheVariants as E
+use Rattle.sw_syntax_tree.specs.declared.expr.ExprKind.TheOpen.{ExprKind-F, Parts-F}
+use Rattle.sw_syntax_tree.specs.declared.text.Parts.{out-Parts, out-roll-Parts}
+use Rattle.sw_syntax_tree.specs.declared.text.Parts.TheVariants as T
+use Rattle.sw_syntax_tree.specs.declared.text.Piece.{Piece}
+
+pub out_Prefixed : (signs : List Sign) (operand : Expr) → out-ExprKind (E.Prefixed signs operand) ≡ ExprKind-F.Prefixed signs operand
+out_Prefixed signs operand = ap out-ExprKind (sym (E.rolls-Prefixed signs operand)) ∙ out-roll-ExprKind (ExprKind-F.Prefixed signs operand)
+
+pub out_Chain : (first : Expr) (rest : List Link) → out-ExprKind (E.Chain first rest) ≡ ExprKind-F.Chain first rest
+out_Chain first rest = ap out-ExprKind (sym (E.rolls-Chain first rest)) ∙ out-roll-ExprKind (ExprKind-F.Chain first rest)
+
+pub out_List : (es : List Expr) (separator : Separator) (around : Around) → out-ExprKind (E.List es separator around) ≡ ExprKind-F.List es separator around
+out_List es separator around = ap out-ExprKind (sym (E.rolls-List es separator around)) ∙ out-roll-ExprKind (ExprKind-F.List es separator around)
+
+pub out_Paren : (e : Expr) → out-ExprKind (E.Paren e) ≡ ExprKind-F.Paren e
+out_Paren e = ap out-ExprKind (sym (E.rolls-Paren e)) ∙ out-roll-ExprKind (ExprKind-F.Paren e)
+
+pub out_Map : (ps : List Pair) → out-ExprKind (E.Map ps) ≡ ExprKind-F.Map ps
+out_Map ps = ap out-ExprKind (sym (E.rolls-Map ps)) ∙ out-roll-ExprKind (ExprKind-F.Map ps)
+
+pub out_Mixed : (ps : List Piece) → out-Parts (T.Mixed ps) ≡ Parts-F.Mixed ps
+out_Mixed ps = ap out-Parts (sym (T.rolls-Mixed ps)) ∙ out-roll-Parts (Parts-F.Mixed ps)
