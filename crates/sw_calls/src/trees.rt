@@ -2,9 +2,8 @@
 // whether the sheets of two texts are the same, spans and all.
 use crate::places::sheet;
 use std::alloc::Global;
-use sw_expr_parse::ReadEnd;
 use sw_row_files::{Refusal, yes_or_no};
-use sw_sheet_parse::read;
+use sw_sheet_parse::{ReadEnd, read};
 use sw_syntax_tree::{Sheet, globals_of};
 use sw_text::Shared;
 

@@ -1,12 +1,10 @@
 pub mod Answered
 pub mod Steps
-pub mod Refusals
 pub mod Loops
-pub mod Counts
 pub mod Choices
 pub mod Depth
 pub mod Opens
-pub mod ExprOpens
+pub mod Weighs
 pub mod Tops
 pub mod Turns
 pub mod Engines

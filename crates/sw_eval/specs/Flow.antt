@@ -1,6 +1,6 @@
 -- Branches and loops (the Sass specification on flow control; that a loop has one frame for all its turns, and the places
 -- of faults and limits, are this project's own).
-use Rattle.std.specs.Prelude.{ℕ, zero, suc, Bool, ◌==◌, ◌-◌, if◌then◌else◌, List, [], ◌∷◌, Option, Some, None}
+use Rattle.std.specs.Prelude.{ℕ, zero, suc, ◌==◌, ◌-◌, if◌then◌else◌, List, [], ◌∷◌, Option, Some, None}
 use Rattle.sw_text.specs.declared.fault.FaultCode.TheVariants as C
 use Rattle.sw_text.specs.declared.place.Span.{Span}
 use Rattle.sw_syntax_tree.specs.declared.expr.Expr.{Expr}
@@ -11,8 +11,6 @@ use Rattle.sw_values.specs.declared.plain.Plain.{Plain}
 use Rattle.sw_values.specs.Shape.{truth_of}
 use Rattle.sw_scope.specs.declared.mark.FrameKind.{FrameKind}
 use Rattle.sw_scope.specs.declared.mark.FrameKind.TheVariants as F
-use Rattle.sw_literals.specs.declared.quotients.Parens.{Parens}
-use Rattle.sw_literals.specs.declared.quotients.Parens.TheVariants as P
 use Rattle.sw_eval.specs.Talk.{Talk, Gives, Fails, bind}
 use Rattle.sw_eval.specs.Asking.{fault}
 use Rattle.sw_eval.specs.Scope.{entered, left}
@@ -47,24 +45,20 @@ module _ (does : Statement → Eval (Option Plain)) where
   otherwise_by None s = Gives (None, s)
   otherwise_by (Some xs) s = framed F.Flow xs s
 
--- only false and null don't hold
-unfoldable pub holds : (Parens → Expr → Eval Plain) → Expr → Eval Bool
-holds value e s = bind (value P.Outside e s) (λ v. Gives (truth_of v.0, v.1))
-
-module _ (value : Parens → Expr → Eval Plain) (does : Statement → Eval (Option Plain)) where
+module _ (value : Expr → Eval Plain) (does : Statement → Eval (Option Plain)) where
   -- the block of the first condition that holds, or else the last one
   abbrev pub branches : Option (List Statement) → List Branch → Eval (Option Plain)
   branches otherwise [] s = otherwise_by does otherwise s
   branches otherwise (b ∷ bs) s =
-      bind (holds value b.condition s)
-      (λ v. if v.0 then framed does F.Flow b.block v.1 else branches otherwise bs v.1)
+      bind (value b.condition s)
+      (λ v. if truth_of v.0 then framed does F.Flow b.block v.1 else branches otherwise bs v.1)
 
   -- a turn as long as the condition holds, with so many tests
   abbrev pub repeat : While → ℕ → Eval (Option Plain)
   repeat x zero s = Fails (fault C.Turns x.span)
   repeat x (suc tests) s =
-      bind (holds value x.condition s)
-      (λ v. if v.0 then bind (spent x.span v.1)
+      bind (value x.condition s)
+      (λ v. if truth_of v.0 then bind (spent x.span v.1)
       (λ t. bind (block does x.block t.1) (λ r. after r.0 (repeat x tests) r.1))
       else Gives (None, v.1))
 

@@ -6,7 +6,7 @@ use Rattle.sw_syntax_tree.specs.declared.expr.Argument.{Argument}
 use Rattle.sw_syntax_tree.specs.declared.expr.Callee.{Callee}
 use Rattle.sw_syntax_tree.specs.declared.expr.Expr.{Expr}
 use Rattle.sw_syntax_tree.specs.declared.expr.ExprKind.{ExprKind}
-use Rattle.sw_syntax_tree.specs.declared.expr.ExprKind.TheOpen.{ExprKind-F, Parts-F, Piece-F}
+use Rattle.sw_syntax_tree.specs.declared.expr.ExprKind.TheOpen.{ExprKind-F, Parts-F}
 use Rattle.sw_syntax_tree.specs.declared.expr.Link.{Link}
 use Rattle.sw_syntax_tree.specs.declared.expr.Pair.{Pair}
 use Rattle.sw_syntax_tree.specs.declared.statement.AtRoot.{AtRoot}
@@ -36,10 +36,6 @@ Kinds = ExprKind-F ExprKind Parts Piece Argument Callee Expr Link Pair Text
 -- of a text
 abbrev pub Texts : Type 0
 Texts = Parts-F ExprKind Parts Piece Argument Callee Expr Link Pair Text
-
--- of a piece of a text
-abbrev pub Pieces : Type 0
-Pieces = Piece-F ExprKind Parts Piece Argument Callee Expr Link Pair Text
 
 -- where a statement stands
 abbrev pub place_by : Layer → Span

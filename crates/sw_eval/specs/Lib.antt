@@ -2,7 +2,6 @@ pub mod Talk
 pub mod Laws
 pub mod Ran
 pub mod Did
-pub mod Refusals
 pub mod Told
 pub mod Layers
 pub mod Asking
@@ -10,7 +9,6 @@ pub mod Scope
 pub mod Texts
 pub mod Variables
 pub mod Expressions
-pub mod Selecting
 pub mod Output
 pub mod Flow
 pub mod Statements

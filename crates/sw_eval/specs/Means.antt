@@ -12,7 +12,6 @@ use Rattle.sw_syntax_tree.specs.declared.statement.Statement.TheOpen.{Statement-
 use Rattle.sw_values.specs.declared.plain.Plain.{Plain}
 use Rattle.sw_scope.specs.Scopes.{empty}
 use Rattle.sw_css_tree.specs.Output.{nothing}
-use Rattle.sw_literals.specs.declared.quotients.Parens.{Parens}
 use Rattle.sw_world.specs.declared.op.How.TheVariants as H
 use Rattle.sw_world.specs.Body.{BodyOf}
 use Rattle.sw_world.specs.Laws.{most_asked}
@@ -27,9 +26,9 @@ use Rattle.sw_eval.specs.Did.{Eval}
 use Rattle.sw_eval.specs.declared.state.State.{State}
 
 -- nested no deeper than the number
-unfoldable pub value_to : ℕ → Parens → Expr → Eval Plain
-value_to zero parens e s = Fails (fault C.Depth e.span)
-value_to (suc depth) parens e s = value_one (value_to depth) parens e s
+unfoldable pub value_to : ℕ → Expr → Eval Plain
+value_to zero e s = Fails (fault C.Depth e.span)
+value_to (suc depth) e s = value_one e s
 
 -- nested no deeper than the number
 unfoldable pub does_to : ℕ → Statement → Eval (Option Plain)

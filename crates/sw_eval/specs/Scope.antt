@@ -1,11 +1,11 @@
 -- Variables as the running code sees them.
-use Rattle.std.specs.Prelude.{ℕ, ◌==◌, Bool, if◌then◌else◌, List, Option}
+use Rattle.std.specs.Prelude.{ℕ, ◌==◌, Bool, true, false, if◌then◌else◌, List, Option}
 use Rattle.sw_values.specs.declared.plain.Plain.{Plain}
 use Rattle.sw_scope.specs.declared.mark.FrameKind.{FrameKind}
 use Rattle.sw_scope.specs.declared.mark.Origin.{Origin}
 use Rattle.sw_scope.specs.declared.mark.Origin.TheVariants.{Own, Other}
 use Rattle.sw_scope.specs.Frames.{Variable}
-use Rattle.sw_scope.specs.Scopes.{look, set, set_top, top_alone, push, pop}
+use Rattle.sw_scope.specs.Scopes.{look, look_top, set, set_top, top_alone, push, pop}
 use Rattle.sw_eval.specs.declared.state.State.{State}
 
 -- the code is the body's own, or that of another module

@@ -1,54 +1,18 @@
--- Texts of a sheet in which values stand (the Sass specification on interpolation).
-use Rattle.std.specs.Prelude.{ℕ, false, List, [], ◌∷◌, ◌++◌}
+-- Texts of a sheet in which values may stand.
+use Rattle.std.specs.Prelude.{ℕ, List}
+use Rattle.sw_text.specs.declared.fault.FaultCode.TheVariants as C
 use Rattle.sw_text.specs.declared.place.Span.{Span}
-use Rattle.sw_syntax_tree.specs.declared.expr.Expr.{Expr}
 use Rattle.sw_syntax_tree.specs.declared.text.Parts.{Parts, out-Parts}
-use Rattle.sw_syntax_tree.specs.declared.expr.ExprKind.TheOpen.{Parts-F, Piece-F}
-use Rattle.sw_syntax_tree.specs.declared.text.Piece.{Piece, out-Piece}
-use Rattle.sw_values.specs.declared.plain.Plain.{Plain}
-use Rattle.sw_literals.specs.declared.quotients.Parens.{Parens}
-use Rattle.sw_literals.specs.Answers.{Answer}
-use Rattle.sw_literals.specs.Quotients.{deeper}
-use Rattle.sw_literals.specs.Texts.{inserted, css_text, joined}
-use Rattle.sw_eval.specs.Layers.{Texts, Pieces}
-use Rattle.sw_eval.specs.Talk.{Gives, bind}
-use Rattle.sw_eval.specs.Refusals.{answer}
+use Rattle.sw_syntax_tree.specs.declared.expr.ExprKind.TheOpen.{Parts-F}
+use Rattle.sw_eval.specs.Layers.{Texts}
+use Rattle.sw_eval.specs.Talk.{Gives, Fails}
+use Rattle.sw_eval.specs.Asking.{fault}
 use Rattle.sw_eval.specs.Did.{Eval}
-use Rattle.sw_eval.specs.declared.texts.TextKind.{TextKind}
-use Rattle.sw_eval.specs.declared.texts.TextKind.TheVariants as K
 
--- the text of a value that stands in a text: a string's own text in an expression, and elsewhere its text in CSS without
--- quotes
-abbrev pub spelled : TextKind → Plain → Span → Answer (List ℕ)
-spelled K.Expression v at = inserted v at
-spelled K.Sheet v at = css_text false v at
+-- a text in which no values stand; another one has no meaning yet
+abbrev pub plain_by : Texts → Span → Eval (List ℕ)
+plain_by (Parts-F.Plain text) at s = Gives (text, s)
+plain_by (Parts-F.Mixed pieces) at s = Fails (fault C.BadPlace at)
 
--- `value` is the level below
-module _ (value : Parens → Expr → Eval Plain) where
-  unfoldable pub spelled_value : TextKind → Parens → Expr → Eval (List ℕ)
-  spelled_value kind parens e s = bind (value (deeper parens) e s) (λ v. answer (spelled kind v.0 e.span) v.1)
-
-  abbrev pub piece_by : TextKind → Parens → Pieces → Eval (List ℕ)
-  piece_by kind parens (Piece-F.Text text) s = Gives (text, s)
-  piece_by kind parens (Piece-F.Inserted e) s = spelled_value kind parens e s
-  piece_by kind parens (Piece-F.Value e) s = spelled_value kind parens e s
-
-  unfoldable pub piece : TextKind → Parens → Piece → Eval (List ℕ)
-  piece kind parens p s = piece_by kind parens (out-Piece p) s
-
-  -- the texts of the pieces behind those that are done
-  abbrev pub pieces : TextKind → Parens → List Piece → List (List ℕ) → Eval (List (List ℕ))
-  pieces kind parens [] done s = Gives (done, s)
-  pieces kind parens (p ∷ ps) done s =
-      bind (piece kind parens p s) (λ t. pieces kind parens ps (done ++ t.0 ∷ []) t.1)
-
-  -- a text that is made of pieces, and stands here
-  unfoldable pub mixed : TextKind → Parens → List Piece → Span → Eval (List ℕ)
-  mixed kind parens ps at s = bind (pieces kind parens ps [] s) (λ ts. answer (joined ts.0 at) ts.1)
-
-  abbrev pub text_by : TextKind → Parens → Texts → Span → Eval (List ℕ)
-  text_by kind parens (Parts-F.Plain text) at s = Gives (text, s)
-  text_by kind parens (Parts-F.Mixed ps) at s = mixed kind parens ps at s
-
-  unfoldable pub text : TextKind → Parens → Parts → Span → Eval (List ℕ)
-  text kind parens parts at s = text_by kind parens (out-Parts parts) at s
+unfoldable pub plain : Parts → Span → Eval (List ℕ)
+plain parts at s = plain_by (out-Parts parts) at s

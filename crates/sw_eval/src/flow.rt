@@ -1,12 +1,12 @@
 // Blocks, branches and loops.
 ghost use Rattle.sw_eval.specs.Did.{Goes_on};
-ghost use Rattle.sw_eval.specs.Flow.{block, framed, holds, branches, repeats, repeat_in};
+ghost use Rattle.sw_eval.specs.Flow.{block, framed, branches, repeats, repeat_in};
 ghost use Rattle.sw_eval.specs.Means.{value_to, does_to};
 
 use crate::stop::{Stop, fails};
 use crate::walk::Walk;
 use sw_scope::FrameKind;
-use sw_syntax_tree::{Branch, Expr, Statement, While};
+use sw_syntax_tree::{Branch, Statement, While};
 use sw_text::{FaultCode, List};
 use sw_values::Value;
 use sw_world::World;
@@ -30,12 +30,7 @@ impl Walk {
     }
 
     #[cycle(walk)]
-    fn block<W: World>(
-        &mut self,
-        inner: u32,
-        all: &[Statement],
-        world: &mut W,
-    ) -> Result<Option<Value>, Stop>
+    fn block<W: World>(&mut self, inner: u32, all: &[Statement], world: &mut W) -> Result<Option<Value>, Stop>
         ensures { Goes_on W.gives (block (does_to inner) all.now) self.old world.old result self.new world.new }
     {
         for one in all {
@@ -44,14 +39,6 @@ impl Walk {
             }
         }
         Ok(None)
-    }
-
-    // Whether a condition holds: only false and null don't.
-    fn holds<W: World>(&mut self, inner: u32, e: &Expr, world: &mut W) -> Result<bool, Stop>
-        ensures { Goes_on W.gives (holds (value_to inner) e.now) self.old world.old result self.new world.new }
-    {
-        let test = self.statement_value(inner, e, world)?;
-        Ok(test.truth())
     }
 
     // The block of the first condition that holds, or else the last one.
@@ -67,8 +54,8 @@ impl Walk {
             world.old result self.new world.new }
     {
         for one in all {
-            let holds = self.holds(inner, &one.condition, world)?;
-            if holds {
+            let test = self.value(inner, &one.condition, world)?;
+            if test.truth() {
                 return self.framed(inner, FrameKind::Flow, one.block.as_slice(), world);
             }
         }
@@ -91,8 +78,8 @@ impl Walk {
     {
         let mut left = u64::from(self.state.turns) + 1;
         while left > 0 {
-            let goes_on = self.holds(inner, &statement.condition, world)?;
-            if !goes_on {
+            let test = self.value(inner, &statement.condition, world)?;
+            if !test.truth() {
                 return Ok(None);
             }
             self.state.spend(&statement.span)?;

@@ -2,14 +2,53 @@
 ghost use Rattle.std.specs.Prelude.{◌≡◌};
 ghost use Rattle.sw_eval.specs.Did.{IsReturn};
 ghost use Rattle.sw_eval.specs.Layers.{place_of};
+ghost use Rattle.sw_eval.specs.Texts.{plain};
 ghost use Rattle.sw_eval.specs.Variables.{owner, target, got, null_by, is_null, is_absent, sought_owner};
+ghost use Rattle.sw_eval.specs.Expressions.{weighed, word};
 ghost use Rattle.sw_eval.specs.declared.state.State.{State};
+ghost use Rattle.sw_values.specs.Shape.{plain_of};
 
 use crate::stop::{Stop, fails};
-use sw_syntax_tree::Statement;
-use sw_text::{FaultCode, Span};
-use sw_values::{Node, Value};
+use sw_syntax_tree::{Parts, Statement};
+use sw_text::{FaultCode, Name, Span};
+use sw_values::{Node, Value, ValueFault};
 use sw_world::Answer;
+
+// A text in which no values stand.
+#[tactic(auto, unfolding(crate::specs::Texts::plain))]
+pub(crate) fn plain(parts: &Parts, at: &Span) -> Result<Name, Stop>
+    ensures { (s : State) → IsReturn result s (plain parts.now at.now s) }
+{
+    match parts {
+        Parts::Plain(text) => Ok(text.share()?),
+        Parts::Mixed(_) => fails(FaultCode::BadPlace, at),
+    }
+}
+
+// The value of a node that stands here.
+pub(crate) fn weighed(node: Node, at: &Span) -> Result<Value, Stop>
+    ensures { (s : State) → IsReturn result s (weighed (plain_of node) at.now s) }
+{
+    match Value::of(node) {
+        Ok(value) => Ok(value),
+        Err(ValueFault::TooLarge) => fails(FaultCode::TooLarge, at),
+        Err(ValueFault::NotCss) => unreachable!(),
+        Err(ValueFault::DuplicateKey(_)) => unreachable!(),
+        Err(ValueFault::Memory) => Err(Stop::Memory),
+    }
+}
+
+// An unquoted word that stands here.
+pub(crate) fn word(parts: &Parts, at: &Span) -> Result<Value, Stop>
+    ensures { (s : State) → IsReturn result s (word parts.now at.now s) }
+{
+    let text = plain(parts, at)?;
+    let node = Node::Text {
+        text,
+        quoted: false,
+    };
+    weighed(node, at)
+}
 
 // The number of the owner that an answer names.
 pub(crate) fn owner(

@@ -3,7 +3,6 @@ ghost use Rattle.std.specs.Prelude.{◌≡◌, option_copied};
 ghost use Rattle.sw_eval.specs.Did.{IsReturn};
 ghost use Rattle.sw_eval.specs.Means.{begin};
 ghost use Rattle.sw_eval.specs.Scope.{origin, is_home, own, is_mine, set_by, set_own, entered, left};
-ghost use Rattle.sw_eval.specs.Expressions.{parent};
 ghost use Rattle.sw_eval.specs.Flow.{spent};
 ghost use Rattle.sw_eval.specs.Talk.{Gives};
 
@@ -94,17 +93,6 @@ impl State {
         let name = name.share()?;
         self.scopes.set_top(name, value)?;
         Ok(())
-    }
-
-    // What `&` is.
-    #[tactic(auto, unfolding(crate::specs::Expressions::parent))]
-    pub(crate) fn parent(&self, at: &Span) -> Result<Value, Stop>
-        ensures { IsReturn result self.now (parent at.now self.now) }
-    {
-        if self.css.is_open() {
-            return fails(FaultCode::BadPlace, at);
-        }
-        Ok(Value::null())
     }
 
     // Opens a frame.

@@ -1,74 +1,144 @@
-// Statements.
-ghost use Rattle.sw_literals.specs.declared.quotients.Parens.TheVariants as P;
-ghost use Rattle.sw_eval.specs.declared.texts.TextKind.TheVariants as K;
+// Expressions and statements.
 ghost use Rattle.sw_eval.specs.Did.{Goes_on};
-ghost use Rattle.sw_eval.specs.Texts.{text};
-ghost use Rattle.sw_eval.specs.Expressions.{plain_value};
-ghost use Rattle.sw_eval.specs.Statements.{declaration, rule, does_one};
+ghost use Rattle.sw_eval.specs.Expressions.{value_one};
+ghost use Rattle.sw_eval.specs.Statements.{variable_set, assigned, assigned_always, assigned_default, declaration, rule, does_one};
 ghost use Rattle.sw_eval.specs.Means.{value_to, does_to};
 
-use crate::level::Level;
 use crate::output::close;
-use crate::parts::place_of;
+use crate::parts::{is_null, place_of, plain, word};
 use crate::stop::{Stop, fails};
-use crate::texts::TextKind;
 use crate::walk::Walk;
-use sw_literals::Parens;
 use sw_scope::FrameKind;
-use sw_syntax_tree::{Declaration, Expr, Rule, Statement, Text};
-use sw_text::{FaultCode, Name};
+use sw_syntax_tree::{Assignment, Declaration, Expr, ExprKind, Rule, Statement, Variable};
+use sw_text::{FaultCode, Span};
 use sw_values::Value;
 use sw_world::World;
 
 impl Walk {
-    // The value of an expression of a statement.
-    pub(crate) fn statement_value<W: World>(
+    // The value of an expression, at most so deep.
+    pub(crate) fn value<W: World>(
         &mut self,
-        inner: u32,
+        depth: u32,
         e: &Expr,
         world: &mut W,
     ) -> Result<Value, Stop>
-        ensures { Goes_on W.gives (value_to inner P.Outside e.now) self.old world.old result self.new world.new }
+        ensures { Goes_on W.gives (value_to depth e.now) self.old world.old result self.new world.new }
     {
-        let level = Level {
-            depth: inner,
-            parens: Parens::Outside,
-        };
-        self.value(level, e, world)
+        if depth == 0 {
+            return fails(FaultCode::Depth, &e.span);
+        }
+        self.value_one(e, world)
     }
 
-    // The same without sides.
-    pub(crate) fn statement_plain<W: World>(
+    fn value_one<W: World>(&mut self, e: &Expr, world: &mut W) -> Result<Value, Stop>
+        ensures { Goes_on W.gives (value_one e.now) self.old world.old result self.new world.new }
+    {
+        match &e.kind {
+            ExprKind::Word(parts) => word(parts, &e.span),
+            ExprKind::Variable(name) => self.variable(name, &e.span, world),
+            ExprKind::Qualified(q) => self.qualified(q.get(), &e.span, world),
+            ExprKind::Number(_)
+            | ExprKind::Quoted(_)
+            | ExprKind::Hash(_)
+            | ExprKind::Constant(_)
+            | ExprKind::Url(_)
+            | ExprKind::Special(_)
+            | ExprKind::Call { .. }
+            | ExprKind::Parent
+            | ExprKind::Important
+            | ExprKind::Prefixed { .. }
+            | ExprKind::Chain { .. }
+            | ExprKind::List { .. }
+            | ExprKind::Paren(_)
+            | ExprKind::Map(_) => fails(FaultCode::BadPlace, &e.span),
+        }
+    }
+
+    // An assignment to a variable without a namespace.
+    fn variable_set<W: World>(
         &mut self,
         inner: u32,
-        e: &Expr,
+        statement: &Variable,
         world: &mut W,
-    ) -> Result<Value, Stop>
-        ensures { Goes_on W.gives (plain_value (value_to inner) P.Outside e.now) self.old world.old result
+    ) -> Result<Option<Value>, Stop>
+        ensures { Goes_on W.gives (variable_set (value_to inner) statement.now) self.old world.old result
             self.new world.new }
     {
-        let level = Level {
-            depth: inner,
-            parens: Parens::Outside,
-        };
-        self.plain_value(level, e, world)
+        let kept = self.kept(statement.flags, &statement.name, &statement.span, world)?;
+        if kept {
+            return Ok(None);
+        }
+        let value = self.value(inner, &statement.value, world)?;
+        self.stored(
+            statement.flags.global,
+            &statement.name,
+            value,
+            &statement.span,
+            world,
+        )?;
+        Ok(None)
     }
 
-    // A text of a statement, with the values in it.
-    pub(crate) fn statement_text<W: World>(
+    // An assignment to a variable behind a namespace.
+    fn assigned<W: World>(
         &mut self,
         inner: u32,
-        it: &Text,
+        statement: &Assignment,
         world: &mut W,
-    ) -> Result<Name, Stop>
-        ensures { Goes_on W.gives (text (value_to inner) K.Sheet P.Outside it.now.parts it.now.span) self.old world.old
-            result self.new world.new }
+    ) -> Result<Option<Value>, Stop>
+        ensures { Goes_on W.gives (assigned (value_to inner) statement.now) self.old world.old result
+            self.new world.new }
     {
-        let level = Level {
-            depth: inner,
-            parens: Parens::Outside,
-        };
-        self.text(level, TextKind::Sheet, &it.parts, &it.span, world)
+        if statement.flags.default {
+            self.assigned_default(inner, statement, world)
+        } else {
+            self.assigned_always(inner, statement, world)
+        }
+    }
+
+    fn assigned_always<W: World>(
+        &mut self,
+        inner: u32,
+        statement: &Assignment,
+        world: &mut W,
+    ) -> Result<Option<Value>, Stop>
+        ensures { Goes_on W.gives (assigned_always (value_to inner) statement.now) self.old world.old result
+            self.new world.new }
+    {
+        let value = self.value(inner, &statement.value, world)?;
+        let owner = self.targeted(
+            &statement.target,
+            &statement.target_span,
+            &statement.span,
+            world,
+        )?;
+        self.putting(owner, value, &statement.span, world)?;
+        Ok(None)
+    }
+
+    // An assignment with `!default` to a variable behind a namespace.
+    fn assigned_default<W: World>(
+        &mut self,
+        inner: u32,
+        statement: &Assignment,
+        world: &mut W,
+    ) -> Result<Option<Value>, Stop>
+        ensures { Goes_on W.gives (assigned_default (value_to inner) statement.now) self.old world.old result
+            self.new world.new }
+    {
+        let owner = self.targeted(
+            &statement.target,
+            &statement.target_span,
+            &statement.span,
+            world,
+        )?;
+        let old = self.getting(owner, &statement.span, world)?;
+        if !is_null(&old) {
+            return Ok(None);
+        }
+        let value = self.value(inner, &statement.value, world)?;
+        self.putting(owner, value, &statement.span, world)?;
+        Ok(None)
     }
 
     // A declaration, which stands in a rule.
@@ -84,11 +154,11 @@ impl Walk {
         if !self.state.css.is_open() {
             return fails(FaultCode::BadPlace, &statement.span);
         }
-        let property = self.statement_text(inner, &statement.property, world)?;
-        let value = self.statement_value(inner, &statement.value, world)?;
+        let property = plain(&statement.property.parts, &statement.property.span)?;
+        let value = self.value(inner, &statement.value, world)?;
         self.state.written(
             self.alloc,
-            property,
+            &property,
             &value,
             &statement.value.span,
             &statement.span,
@@ -162,19 +232,14 @@ impl Walk {
         statement: &Rule,
         world: &mut W,
     ) -> Result<Option<Value>, Stop>
-        ensures { Goes_on W.gives (rule (value_to inner) (does_to inner) statement.now) self.old world.old result
+        ensures { Goes_on W.gives (rule (does_to inner) statement.now) self.old world.old result
             self.new world.new }
     {
         if self.state.css.is_open() {
             return fails(FaultCode::BadPlace, &statement.span);
         }
-        let selectors = self.statement_text(inner, &statement.selector, world)?;
-        self.state.opening(
-            self.alloc,
-            &selectors,
-            &statement.selector.span,
-            &statement.span,
-        )?;
+        let selectors = plain(&statement.selector.parts, &statement.selector.span)?;
+        self.state.opening(selectors, &statement.span)?;
         let value = self.framed(inner, FrameKind::Block, statement.block.as_slice(), world)?;
         close(&mut self.state.css);
         Ok(value)

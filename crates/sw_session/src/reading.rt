@@ -5,8 +5,8 @@ ghost use Rattle.sw_session.specs.Sheets.{sheet_at, is_scss, unread};
 ghost use Rattle.sw_sheet_parse.specs.Readings.{sheet_of};
 
 use std::alloc::Global;
-use sw_expr_parse::ReadEnd;
 use sw_keeper::Reader;
+use sw_expr_parse::ReadEnd;
 use sw_sheet_parse::read;
 use sw_syntax_tree::Sheet;
 use sw_text::{Fault, FaultCode, Memory, Name, Shared, SheetText, Span};

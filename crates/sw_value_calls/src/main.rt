@@ -4,6 +4,8 @@
 
 mod built_ins;
 mod functions;
+mod literals;
+mod operands;
 mod operators;
 mod reader;
 mod scopes;
@@ -31,6 +33,7 @@ impl Libraries for Above {
             "built_ins" => built_ins::answer(alloc, name, text),
             "colour_functions" => functions::colours(alloc, name, text),
             "lists" => functions::lists(alloc, name, text),
+            "literals" => literals::answer(alloc, name, text),
             "maps" => functions::maps(alloc, name, text),
             "math" => functions::math(alloc, name, text),
             "operators" => operators::answer(alloc, name, text),

@@ -1,4 +1,4 @@
-use Rattle.std.proofs.Common.{◌≡◌, suc, ◌+◌, ⊎_elim, arith}
+use Rattle.std.proofs.Common.{◌≡◌, ⊎_elim, arith}
 use Rattle.sw_syntax_tree.specs.declared.statement.Statement as S
 use Rattle.sw_eval.specs.Layers.{place_of}
 use Rattle.sw_eval.specs.Ran.{still}
@@ -8,9 +8,7 @@ use Rattle.sw_eval.specs.Means.{value_to, does_to}
 use Rattle.sw_eval.proofs.Steps.{no_memory_by, gives_state, did_value, did_err, did_then, did_plain, ran_then, ran_did}
 use Rattle.sw_eval.proofs.Depth.{one_level_does}
 use Rattle.sw_eval.proofs.Opens.{out_Rule, out_If, out_While}
-use Rattle.sw_eval.proofs.Loops.{loop_at, loop_end}
-use Rattle.sw_eval.proofs.Choices.{did_yes, did_no}
-use Rattle.sw_eval.proofs.Counts.{turn_at, turn_end}
+use Rattle.sw_eval.proofs.Loops.{loop_at, loop_end, turn_at, turn_end, tests_are}
 use Rattle.sw_eval.proofs.walk.Walk.+walk.Goals as goal
 
 pub does-returns-then-depth-eq0 : goal.does-returns-then-depth-eq0
@@ -46,22 +44,22 @@ rule-returns-then-is_open g t c =
 pub rule-returns-in_err-selectors : goal.rule-returns-in_err-selectors
 unfolding rule
 rule-returns-in_err-selectors g t c =
-    rw (← c.is_open.ensures, c.if-is_open.false) (did_err _ c.in_err-selectors.ensures c.from_residual.ensures)
+    rw (← c.is_open.ensures, c.if-is_open.false) (did_err _ (did_plain _ c.args.self.now.state _ _ _ (c.in_err-selectors.ensures c.args.self.now.state)) c.from_residual.ensures)
 
 pub rule-returns-in_err-opening : goal.rule-returns-in_err-opening
 unfolding rule
 rule-returns-in_err-opening g t c =
-    rw (← c.is_open.ensures, c.if-is_open.false) (did_then _ c.in_ok-selectors.ensures (did_err _ (did_plain _ _ _ _ _ c.in_err-opening.ensures) c.from_residual-in_err-opening.ensures))
+    rw (← c.is_open.ensures, c.if-is_open.false) (did_then _ (did_plain _ c.args.self.now.state _ _ _ (c.in_ok-selectors.ensures c.args.self.now.state)) (did_err _ (did_plain _ _ _ _ _ c.in_err-opening.ensures) c.from_residual-in_err-opening.ensures))
 
 pub rule-returns-in_err-value : goal.rule-returns-in_err-value
 unfolding rule
 rule-returns-in_err-value g t c =
-    rw (← c.is_open.ensures, c.if-is_open.false) (did_then _ c.in_ok-selectors.ensures (did_then _ (did_plain _ _ _ _ _ c.in_ok-opening.ensures) (did_err _ (rw c.as_slice.ensures at c.in_err-value.ensures) c.from_residual-in_err-value.ensures)))
+    rw (← c.is_open.ensures, c.if-is_open.false) (did_then _ (did_plain _ c.args.self.now.state _ _ _ (c.in_ok-selectors.ensures c.args.self.now.state)) (did_then _ (did_plain _ _ _ _ _ c.in_ok-opening.ensures) (did_err _ (rw c.as_slice.ensures at c.in_err-value.ensures) c.from_residual-in_err-value.ensures)))
 
 pub rule-returns : goal.rule-returns
 unfolding rule
 rule-returns g t c =
-    rw (← c.is_open.ensures, c.if-is_open.false, c.close.ensures) (did_then _ c.in_ok-selectors.ensures (did_then _ (did_plain _ _ _ _ _ c.in_ok-opening.ensures) (did_then _ (rw c.as_slice.ensures at c.in_ok-value.ensures) (did_value _ _ _ _))))
+    rw (← c.is_open.ensures, c.if-is_open.false, c.close.ensures) (did_then _ (did_plain _ c.args.self.now.state _ _ _ (c.in_ok-selectors.ensures c.args.self.now.state)) (did_then _ (did_plain _ _ _ _ _ c.in_ok-opening.ensures) (did_then _ (rw c.as_slice.ensures at c.in_ok-value.ensures) (did_value _ _ _ _))))
 
 pub framed-returns-in_err-enter : goal.framed-returns-in_err-enter
 framed-returns-in_err-enter g t c = no_memory_by _ _ _ _ _ _ _ _ c.in_err-enter.ensures c.from_residual.ensures
@@ -129,17 +127,17 @@ does_one-returns-in-While g t c = rw (c.in-While.is, out_While) c.repeat_in.ensu
 pub branches-loop-one-init : goal.branches-loop-one-init
 branches-loop-one-init g t c = still _ _ _
 
-pub branches-returns-in_err-holds : goal.branches-returns-in_err-holds
-branches-returns-in_err-holds g t c =
-    ran_did (loop_at (λ l s. branches (value_to c.args.inner) (does_to c.args.inner) c.args.otherwise.now l s) c.args.all.now c.loop-one.one-index c.one-item.result c.loop-one.self.state c.loop-one-test.true c.one-item.is c.loop-one.invariant) (did_err _ c.in_err-holds.ensures c.from_residual.ensures)
+pub branches-returns-in_err-test : goal.branches-returns-in_err-test
+branches-returns-in_err-test g t c =
+    ran_did (loop_at (λ l s. branches (value_to c.args.inner) (does_to c.args.inner) c.args.otherwise.now l s) c.args.all.now c.loop-one.one-index c.one-item.result c.loop-one.self.state c.loop-one-test.true c.one-item.is c.loop-one.invariant) (did_err _ c.in_err-test.ensures c.from_residual.ensures)
 
-pub branches-returns-then-holds : goal.branches-returns-then-holds
-branches-returns-then-holds g t c =
-    ran_did (loop_at (λ l s. branches (value_to c.args.inner) (does_to c.args.inner) c.args.otherwise.now l s) c.args.all.now c.loop-one.one-index c.one-item.result c.loop-one.self.state c.loop-one-test.true c.one-item.is c.loop-one.invariant) (did_then _ c.in_ok-holds.ensures (did_yes _ _ _ c.if-holds.true (rw c.as_slice.ensures at c.framed.ensures)))
+pub branches-returns-then-truth : goal.branches-returns-then-truth
+branches-returns-then-truth g t c =
+    ran_did (loop_at (λ l s. branches (value_to c.args.inner) (does_to c.args.inner) c.args.otherwise.now l s) c.args.all.now c.loop-one.one-index c.one-item.result c.loop-one.self.state c.loop-one-test.true c.one-item.is c.loop-one.invariant) (did_then _ c.in_ok-test.ensures (rw (← c.truth.ensures, c.if-truth.true) (rw c.as_slice.ensures at c.framed.ensures)))
 
 pub branches-loop-one-preserved : goal.branches-loop-one-preserved
 branches-loop-one-preserved g t c =
-    rw c.if-holds.false at (ran_then _ (loop_at (λ l s. branches (value_to c.args.inner) (does_to c.args.inner) c.args.otherwise.now l s) c.args.all.now c.loop-one.one-index c.one-item.result c.loop-one.self.state c.loop-one-test.true c.one-item.is c.loop-one.invariant) c.in_ok-holds.ensures)
+    rw (← c.truth.ensures, c.if-truth.false) at (ran_then _ (loop_at (λ l s. branches (value_to c.args.inner) (does_to c.args.inner) c.args.otherwise.now l s) c.args.all.now c.loop-one.one-index c.one-item.result c.loop-one.self.state c.loop-one-test.true c.one-item.is c.loop-one.invariant) c.in_ok-test.ensures)
 
 pub branches-returns-in-Some : goal.branches-returns-in-Some
 branches-returns-in-Some g t c =
@@ -151,32 +149,31 @@ branches-returns-in-None g t c =
 
 pub repeats-loop-left-init : goal.repeats-loop-left-init
 unfolding repeats
-repeats-loop-left-init g t c =
-    let tests : c.from-left.result + 1 ≡ suc c.args.self.now.state.turns = omega (arith, c.from-left.ensures) in rw tests (still _ _ _)
+repeats-loop-left-init g t c = rw (tests_are c.args.self.now.state.turns _ c.from-left.ensures) (still _ _ _)
 
-pub repeats-returns-in_err-goes_on : goal.repeats-returns-in_err-goes_on
-repeats-returns-in_err-goes_on g t c =
-    ran_did (turn_at (λ n s. repeat (value_to c.args.inner) (does_to c.args.inner) c.args.statement.now n s) c.loop-left.left c.loop-left.self.state c.loop-left-test.true c.loop-left.invariant) (did_err _ c.in_err-goes_on.ensures c.from_residual.ensures)
+pub repeats-returns-in_err-test : goal.repeats-returns-in_err-test
+repeats-returns-in_err-test g t c =
+    ran_did (turn_at (λ n s. repeat (value_to c.args.inner) (does_to c.args.inner) c.args.statement.now n s) c.loop-left.left c.loop-left.self.state c.loop-left-test.true c.loop-left.invariant) (did_err _ c.in_err-test.ensures c.from_residual.ensures)
 
-pub repeats-returns-then-not-goes_on : goal.repeats-returns-then-not-goes_on
-repeats-returns-then-not-goes_on g t c =
-    ran_did (turn_at (λ n s. repeat (value_to c.args.inner) (does_to c.args.inner) c.args.statement.now n s) c.loop-left.left c.loop-left.self.state c.loop-left-test.true c.loop-left.invariant) (did_then _ c.in_ok-goes_on.ensures (did_no _ _ _ c.if-not-goes_on.true (did_value _ _ _ _)))
+pub repeats-returns-then-not-truth : goal.repeats-returns-then-not-truth
+repeats-returns-then-not-truth g t c =
+    ran_did (turn_at (λ n s. repeat (value_to c.args.inner) (does_to c.args.inner) c.args.statement.now n s) c.loop-left.left c.loop-left.self.state c.loop-left-test.true c.loop-left.invariant) (did_then _ c.in_ok-test.ensures (rw (← c.truth.ensures, c.if-not-truth.true) (did_value _ _ _ _)))
 
 pub repeats-returns-in_err-spend : goal.repeats-returns-in_err-spend
 repeats-returns-in_err-spend g t c =
-    ran_did (turn_at (λ n s. repeat (value_to c.args.inner) (does_to c.args.inner) c.args.statement.now n s) c.loop-left.left c.loop-left.self.state c.loop-left-test.true c.loop-left.invariant) (did_then _ c.in_ok-goes_on.ensures (did_yes _ _ _ c.if-not-goes_on.false (did_err _ (did_plain _ _ _ _ _ c.in_err-spend.ensures) c.from_residual-in_err-spend.ensures)))
+    ran_did (turn_at (λ n s. repeat (value_to c.args.inner) (does_to c.args.inner) c.args.statement.now n s) c.loop-left.left c.loop-left.self.state c.loop-left-test.true c.loop-left.invariant) (did_then _ c.in_ok-test.ensures (rw (← c.truth.ensures, c.if-not-truth.false) (did_err _ (did_plain _ _ _ _ _ c.in_err-spend.ensures) c.from_residual-in_err-spend.ensures)))
 
 pub repeats-returns-in_err-value : goal.repeats-returns-in_err-value
 repeats-returns-in_err-value g t c =
-    ran_did (turn_at (λ n s. repeat (value_to c.args.inner) (does_to c.args.inner) c.args.statement.now n s) c.loop-left.left c.loop-left.self.state c.loop-left-test.true c.loop-left.invariant) (did_then _ c.in_ok-goes_on.ensures (did_yes _ _ _ c.if-not-goes_on.false (did_then _ (did_plain _ _ _ _ _ c.in_ok-spend.ensures) (did_err _ (rw c.as_slice.ensures at c.in_err-value.ensures) c.from_residual-in_err-value.ensures))))
+    ran_did (turn_at (λ n s. repeat (value_to c.args.inner) (does_to c.args.inner) c.args.statement.now n s) c.loop-left.left c.loop-left.self.state c.loop-left-test.true c.loop-left.invariant) (did_then _ c.in_ok-test.ensures (rw (← c.truth.ensures, c.if-not-truth.false) (did_then _ (did_plain _ _ _ _ _ c.in_ok-spend.ensures) (did_err _ (rw c.as_slice.ensures at c.in_err-value.ensures) c.from_residual-in_err-value.ensures))))
 
 pub repeats-returns-in-Some : goal.repeats-returns-in-Some
 repeats-returns-in-Some g t c =
-    ran_did (turn_at (λ n s. repeat (value_to c.args.inner) (does_to c.args.inner) c.args.statement.now n s) c.loop-left.left c.loop-left.self.state c.loop-left-test.true c.loop-left.invariant) (did_then _ c.in_ok-goes_on.ensures (did_yes _ _ _ c.if-not-goes_on.false (did_then _ (did_plain _ _ _ _ _ c.in_ok-spend.ensures) (did_then _ (rw (c.as_slice.ensures, c.in-Some.is) at c.in_ok-value.ensures) (did_value _ _ _ _)))))
+    ran_did (turn_at (λ n s. repeat (value_to c.args.inner) (does_to c.args.inner) c.args.statement.now n s) c.loop-left.left c.loop-left.self.state c.loop-left-test.true c.loop-left.invariant) (did_then _ c.in_ok-test.ensures (rw (← c.truth.ensures, c.if-not-truth.false) (did_then _ (did_plain _ _ _ _ _ c.in_ok-spend.ensures) (did_then _ (rw (c.as_slice.ensures, c.in-Some.is) at c.in_ok-value.ensures) (did_value _ _ _ _)))))
 
 pub repeats-loop-left-preserved : goal.repeats-loop-left-preserved
 repeats-loop-left-preserved g t c =
-    ran_then _ (ran_then _ (rw c.if-not-goes_on.false at (ran_then _ (turn_at (λ n s. repeat (value_to c.args.inner) (does_to c.args.inner) c.args.statement.now n s) c.loop-left.left c.loop-left.self.state c.loop-left-test.true c.loop-left.invariant) c.in_ok-goes_on.ensures)) (did_plain _ _ _ _ _ c.in_ok-spend.ensures)) (rw (c.as_slice.ensures, c.in_default.is) at c.in_ok-value.ensures)
+    ran_then _ (ran_then _ (rw (← c.truth.ensures, c.if-not-truth.false) at (ran_then _ (turn_at (λ n s. repeat (value_to c.args.inner) (does_to c.args.inner) c.args.statement.now n s) c.loop-left.left c.loop-left.self.state c.loop-left-test.true c.loop-left.invariant) c.in_ok-test.ensures)) (did_plain _ _ _ _ _ c.in_ok-spend.ensures)) (rw (c.as_slice.ensures, c.in_default.is) at c.in_ok-value.ensures)
 
 pub repeats-returns : goal.repeats-returns
 repeats-returns g t c =

@@ -9,19 +9,19 @@ returns-then-not-is_open g c = rw (← c.is_open.ensures, c.if-not-is_open.true)
 pub returns-in_err-property : goal.returns-in_err-property
 unfolding declaration
 returns-in_err-property g c =
-    rw (← c.is_open.ensures, c.if-not-is_open.false) (did_err _ c.in_err-property.ensures c.from_residual.ensures)
+    rw (← c.is_open.ensures, c.if-not-is_open.false) (did_err _ (did_plain _ c.args.self.now.state _ _ _ (c.in_err-property.ensures c.args.self.now.state)) c.from_residual.ensures)
 
 pub returns-in_err-value : goal.returns-in_err-value
 unfolding declaration
 returns-in_err-value g c =
-    rw (← c.is_open.ensures, c.if-not-is_open.false) (did_then _ c.in_ok-property.ensures (did_err _ c.in_err-value.ensures c.from_residual-in_err-value.ensures))
+    rw (← c.is_open.ensures, c.if-not-is_open.false) (did_then _ (did_plain _ c.args.self.now.state _ _ _ (c.in_ok-property.ensures c.args.self.now.state)) (did_err _ c.in_err-value.ensures c.from_residual-in_err-value.ensures))
 
 pub returns-in_err-written : goal.returns-in_err-written
 unfolding declaration
 returns-in_err-written g c =
-    rw (← c.is_open.ensures, c.if-not-is_open.false) (did_then _ c.in_ok-property.ensures (did_then _ c.in_ok-value.ensures (did_err _ (did_plain _ _ _ _ _ c.in_err-written.ensures) c.from_residual-in_err-written.ensures)))
+    rw (← c.is_open.ensures, c.if-not-is_open.false) (did_then _ (did_plain _ c.args.self.now.state _ _ _ (c.in_ok-property.ensures c.args.self.now.state)) (did_then _ c.in_ok-value.ensures (did_err _ (did_plain _ _ _ _ _ c.in_err-written.ensures) c.from_residual-in_err-written.ensures)))
 
 pub returns : goal.returns
 unfolding declaration
 returns g c =
-    rw (← c.is_open.ensures, c.if-not-is_open.false) (did_then _ c.in_ok-property.ensures (did_then _ c.in_ok-value.ensures (did_then _ (did_plain _ _ _ _ _ c.in_ok-written.ensures) (did_value _ _ _ _))))
+    rw (← c.is_open.ensures, c.if-not-is_open.false) (did_then _ (did_plain _ c.args.self.now.state _ _ _ (c.in_ok-property.ensures c.args.self.now.state)) (did_then _ c.in_ok-value.ensures (did_then _ (did_plain _ _ _ _ _ c.in_ok-written.ensures) (did_value _ _ _ _))))
