@@ -9,10 +9,14 @@ use Rattle.sw_text.specs.declared.place.Span.{Span}
 use Rattle.sw_world.specs.Questions.{IsLoad, Fits}
 use Rattle.sw_world.specs.Body.{Pair}
 use Rattle.sw_world.specs.Laws.{most_asked}
+use Rattle.sw_literals.specs.declared.refused.Refused.{Refused}
+use Rattle.sw_literals.specs.declared.refused.Refused.TheVariants as R
+use Rattle.sw_literals.specs.Answers.{Answer as Answer_of, Returns}
+use Rattle.sw_eval.specs.Stopped.{stop_of, stopped}
 use Rattle.sw_eval.specs.Talk.{Question, Talk, Gives, Fails, bind, answered, too_many, no_owner}
 use Rattle.sw_eval.specs.Ran.{Stand, Ran, op_at, still, takes, asks, full, lost, ran_on, within}
 use Rattle.sw_eval.specs.Did.{Did, IsReturn}
-use Rattle.sw_eval.specs.Asking.{asking}
+use Rattle.sw_eval.specs.Asking.{asking, answer}
 use Rattle.sw_eval.specs.declared.state.State.{State}
 use Rattle.sw_eval.specs.declared.stop.Stop.{Stop}
 use Rattle.sw_eval.specs.declared.stop.Stop.TheVariants.{Memory, Fault}
@@ -35,6 +39,20 @@ plain_err t f e r s u is p = rw (err_of r e p) (stops e t f s u is)
 pub plain_then : {A B : Type 0} (t : Talk (A × State)) (f : A × State → Talk (B × State)) (v : A) (r : Result B Stop) (s u : State) → IsReturn (Ok v) s t → IsReturn r u (f (v, s)) → IsReturn r u (bind t f)
 unfolding bind
 plain_then t f v r s u is more = rw is more
+
+-- what is made without asking
+pub plain_answer : {A : Type 0} (right : Answer_of A) (v : A) (s : State) → Returns (Ok v) right → IsReturn (Ok v) s (answer right s)
+unfolding answer
+plain_answer right v s is = rw is refl
+
+refused_return : {A : Type 0} (right : Answer_of A) (e : Refused) (s : State) → Returns (Err e) right → IsReturn {A = A} (Err (stop_of e)) s (answer right s)
+unfolding answer
+refused_return right (R.Fault code) s is = rw is refl
+refused_return right R.Memory s is = tt
+
+pub plain_refused : {A B : Type 0} (right : Answer_of A) (f : A × State → Talk (B × State)) (e : Refused) (r : Result B Stop) (s u : State) → Returns (Err e) right → IsErr r × IsErrAnd r (λ x. x ≡ stop_of e)
+    → IsReturn r u (bind (answer right s) f)
+plain_refused right f e r s u is p = plain_err (answer right s) f (stop_of e) r s u (refused_return right e s is) p
 
 pub gives_state : {A : Type 0} {v w : A} {s t : State} → ◌≡◌ {A = Talk (A × State)} (Gives (v, s)) (Gives (w, t)) → s ≡ t
 gives_state {A} {v} {w} {s} {t} e = let p : ◌≡◌ {A = A × State} (v, s) (w, t) = cc in ap (λ (r : A × State). r.1) p
@@ -66,6 +84,20 @@ module _ {W : Type 0} {gives : W → Op → Answer → W → Type 0} where
   pub did_plain : {A : Type 0} (t : Talk (A × State)) (s : State) (a : Stand) (w : W) (r : Result A Stop) → IsReturn r s t → Did gives t a w r s a w
   did_plain t s a w r is = record { last = t; ran = still t a w; is_return = is }
 
+  -- what is made without asking: the value, and what is refused
+  pub did_answer : {A : Type 0} (right : Answer_of A) (v : A) (s : State) (a : Stand) (w : W) → Returns (Ok v) right → Did gives (answer right s) a w (Ok v) s a w
+  unfolding answer
+  did_answer right v s a w is = rw is (did_value v s a w)
+
+  refused_by : {A : Type 0} (right : Answer_of A) (e : Refused) (s : State) (a : Stand) (w : W) → Returns (Err e) right → Did gives (answer right s) a w (Err (stop_of e)) s a w
+  unfolding answer
+  refused_by right (R.Fault code) s a w is = rw is (did_fault code s a w)
+  refused_by right R.Memory s a w is = did_memory (answer right s) s a w
+
+  pub did_stopped : {A : Type 0} (right : Answer_of A) (r : Result A Refused) (q : Result A Stop) (s : State) (a : Stand) (w : W) → Returns r right → q ≡ stopped r → Did gives (answer right s) a w q s a w
+  did_stopped right (Ok v) q s a w is same = rw same (did_answer right v s a w is)
+  did_stopped right (Err e) q s a w is same = rw same (refused_by right e s a w is)
+
   -- a call, and what goes on after it
   pub did_then : {A B : Type 0} {t : Talk (A × State)} (f : A × State → Talk (B × State)) {a b c : Stand} {w x y : W} {v : A} {s u : State} {r : Result B Stop}
       → Did gives t a w (Ok v) s b x → Did gives (f (v, s)) b x r u c y → Did gives (bind t f) a w r u c y
@@ -87,6 +119,11 @@ module _ {W : Type 0} {gives : W → Op → Answer → W → Type 0} where
   pub did_err : {A B : Type 0} {t : Talk (A × State)} (f : A × State → Talk (B × State)) {a b : Stand} {w x : W} {e : Stop} {r : Result B Stop} {s u : State}
       → Did gives t a w (Err e) s b x → IsErr r × IsErrAnd r (λ y. y ≡ e) → Did gives (bind t f) a w r u b x
   did_err f {e = e} {r = r} d p = rw (err_of r e p) (did_stop f d)
+
+  -- the same of what is refused
+  pub did_refused : {A B : Type 0} (right : Answer_of A) (f : A × State → Talk (B × State)) (e : Refused) (r : Result B Stop) (s : State) (a : Stand) (w : W) → Returns (Err e) right → IsErr r × IsErrAnd r (λ y. y ≡ stop_of e)
+      → Did gives (bind (answer right s) f) a w r s a w
+  did_refused right f e r s a w is p = did_err f (refused_by right e s a w is) p
 
   -- in a loop: on from where it came to
   pub ran_then : {A B : Type 0} {T : Talk (B × State)} {t : Talk (A × State)} (f : A × State → Talk (B × State)) {z a b : Stand} {q w x : W} {v : A} {s : State}

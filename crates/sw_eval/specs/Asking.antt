@@ -1,15 +1,21 @@
 -- Faults that end an evaluation, and its questions.
-use Rattle.std.specs.Prelude.{ℕ, List, Option}
+use Rattle.std.specs.Prelude.{ℕ, List, Option, Result, Ok, Err}
 use Rattle.sw_text.specs.declared.fault.Fault.{Fault}
 use Rattle.sw_text.specs.declared.fault.FaultCode.{FaultCode}
 use Rattle.sw_text.specs.declared.place.Span.{Span}
 use Rattle.sw_syntax_tree.specs.declared.callable.Kind.{Kind}
 use Rattle.sw_world.specs.declared.answer.Answer.{Answer}
-use Rattle.sw_eval.specs.Talk.{Question, Finds, Gives, Asking}
+use Rattle.sw_eval.specs.Talk.{Question, Finds, Gives, Fails, Asking}
 use Rattle.sw_eval.specs.Did.{Eval}
+use Rattle.sw_eval.specs.declared.state.State.{State}
 
 abbrev pub fault : FaultCode → Span → Fault
 fault code at = record { code = code; span = at }
+
+-- what is made without asking: a value, or the fault that ends the evaluation
+unfoldable pub answer : {A : Type 0} → Result A Fault → Eval A
+answer (Ok v) s = Gives (v, s)
+answer (Err f) s = Fails f
 
 -- the question's number and its answer
 unfoldable pub asking : Question → Span → Eval (ℕ × Answer)

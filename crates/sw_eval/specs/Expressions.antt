@@ -12,8 +12,6 @@ use Rattle.sw_syntax_tree.specs.declared.expr.Sign.{Sign}
 use Rattle.sw_syntax_tree.specs.declared.expr.Separator.{Separator}
 use Rattle.sw_syntax_tree.specs.declared.expr.Around.{Around}
 use Rattle.sw_values.specs.declared.plain.Plain.{Plain}
-use Rattle.sw_values.specs.declared.plain.Plain.TheVariants as N
-use Rattle.sw_css_tree.specs.Output.{is_open}
 use Rattle.sw_literals.specs.declared.chain.Left.{Left}
 use Rattle.sw_literals.specs.declared.quotients.Parens.{Parens}
 use Rattle.sw_literals.specs.declared.quotients.Parens.TheVariants as P
@@ -24,16 +22,12 @@ use Rattle.sw_literals.specs.Lists.{list_value}
 use Rattle.sw_literals.specs.Maps.{map_value}
 use Rattle.sw_eval.specs.Layers.{Kinds, Texts}
 use Rattle.sw_eval.specs.Talk.{Gives, Fails, bind}
-use Rattle.sw_eval.specs.Asking.{fault}
-use Rattle.sw_eval.specs.Refusals.{answer}
+use Rattle.sw_eval.specs.Asking.{fault, answer}
 use Rattle.sw_eval.specs.Variables.{variable, qualified}
+use Rattle.sw_eval.specs.Rules.{parent}
 use Rattle.sw_eval.specs.Texts.{text, mixed}
 use Rattle.sw_eval.specs.Did.{Eval}
 use Rattle.sw_eval.specs.declared.texts.TextKind.TheVariants as K
-
--- `&` is null where no rule is open; else it has no meaning yet
-unfoldable pub parent : Span → Eval Plain
-parent at s = if is_open s.css then Fails (fault C.BadPlace at) else Gives (N.Null, s)
 
 -- `value` is the level below
 module _ (value : Parens → Expr → Eval Plain) where

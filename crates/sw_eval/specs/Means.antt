@@ -92,7 +92,7 @@ tops number [] s = Gives (tt, s)
 tops number (x ∷ xs) s = bind (top number x s) (λ r. tops (suc number) xs r.1)
 
 abbrev pub begin : State
-begin = record { scopes = empty; here = record { site = 0 }; css = nothing; late = false; turns = 1000000 }
+begin = record { scopes = empty; here = record { site = 0 }; css = nothing; parents = None; prefix = None; late = false; turns = 1000000 }
 
 unfoldable pub body : BodyOf
 body job given = run (end_of job.sheet) job.path most_asked [] (tops 0 job.sheet.statements begin) given

@@ -1,11 +1,12 @@
 -- Variables as the running code sees them.
-use Rattle.std.specs.Prelude.{ℕ, ◌==◌, Bool, if◌then◌else◌, List, Option}
+use Rattle.std.specs.Prelude.{ℕ, ◌==◌, Bool, true, false, if◌then◌else◌, List, [], ◌∷◌, Option}
 use Rattle.sw_values.specs.declared.plain.Plain.{Plain}
+use Rattle.sw_values.specs.declared.plain.Plain.TheVariants as N
 use Rattle.sw_scope.specs.declared.mark.FrameKind.{FrameKind}
 use Rattle.sw_scope.specs.declared.mark.Origin.{Origin}
 use Rattle.sw_scope.specs.declared.mark.Origin.TheVariants.{Own, Other}
 use Rattle.sw_scope.specs.Frames.{Variable}
-use Rattle.sw_scope.specs.Scopes.{look, set, set_top, top_alone, push, pop}
+use Rattle.sw_scope.specs.Scopes.{look, look_top, declare, set, set_top, top_alone, push, pop}
 use Rattle.sw_eval.specs.declared.state.State.{State}
 
 -- the code is the body's own, or that of another module
@@ -32,6 +33,20 @@ is_mine s global = top_alone (origin s) s.scopes global
 -- the module's own variable is given a value
 unfoldable pub set_own : State → Variable → State
 set_own s v = record s { scopes = set_top s.scopes v }
+
+-- a new variable of the innermost frame, which is null
+unfoldable pub null_declared : State → List ℕ → State
+null_declared s name = record s { scopes = declare s.scopes (name, N.Null) }
+
+abbrev pub nulls_declared : List (List ℕ) → State → State
+nulls_declared [] s = s
+nulls_declared (name ∷ names) s = nulls_declared names (null_declared s name)
+
+-- each of the names is given its value
+abbrev pub all_set : List (List ℕ) → List Plain → State → State
+all_set [] vs s = s
+all_set (name ∷ names) [] s = s
+all_set (name ∷ names) (v ∷ vs) s = all_set names vs (set_by s (name, v))
 
 -- in a frame of its own
 unfoldable pub entered : FrameKind → State → State

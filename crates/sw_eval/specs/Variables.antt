@@ -49,15 +49,11 @@ getting o at s = bind (asking (Gets o) at s) (λ b. got at b.0.1 b.1)
 unfoldable pub putting : ℕ → Plain → Span → Eval (Unit {0})
 putting o v at s = bind (asking (Puts o v) at s) (λ b. Gives (tt, b.1))
 
--- the owner of another module's variable
-unfoldable pub owner_of : FaultCode → Option (List ℕ) → List ℕ → Span → Span → Eval ℕ
-owner_of unknown space name at space_at s =
-    bind (finding space K.Variable name at s) (λ a. owner unknown at space_at a.0.0 a.0.1 a.1)
-
 -- what another module's variable holds: its owner is found, and then its value got
 unfoldable pub outside : FaultCode → Option (List ℕ) → List ℕ → Span → Span → Eval Plain
 outside unknown space name at space_at s =
-    bind (owner_of unknown space name at space_at s) (λ o. getting o.0 at o.1)
+    bind (finding space K.Variable name at s)
+    (λ a. bind (owner unknown at space_at a.0.0 a.0.1 a.1) (λ o. getting o.0 at o.1))
 
 abbrev pub or_outside : List ℕ → Span → Option Plain → Eval Plain
 or_outside name at (Some v) s = Gives (v, s)
@@ -99,21 +95,12 @@ abbrev pub is_absent : Answer → Bool
 is_absent NoMember = true
 is_absent _ = false
 
--- the owner that was answered, none where there is no such variable
-abbrev pub sought_owner : Span → ℕ → Answer → Eval (Option ℕ)
-sought_owner at n answer s =
-    if is_absent answer then Gives (None, s)
-    else bind (owner C.UnknownVariable at at n answer s) (λ o. Gives (Some o.0, o.1))
-
-abbrev pub got_or_null : Span → Option ℕ → Eval Plain
-got_or_null at (Some o) s = getting o at s
-got_or_null at None s = Gives (N.Null, s)
-
 -- what the variable has that a name means, which is asked: null where there is none
 unfoldable pub sought : List ℕ → Span → Eval Plain
 sought name at s =
     bind (finding None K.Variable name at s)
-    (λ a. bind (sought_owner at a.0.0 a.0.1 a.1) (λ o. got_or_null at o.0 o.1))
+    (λ a. if is_absent a.0.1 then Gives (N.Null, a.1)
+    else bind (owner C.UnknownVariable at at a.0.0 a.0.1 a.1) (λ o. getting o.0 at o.1))
 
 abbrev pub or_sought : List ℕ → Span → Option Plain → Eval Plain
 or_sought name at (Some v) s = Gives (v, s)
@@ -138,14 +125,12 @@ kept flags name at s = if flags.default then has_value flags.global name at s el
 
 -- ---- what is assigned
 
--- code of another module asks
-unfoldable pub put_global : List ℕ → Plain → Span → Eval (Unit {0})
-put_global name v at s = bind (owner_of C.UnknownVariable None name at at s) (λ o. putting o.0 v at o.1)
-
 -- a variable of the running code's module
 unfoldable pub set_global : List ℕ → Plain → Span → Eval (Unit {0})
 set_global name v at s =
-    if is_home s then Gives (tt, set_own s (name, v)) else put_global name v at s
+    if is_home s then Gives (tt, set_own s (name, v))
+    else bind (finding None K.Variable name at s)
+    (λ a. bind (owner C.UnknownVariable at at a.0.0 a.0.1 a.1) (λ o. putting o.0 v at o.1))
 
 unfoldable pub stored : Bool → List ℕ → Plain → Span → Eval (Unit {0})
 stored global name v at s = if global then set_global name v at s else Gives (tt, set_by s (name, v))

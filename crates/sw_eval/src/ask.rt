@@ -5,7 +5,7 @@ ghost use Rattle.sw_text.specs.declared.place.Span.{Span};
 ghost use Rattle.sw_world.specs.Questions.{IsLoad, Fits};
 ghost use Rattle.sw_world.specs.Body.{answers};
 ghost use Rattle.sw_world.specs.declared.op.Op.{Op};
-ghost use Rattle.sw_eval.specs.Talk.{Question, Gets, Puts, Gives, answered, site_of, owned, no_owner, Fails};
+ghost use Rattle.sw_eval.specs.Talk.{Question, Gets, Puts, Says, Gives, answered, site_of, owned, no_owner, Fails};
 ghost use Rattle.sw_eval.specs.Ran.{op_at};
 ghost use Rattle.sw_eval.specs.Did.{Did, IsReturn, stand, Goes_on};
 ghost use Rattle.sw_eval.specs.Asking.{asking, finding};
@@ -20,7 +20,7 @@ use std::alloc::Global;
 use sw_syntax_tree::Kind;
 use sw_text::{FaultCode, Memory, Name, Span};
 use sw_values::Value;
-use sw_world::{Answer, Op, World};
+use sw_world::{Answer, Op, SayKind, World};
 
 // The number of a question and its answer, where that is known or there are too many.
 pub(crate) fn known<W: World>(
@@ -239,5 +239,20 @@ impl Walk {
             }
             None => lost(&self.asked, at),
         }
+    }
+
+    // Says a message.
+    pub(crate) fn ask_say<W: World>(
+        &mut self,
+        kind: SayKind,
+        text: Name,
+        at: &Span,
+        world: &mut W,
+    ) -> Result<(usize, Answer), Stop>
+        ensures { Goes_on W.gives (asking (Says kind at.now text) at.now) self.old world.old result self.new world.new }
+    {
+        let span = at.share()?;
+        let op = Op::Say { kind, span, text };
+        ask(self.alloc, &mut self.asked, op, at, world)
     }
 }

@@ -34,13 +34,12 @@ impl Model for Evaluation {
     ghost use Rattle.std.specs.Prelude.{vec_len, vec_capacity};
     ghost use Rattle.std.specs.Coded.{codes};
     ghost use Rattle.sw_eval.specs.Resume.{Shown, Keeps};
-    ghost use Rattle.sw_syntax_tree.specs.contracts.expr.ExprKind as e;
     ghost use Rattle.sw_syntax_tree.specs.contracts.statement.Statement as s;
     ghost use Rattle.sw_values.specs.contracts.plain.Plain as p;
 
     ghost Value = { Shown };
 
-    ghost coded = { Prim.hlevel (codes, e.the_row.coded, s.the_row.coded, p.the_row.coded) };
+    ghost coded = { Prim.hlevel (codes, s.the_row.coded, p.the_row.coded) };
 
     ghost view = { λ b. record {
       job = record { sheet = b.sheet; config = b.config; path = b.walk.asked.path };

@@ -1,13 +1,13 @@
-// Blocks, branches and loops.
+// Blocks and branches.
 ghost use Rattle.sw_eval.specs.Did.{Goes_on};
-ghost use Rattle.sw_eval.specs.Flow.{block, framed, holds, branches, repeats, repeat_in};
+ghost use Rattle.sw_eval.specs.Flow.{block, framed, branches};
 ghost use Rattle.sw_eval.specs.Means.{value_to, does_to};
 
-use crate::stop::{Stop, fails};
+use crate::stop::Stop;
 use crate::walk::Walk;
 use sw_scope::FrameKind;
-use sw_syntax_tree::{Branch, Expr, Statement, While};
-use sw_text::{FaultCode, List};
+use sw_syntax_tree::{Branch, Statement};
+use sw_text::List;
 use sw_values::Value;
 use sw_world::World;
 
@@ -30,12 +30,7 @@ impl Walk {
     }
 
     #[cycle(walk)]
-    fn block<W: World>(
-        &mut self,
-        inner: u32,
-        all: &[Statement],
-        world: &mut W,
-    ) -> Result<Option<Value>, Stop>
+    pub(crate) fn block<W: World>(&mut self, inner: u32, all: &[Statement], world: &mut W) -> Result<Option<Value>, Stop>
         ensures { Goes_on W.gives (block (does_to inner) all.now) self.old world.old result self.new world.new }
     {
         for one in all {
@@ -44,14 +39,6 @@ impl Walk {
             }
         }
         Ok(None)
-    }
-
-    // Whether a condition holds: only false and null don't.
-    fn holds<W: World>(&mut self, inner: u32, e: &Expr, world: &mut W) -> Result<bool, Stop>
-        ensures { Goes_on W.gives (holds (value_to inner) e.now) self.old world.old result self.new world.new }
-    {
-        let test = self.statement_value(inner, e, world)?;
-        Ok(test.truth())
     }
 
     // The block of the first condition that holds, or else the last one.
@@ -67,8 +54,8 @@ impl Walk {
             world.old result self.new world.new }
     {
         for one in all {
-            let holds = self.holds(inner, &one.condition, world)?;
-            if holds {
+            let test = self.statement_value(inner, &one.condition, world)?;
+            if test.truth() {
                 return self.framed(inner, FrameKind::Flow, one.block.as_slice(), world);
             }
         }
@@ -76,48 +63,5 @@ impl Walk {
             Some(block) => self.framed(inner, FrameKind::Flow, block.as_slice(), world),
             None => Ok(None),
         }
-    }
-
-    // A turn as long as the condition holds. There is a test more than turns.
-    #[cycle(walk)]
-    fn repeats<W: World>(
-        &mut self,
-        inner: u32,
-        statement: &While,
-        world: &mut W,
-    ) -> Result<Option<Value>, Stop>
-        ensures { Goes_on W.gives (repeats (value_to inner) (does_to inner) statement.now) self.old world.old result
-            self.new world.new }
-    {
-        let mut left = u64::from(self.state.turns) + 1;
-        while left > 0 {
-            let goes_on = self.holds(inner, &statement.condition, world)?;
-            if !goes_on {
-                return Ok(None);
-            }
-            self.state.spend(&statement.span)?;
-            if let Some(value) = self.block(inner, statement.block.as_slice(), world)? {
-                return Ok(Some(value));
-            }
-            left -= 1;
-        }
-        fails(FaultCode::Turns, &statement.span)
-    }
-
-    // In one frame for all turns.
-    #[cycle(walk)]
-    pub(crate) fn repeat_in<W: World>(
-        &mut self,
-        inner: u32,
-        statement: &While,
-        world: &mut W,
-    ) -> Result<Option<Value>, Stop>
-        ensures { Goes_on W.gives (repeat_in (value_to inner) (does_to inner) statement.now) self.old world.old
-            result self.new world.new }
-    {
-        self.state.enter(FrameKind::Flow)?;
-        let value = self.repeats(inner, statement, world)?;
-        self.state.leave();
-        Ok(value)
     }
 }

@@ -1,9 +1,8 @@
 // Where an expression stands.
 ghost use Rattle.std.specs.Prelude.{◌≡◌};
-ghost use Rattle.sw_literals.specs.Quotients.{deeper, of_item};
+ghost use Rattle.sw_literals.specs.Quotients.{deeper};
 
-use sw_literals::{Parens, deeper, of_item};
-use sw_syntax_tree::{Around, Separator};
+use sw_literals::{Parens, deeper};
 
 /// Where an expression stands: how many levels may lie below it, and in which parentheses it is.
 #[derive(Clone, Copy)]
@@ -13,16 +12,6 @@ pub(crate) struct Level {
 }
 
 impl Level {
-    // For the items of a list.
-    pub(crate) fn item(self, separator: Separator, around: Around) -> Level
-        ensures { result ≡ record { depth = self.depth; parens = of_item self.parens separator around } }
-    {
-        Level {
-            depth: self.depth,
-            parens: of_item(self.parens, separator, around),
-        }
-    }
-
     // For what stands in an expression without parentheses of its own.
     pub(crate) fn deeper(self) -> Level
         ensures { result ≡ record { depth = self.depth; parens = deeper self.parens } }

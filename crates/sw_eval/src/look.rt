@@ -1,9 +1,9 @@
 // Variables, also those of other modules.
 ghost use Rattle.sw_eval.specs.Did.{Goes_on};
-ghost use Rattle.sw_eval.specs.Variables.{owner_of, outside, variable, qualified, targeted, getting, putting, got_or_null, sought, before_by, before_default, has_value, kept, put_global, set_global, stored};
+ghost use Rattle.sw_eval.specs.Variables.{outside, variable, qualified, targeted, getting, putting, sought, before_by, before_default, has_value, kept, set_global, stored};
 
 use crate::left::or_null;
-use crate::parts::{got, is_null, owner, sought_owner, target};
+use crate::parts::{got, is_absent, is_null, owner, target};
 use crate::stop::{Stop, fails};
 use crate::walk::Walk;
 use sw_syntax_tree::{Flags, Kind, Qualified};
@@ -39,23 +39,6 @@ impl Walk {
         Ok(())
     }
 
-    // The owner of another module's variable.
-    fn owner_of<W: World>(
-        &mut self,
-        unknown: FaultCode,
-        space: Option<Name>,
-        name: &Name,
-        at: &Span,
-        space_at: &Span,
-        world: &mut W,
-    ) -> Result<usize, Stop>
-        ensures { Goes_on W.gives (owner_of unknown space name.now at.now space_at.now) self.old world.old result
-            self.new world.new }
-    {
-        let a = self.find(space, Kind::Variable, name, at, world)?;
-        owner(unknown, at, space_at, a.0, &a.1)
-    }
-
     // What another module's variable holds.
     fn outside<W: World>(
         &mut self,
@@ -69,7 +52,8 @@ impl Walk {
         ensures { Goes_on W.gives (outside unknown space name.now at.now space_at.now) self.old world.old result
             self.new world.new }
     {
-        let number = self.owner_of(unknown, space, name, at, space_at, world)?;
+        let a = self.find(space, Kind::Variable, name, at, world)?;
+        let number = owner(unknown, at, space_at, a.0, &a.1)?;
         self.getting(number, at, world)
     }
 
@@ -129,28 +113,16 @@ impl Walk {
         target(at, name_at, &q.namespace.span, a.0, &a.1)
     }
 
-    // What the variable of an owner holds; null where there is none.
-    fn got_or_null<W: World>(
-        &mut self,
-        number: Option<usize>,
-        at: &Span,
-        world: &mut W,
-    ) -> Result<Value, Stop>
-        ensures { Goes_on W.gives (got_or_null at.now number) self.old world.old result self.new world.new }
-    {
-        match number {
-            Some(number) => self.getting(number, at, world),
-            None => Ok(Value::null()),
-        }
-    }
-
     // What the variable has that a name means, which is asked.
     fn sought<W: World>(&mut self, name: &Name, at: &Span, world: &mut W) -> Result<Value, Stop>
         ensures { Goes_on W.gives (sought name.now at.now) self.old world.old result self.new world.new }
     {
         let a = self.find(None, Kind::Variable, name, at, world)?;
-        let number = sought_owner(at, a.0, &a.1)?;
-        self.got_or_null(number, at, world)
+        if is_absent(&a.1) {
+            return Ok(Value::null());
+        }
+        let number = owner(FaultCode::UnknownVariable, at, at, a.0, &a.1)?;
+        self.getting(number, at, world)
     }
 
     // What a name has before its default, where not the module's own variables alone count.
@@ -221,20 +193,6 @@ impl Walk {
         }
     }
 
-    // Gives the running code's module's variable a value, where that is another module.
-    fn put_global<W: World>(
-        &mut self,
-        name: &Name,
-        value: Value,
-        at: &Span,
-        world: &mut W,
-    ) -> Result<(), Stop>
-        ensures { Goes_on W.gives (put_global name.now value at.now) self.old world.old result self.new world.new }
-    {
-        let number = self.owner_of(FaultCode::UnknownVariable, None, name, at, at, world)?;
-        self.putting(number, value, at, world)
-    }
-
     // Gives a variable of the running code's module a value.
     fn set_global<W: World>(
         &mut self,
@@ -246,10 +204,12 @@ impl Walk {
         ensures { Goes_on W.gives (set_global name.now value at.now) self.old world.old result self.new world.new }
     {
         if self.state.is_home() {
-            self.state.set_own(name, value)
-        } else {
-            self.put_global(name, value, at, world)
+            let name = name.share()?;
+            return self.state.set_own(name, value);
         }
+        let a = self.find(None, Kind::Variable, name, at, world)?;
+        let number = owner(FaultCode::UnknownVariable, at, at, a.0, &a.1)?;
+        self.putting(number, value, at, world)
     }
 
     // An assignment to a variable without a namespace.

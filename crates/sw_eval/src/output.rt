@@ -2,9 +2,9 @@
 ghost use Rattle.std.specs.Prelude.{◌≡◌, true};
 ghost use Rattle.sw_css_tree.specs.Output.{is_open, closed};
 ghost use Rattle.sw_eval.specs.Did.{IsReturn};
-ghost use Rattle.sw_eval.specs.Output.{numbered, opened, opening, lining, declaring, declaring_by, written};
+ghost use Rattle.sw_eval.specs.Messages.{noted};
+ghost use Rattle.sw_eval.specs.Output.{numbered, opening, lining, declaring, declaring_by, written, commented};
 
-use crate::selecting::selected;
 use crate::state::State;
 use crate::stop::{Stop, fails};
 use std::alloc::Global;
@@ -12,6 +12,9 @@ use sw_css_tree::{CssTree, TreeFault};
 use sw_literals::declaration_text;
 use sw_text::{FaultCode, Name, Span};
 use sw_values::Value;
+
+// The bytes that no output passes.
+const MOST_BYTES: usize = 16_777_216;
 
 // What follows belongs to this statement; in an open rule it belongs to the rule's.
 #[tactic(auto, unfolding(crate::specs::Output::numbered))]
@@ -33,30 +36,16 @@ pub(crate) fn close(css: &mut CssTree)
 }
 
 impl State {
-    // Opens a rule with these selectors.
-    #[tactic(auto, unfolding(crate::specs::Output::opened))]
-    fn opened(&mut self, selectors: Name, at: &Span) -> Result<(), Stop>
-        ensures { IsReturn result self.new (opened selectors at.now self.old) }
+    // Opens a rule.
+    #[tactic(auto, unfolding(crate::specs::Output::opening))]
+    pub(crate) fn opening(&mut self, selectors: Name, at: &Span) -> Result<(), Stop>
+        ensures { IsReturn result self.new (opening selectors at.now self.old) }
     {
         match self.css.open_rule(selectors) {
             Ok(()) => Ok(()),
             Err(TreeFault::TooLarge) => fails(FaultCode::TooLarge, at),
             Err(TreeFault::Memory) => Err(Stop::Memory),
         }
-    }
-
-    // Opens a rule, whose selectors have this text, which stands at the first place; the rule stands at the second.
-    pub(crate) fn opening(
-        &mut self,
-        alloc: Global,
-        text: &Name,
-        text_at: &Span,
-        at: &Span,
-    ) -> Result<(), Stop>
-        ensures { IsReturn result self.new (opening text.now text_at.now at.now self.old) }
-    {
-        let selectors = selected(alloc, text, text_at)?;
-        self.opened(selectors, at)
     }
 
     // A line of the open rule.
@@ -82,7 +71,12 @@ impl State {
     }
 
     // A declaration of this text, if there is one.
-    fn declaring_by(&mut self, property: Name, text: Option<Name>, at: &Span) -> Result<(), Stop>
+    fn declaring_by(
+        &mut self,
+        property: Name,
+        text: Option<Name>,
+        at: &Span,
+    ) -> Result<(), Stop>
         ensures { IsReturn result self.new (declaring_by property text at.now self.old) }
     {
         match text {
@@ -104,5 +98,33 @@ impl State {
     {
         let text = declaration_text(alloc, value, value_at)?;
         self.declaring_by(property, text, at)
+    }
+
+    // A comment.
+    #[tactic(auto, unfolding(crate::specs::Output::commented))]
+    pub(crate) fn commented(&mut self, text: Name, at: &Span) -> Result<(), Stop>
+        ensures { IsReturn result self.new (commented text at.now self.old) }
+    {
+        match self.css.comment(text) {
+            Ok(()) => Ok(()),
+            Err(TreeFault::TooLarge) => fails(FaultCode::TooLarge, at),
+            Err(TreeFault::Memory) => Err(Stop::Memory),
+        }
+    }
+
+    // The bytes of a message.
+    #[tactic(auto, unfolding(crate::specs::Messages::noted))]
+    pub(crate) fn noted(&mut self, text: &Name, at: &Span) -> Result<(), Stop>
+        ensures { IsReturn result self.new (noted text.now at.now self.old) }
+    {
+        let len = text.as_str().len();
+        if len > MOST_BYTES {
+            return fails(FaultCode::TooLarge, at);
+        }
+        match self.css.message(len as u32) {
+            Ok(()) => Ok(()),
+            Err(TreeFault::TooLarge) => fails(FaultCode::TooLarge, at),
+            Err(TreeFault::Memory) => Err(Stop::Memory),
+        }
     }
 }

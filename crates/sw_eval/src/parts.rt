@@ -2,7 +2,7 @@
 ghost use Rattle.std.specs.Prelude.{◌≡◌};
 ghost use Rattle.sw_eval.specs.Did.{IsReturn};
 ghost use Rattle.sw_eval.specs.Layers.{place_of};
-ghost use Rattle.sw_eval.specs.Variables.{owner, target, got, null_by, is_null, is_absent, sought_owner};
+ghost use Rattle.sw_eval.specs.Variables.{owner, target, got, null_by, is_null, is_absent};
 ghost use Rattle.sw_eval.specs.declared.state.State.{State};
 
 use crate::stop::{Stop, fails};
@@ -79,21 +79,10 @@ fn null_by(node: &Node) -> bool
 }
 
 // Whether an answer tells that there is no such member.
-fn is_absent(answer: &Answer) -> bool
+pub(crate) fn is_absent(answer: &Answer) -> bool
     ensures { result ≡ is_absent answer.now }
 {
     matches!(answer, Answer::NoMember)
-}
-
-// The owner that an answer names; none where there is no such variable.
-pub(crate) fn sought_owner(at: &Span, number: usize, answer: &Answer) -> Result<Option<usize>, Stop>
-    ensures { (s : State) → IsReturn result s (sought_owner at.now number answer.now s) }
-{
-    if is_absent(answer) {
-        return Ok(None);
-    }
-    let number = owner(FaultCode::UnknownVariable, at, at, number, answer)?;
-    Ok(Some(number))
 }
 
 // Where a statement stands.

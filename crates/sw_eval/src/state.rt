@@ -1,9 +1,9 @@
 // What an evaluation has made so far.
 ghost use Rattle.std.specs.Prelude.{◌≡◌, option_copied};
+ghost use Rattle.sw_literals.specs.Counting.{counted};
 ghost use Rattle.sw_eval.specs.Did.{IsReturn};
 ghost use Rattle.sw_eval.specs.Means.{begin};
-ghost use Rattle.sw_eval.specs.Scope.{origin, is_home, own, is_mine, set_by, set_own, entered, left};
-ghost use Rattle.sw_eval.specs.Expressions.{parent};
+ghost use Rattle.sw_eval.specs.Scope.{origin, is_home, own, is_mine, set_by, set_own, null_declared, nulls_declared, all_set, entered, left};
 ghost use Rattle.sw_eval.specs.Flow.{spent};
 ghost use Rattle.sw_eval.specs.Talk.{Gives};
 
@@ -11,8 +11,10 @@ use crate::here::Here;
 use crate::stop::{Stop, fails};
 use std::alloc::Global;
 use sw_css_tree::CssTree;
+use sw_literals::Counting;
 use sw_scope::{FrameKind, Origin, Scopes};
-use sw_text::{FaultCode, Name, Span};
+use sw_selector::Selectors;
+use sw_text::{FaultCode, Name, Shared, Span};
 use sw_values::Value;
 
 /// What an evaluation has made so far.
@@ -22,6 +24,10 @@ pub(crate) struct State {
     pub scopes: Scopes,
     pub here: Here,
     pub css: CssTree,
+    /// What `&` is.
+    pub parents: Option<Shared<Selectors>>,
+    /// The name of the properties that are nested here.
+    pub prefix: Option<Name>,
     /// No load may follow.
     pub late: bool,
     /// How many turns of loops and calls are left.
@@ -37,6 +43,8 @@ impl State {
             scopes: Scopes::new(alloc),
             here: Here { site: 0 },
             css: CssTree::new(alloc),
+            parents: None,
+            prefix: None,
             late: false,
             turns: 1_000_000,
         }
@@ -88,23 +96,66 @@ impl State {
 
     // Gives the module's own variable a value.
     #[tactic(auto, unfolding(crate::specs::Scope::set_own))]
-    pub(crate) fn set_own(&mut self, name: &Name, value: Value) -> Result<(), Stop>
-        ensures { IsReturn result self.new (Gives (tt, set_own self.old (name.now, value))) }
+    pub(crate) fn set_own(&mut self, name: Name, value: Value) -> Result<(), Stop>
+        ensures { IsReturn result self.new (Gives (tt, set_own self.old (name, value))) }
     {
-        let name = name.share()?;
         self.scopes.set_top(name, value)?;
         Ok(())
     }
 
-    // What `&` is.
-    #[tactic(auto, unfolding(crate::specs::Expressions::parent))]
-    pub(crate) fn parent(&self, at: &Span) -> Result<Value, Stop>
-        ensures { IsReturn result self.now (parent at.now self.now) }
+    // A new variable of the innermost frame, which is null.
+    #[tactic(auto, unfolding(crate::specs::Scope::null_declared))]
+    pub(crate) fn declare_null(&mut self, name: &Name) -> Result<(), Stop>
+        ensures { IsReturn result self.new (Gives (tt, null_declared self.old name.now)) }
     {
-        if self.css.is_open() {
-            return fails(FaultCode::BadPlace, at);
+        let name = name.share()?;
+        self.scopes.declare(name, Value::null())?;
+        Ok(())
+    }
+
+    pub(crate) fn declare_nulls(&mut self, names: &[Name]) -> Result<(), Stop>
+        ensures { IsReturn result self.new (Gives (tt, nulls_declared names.now self.old)) }
+    {
+        for name in names {
+            self.declare_null(name)?;
         }
-        Ok(Value::null())
+        Ok(())
+    }
+
+    // Gives each of the names its value.
+    pub(crate) fn set_all(&mut self, names: &[Name], values: &[Value]) -> Result<(), Stop>
+        ensures { IsReturn result self.new (Gives (tt, all_set names.now values.now self.old)) }
+    {
+        'names: for at in 0..names.len() {
+            if at >= values.len() {
+                return Ok(());
+            }
+            self.set_shared(&names[at], &values[at])?;
+        }
+        Ok(())
+    }
+
+    // Gives a variable the number of a turn.
+    pub(crate) fn count_to(
+        &mut self,
+        name: &Name,
+        numbers: &Counting,
+        turn: u32,
+    ) -> Result<(), Stop>
+        requires { turn < numbers.now.turns }
+        ensures { IsReturn result self.new (Gives (tt, set_by self.old (name.now, counted numbers.now turn))) }
+    {
+        let number = numbers.number(turn)?;
+        let name = name.share()?;
+        self.set_by(name, number)
+    }
+
+    fn set_shared(&mut self, name: &Name, value: &Value) -> Result<(), Stop>
+        ensures { IsReturn result self.new (Gives (tt, set_by self.old (name.now, value.now))) }
+    {
+        let name = name.share()?;
+        let value = value.share()?;
+        self.set_by(name, value)
     }
 
     // Opens a frame.

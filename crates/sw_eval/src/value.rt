@@ -10,7 +10,7 @@ use crate::texts::TextKind;
 use crate::walk::Walk;
 use sw_literals::{
     Left, Parens, constant_value, hash_value, important_value, list_value, map_value, needs_right,
-    number_value, plain_at, prefixed, string_value, word_value,
+    number_value, of_item, plain_at, prefixed, string_value, word_value,
 };
 use sw_syntax_tree::{Expr, ExprKind, Link, Pair, Parts, Sign};
 use sw_text::{FaultCode, List, Span};
@@ -40,7 +40,12 @@ impl Walk {
     }
 
     #[cycle(value)]
-    fn value_one<W: World>(&mut self, level: Level, e: &Expr, world: &mut W) -> Result<Value, Stop>
+    fn value_one<W: World>(
+        &mut self,
+        level: Level,
+        e: &Expr,
+        world: &mut W,
+    ) -> Result<Value, Stop>
         ensures { Goes_on W.gives (value_one (value_to level.depth) level.parens e.now) self.old world.old result
             self.new world.new }
     {
@@ -66,7 +71,10 @@ impl Walk {
                 separator,
                 around,
             } => {
-                let place = level.item(*separator, *around);
+                let place = Level {
+                    depth: level.depth,
+                    parens: of_item(level.parens, *separator, *around),
+                };
                 let values = self.items(place, items.as_slice(), world)?;
                 stopped(list_value(self.alloc, values, *separator, *around, &e.span))
             }
@@ -193,8 +201,7 @@ impl Walk {
         let value = self.value(level.deeper(), first, world)?;
         let left = Left::first(value, first, level.parens)?;
         let last = self.links(level, rest, left, at, world)?;
-        let Left { value, .. } = last;
-        Ok(value)
+        Ok(last.value)
     }
 
     // The values of the items of a list.

@@ -1,6 +1,5 @@
 use Rattle.sw_eval.specs.Output.{written}
-use Rattle.sw_eval.proofs.Steps.{plain_then}
-use Rattle.sw_eval.proofs.Refusals.{plain_refused, plain_answer}
+use Rattle.sw_eval.proofs.Steps.{plain_refused, plain_then, plain_answer}
 use Rattle.sw_eval.proofs.state.State.written.Goals as goal
 
 pub returns-in_err-text : goal.returns-in_err-text

@@ -1,4 +1,4 @@
-use Rattle.std.proofs.Common.{◌≡◌, ◌++◌, ◌∷◌, [], ⊎_elim, sym, ◌∙◌, arith}
+use Rattle.std.proofs.Common.{◌≡◌, ◌++◌, ◌∷◌, [], arith}
 use Rattle.sw_syntax_tree.specs.declared.expr.ExprKind as E
 use Rattle.sw_syntax_tree.specs.declared.text.Parts as T
 use Rattle.sw_syntax_tree.specs.declared.text.Piece as C
@@ -6,11 +6,9 @@ use Rattle.sw_eval.specs.Ran.{still}
 use Rattle.sw_eval.specs.Texts.{spelled_value, piece, pieces, mixed, text}
 use Rattle.sw_eval.specs.Expressions.{string, word, signed, linked, links, chain, items, plain_value, pairs, map, value_one}
 use Rattle.sw_eval.specs.Means.{value_to}
-use Rattle.sw_eval.proofs.Steps.{no_memory, did_value, did_err, did_then, did_plain, ran_then, ran_did}
-use Rattle.sw_eval.proofs.Refusals.{did_answer, did_refused, did_stopped}
-use Rattle.sw_eval.proofs.Choices.{did_yes, did_no}
+use Rattle.sw_eval.proofs.Steps.{no_memory, did_value, did_err, did_then, did_plain, did_answer, did_refused, did_stopped, ran_then, ran_did}
 use Rattle.sw_eval.proofs.Depth.{one_level}
-use Rattle.sw_eval.proofs.ExprOpens.{out_Prefixed, out_Chain, out_List, out_Paren, out_Map, out_Mixed}
+use Rattle.sw_eval.proofs.Opens.{out_Prefixed, out_Chain, out_List, out_Paren, out_Map, out_Mixed, out_Inserted, out_Value, out_Quoted, out_Word, out_Url, out_Special, out_Call}
 use Rattle.sw_eval.proofs.Loops.{loop_at, loop_end}
 use Rattle.sw_eval.proofs.walk.Walk.+value.Goals as goal
 
@@ -29,14 +27,14 @@ value_one-returns-in-Number g t c =
     rw c.in-Number.is (did_stopped _ _ _ c.args.self.now.state _ _ c.number_value.ensures c.stopped.ensures)
 
 pub value_one-returns-in-Quoted : goal.value_one-returns-in-Quoted
-unfolding value_one E.out-ExprKind denote.Hole.Carrier.out
+unfolding value_one
 value_one-returns-in-Quoted g t c =
-    rw (c.in-Quoted.is) c.string.ensures
+    rw (c.in-Quoted.is, out_Quoted) c.string.ensures
 
 pub value_one-returns-in-Word : goal.value_one-returns-in-Word
-unfolding value_one E.out-ExprKind denote.Hole.Carrier.out
+unfolding value_one
 value_one-returns-in-Word g t c =
-    rw (c.in-Word.is) c.word.ensures
+    rw (c.in-Word.is, out_Word) c.word.ensures
 
 pub value_one-returns-in-Hash : goal.value_one-returns-in-Hash
 unfolding value_one E.out-ExprKind denote.Hole.Carrier.out
@@ -49,9 +47,9 @@ value_one-returns-in-Constant g t c =
     rw (c.in-Constant.is, c.constant_value.ensures) (did_value _ c.args.self.now.state _ _)
 
 pub value_one-returns-in-Url : goal.value_one-returns-in-Url
-unfolding value_one E.out-ExprKind denote.Hole.Carrier.out
+unfolding value_one
 value_one-returns-in-Url g t c =
-    rw (c.in-Url.is) c.string-in-Url.ensures
+    rw (c.in-Url.is, out_Url) c.string-in-Url.ensures
 
 pub value_one-returns-in-Variable : goal.value_one-returns-in-Variable
 unfolding value_one E.out-ExprKind denote.Hole.Carrier.out
@@ -90,12 +88,12 @@ value_one-returns-in-Chain g t c =
 pub value_one-returns-in_err-values-in-List : goal.value_one-returns-in_err-values-in-List
 unfolding value_one
 value_one-returns-in_err-values-in-List g t c =
-    rw (c.in-List.is, out_List) (did_err _ (rw (c.as_slice-in-List.ensures, c.item-place.ensures) at c.in_err-values-in-List.ensures) c.from_residual-in_err-values-in-List.ensures)
+    rw (c.in-List.is, out_List) (did_err _ (rw (c.as_slice-in-List.ensures, c.of_item.ensures) at c.in_err-values-in-List.ensures) c.from_residual-in_err-values-in-List.ensures)
 
 pub value_one-returns-in_ok-values-in-List : goal.value_one-returns-in_ok-values-in-List
 unfolding value_one
 value_one-returns-in_ok-values-in-List g t c =
-    rw (c.in-List.is, out_List) (did_then _ (rw (c.as_slice-in-List.ensures, c.item-place.ensures) at c.in_ok-values-in-List.ensures) (did_stopped _ _ _ c.items.new.self.state _ _ c.list_value.ensures c.stopped-in-List.ensures))
+    rw (c.in-List.is, out_List) (did_then _ (rw (c.as_slice-in-List.ensures, c.of_item.ensures) at c.in_ok-values-in-List.ensures) (did_stopped _ _ _ c.items.new.self.state _ _ c.list_value.ensures c.stopped-in-List.ensures))
 
 pub value_one-returns-in-Paren : goal.value_one-returns-in-Paren
 unfolding value_one
@@ -108,9 +106,14 @@ value_one-returns-in-Map g t c =
     rw (c.in-Map.is, out_Map) (rw c.as_slice-in-Map.ensures at c.map.ensures)
 
 pub value_one-returns-in-Special : goal.value_one-returns-in-Special
-unfolding value_one E.out-ExprKind denote.Hole.Carrier.out
+unfolding value_one
 value_one-returns-in-Special g t c =
-    ⊎_elim (λ p. rw p.1 (did_plain _ c.args.self.now.state _ _ _ (c.fails.ensures c.args.self.now.state))) (λ p. rw p.2 (did_plain _ c.args.self.now.state _ _ _ (c.fails.ensures c.args.self.now.state))) c.in-Special.is
+    rw (c.in-Special.is, out_Special) (did_plain _ c.args.self.now.state _ _ _ (c.fails.ensures c.args.self.now.state))
+
+pub value_one-returns-in-Call : goal.value_one-returns-in-Call
+unfolding value_one
+value_one-returns-in-Call g t c =
+    rw (c.in-Call.is, out_Call) (did_plain _ c.args.self.now.state _ _ _ (c.fails-in-Call.ensures c.args.self.now.state))
 
 pub spelled_value-returns-in_err-value : goal.spelled_value-returns-in_err-value
 unfolding spelled_value
@@ -132,18 +135,18 @@ piece-returns-in_ok-share-in-Text g t c =
     rw (c.in-Text.is, c.in_ok-share-in-Text.ensures) (did_value _ c.args.self.now.state _ _)
 
 pub piece-returns-in-Inserted : goal.piece-returns-in-Inserted
-unfolding piece C.out-Piece denote.Hole.Carrier.out
+unfolding piece
 piece-returns-in-Inserted g t c =
-    rw (c.in-Inserted.is) c.spelled_value.ensures
+    rw (c.in-Inserted.is, out_Inserted) c.spelled_value.ensures
 
 pub piece-returns-in-Value : goal.piece-returns-in-Value
-unfolding piece C.out-Piece denote.Hole.Carrier.out
+unfolding piece
 piece-returns-in-Value g t c =
-    rw (c.in-Value.is) c.spelled_value-in-Value.ensures
+    rw (c.in-Value.is, out_Value) c.spelled_value-in-Value.ensures
 
 pub pieces-loop-one-init : goal.pieces-loop-one-init
 pieces-loop-one-init g t c =
-    rw c.new-done.ensures (still _ _ _)
+    rw c.new.ensures (still _ _ _)
 
 pub pieces-returns-in_err-text : goal.pieces-returns-in_err-text
 pieces-returns-in_err-text g t c =
@@ -155,7 +158,7 @@ pieces-returns-in_err-push g t c =
 
 pub pieces-loop-one-preserved : goal.pieces-loop-one-preserved
 pieces-loop-one-preserved g t c =
-    rw c.in_ok-push.ensures.ok (ran_then _ (loop_at (λ l s. pieces (value_to c.args.level.depth) c.args.kind c.args.level.parens l c.loop-one.done s) c.args.all.now c.loop-one.one-index c.one-item.result c.loop-one.self.state c.loop-one-test.true c.one-item.is c.loop-one.invariant) c.in_ok-text.ensures)
+    rw c.in_ok-push.ensures (ran_then _ (loop_at (λ l s. pieces (value_to c.args.level.depth) c.args.kind c.args.level.parens l c.loop-one.done s) c.args.all.now c.loop-one.one-index c.one-item.result c.loop-one.self.state c.loop-one-test.true c.one-item.is c.loop-one.invariant) c.in_ok-text.ensures)
 
 pub pieces-returns : goal.pieces-returns
 pieces-returns g t c =
@@ -228,29 +231,29 @@ linked-returns-in_err-left g t c =
 pub linked-returns-then-not-needs_right : goal.linked-returns-then-not-needs_right
 unfolding linked
 linked-returns-then-not-needs_right g t c =
-    did_then _ (did_answer _ _ c.args.self.now.state _ _ c.in_ok-left.ensures) (did_no _ _ _ (sym c.needs_right.ensures ∙ c.if-not-needs_right.true) (did_value _ c.args.self.now.state _ _))
+    did_then _ (did_answer _ _ c.args.self.now.state _ _ c.in_ok-left.ensures) (rw (← c.needs_right.ensures, c.if-not-needs_right.true) (did_value _ c.args.self.now.state _ _))
 
 pub linked-returns-in_err-right : goal.linked-returns-in_err-right
 unfolding linked
 linked-returns-in_err-right g t c =
-    did_then _ (did_answer _ _ c.args.self.now.state _ _ c.in_ok-left.ensures) (did_yes _ _ _ (sym c.needs_right.ensures ∙ c.if-not-needs_right.false) (did_err _ (rw c.deeper.ensures at c.in_err-right.ensures) c.from_residual-in_err-right.ensures))
+    did_then _ (did_answer _ _ c.args.self.now.state _ _ c.in_ok-left.ensures) (rw (← c.needs_right.ensures, c.if-not-needs_right.false) (did_err _ (rw c.deeper.ensures at c.in_err-right.ensures) c.from_residual-in_err-right.ensures))
 
 pub linked-returns : goal.linked-returns
 unfolding linked
 linked-returns g t c =
-    did_then _ (did_answer _ _ c.args.self.now.state _ _ c.in_ok-left.ensures) (did_yes _ _ _ (sym c.needs_right.ensures ∙ c.if-not-needs_right.false) (did_then _ (rw c.deeper.ensures at c.in_ok-right.ensures) (did_stopped _ _ _ c.value.new.self.state _ _ c.joined.ensures c.stopped.ensures)))
+    did_then _ (did_answer _ _ c.args.self.now.state _ _ c.in_ok-left.ensures) (rw (← c.needs_right.ensures, c.if-not-needs_right.false) (did_then _ (rw c.deeper.ensures at c.in_ok-right.ensures) (did_stopped _ _ _ c.value.new.self.state _ _ c.joined.ensures c.stopped.ensures)))
 
 pub links-loop-one-init : goal.links-loop-one-init
 links-loop-one-init g t c =
     still _ _ _
 
-pub links-returns-in_err-left : goal.links-returns-in_err-left
-links-returns-in_err-left g t c =
-    ran_did (loop_at (λ l s. links (value_to c.args.level.depth) c.args.level.parens l c.loop-one.left c.args.at.now s) c.args.all.now c.loop-one.one-index c.one-item.result c.loop-one.self.state c.loop-one-test.true c.one-item.is c.loop-one.invariant) (did_err _ c.in_err-left.ensures c.from_residual.ensures)
+pub links-returns-in_err-linked : goal.links-returns-in_err-linked
+links-returns-in_err-linked g t c =
+    ran_did (loop_at (λ l s. links (value_to c.args.level.depth) c.args.level.parens l c.loop-one.left c.args.at.now s) c.args.all.now c.loop-one.one-index c.one-item.result c.loop-one.self.state c.loop-one-test.true c.one-item.is c.loop-one.invariant) (did_err _ c.in_err-linked.ensures c.from_residual.ensures)
 
 pub links-loop-one-preserved : goal.links-loop-one-preserved
 links-loop-one-preserved g t c =
-    ran_then _ (loop_at (λ l s. links (value_to c.args.level.depth) c.args.level.parens l c.loop-one.left c.args.at.now s) c.args.all.now c.loop-one.one-index c.one-item.result c.loop-one.self.state c.loop-one-test.true c.one-item.is c.loop-one.invariant) c.in_ok-left.ensures
+    ran_then _ (loop_at (λ l s. links (value_to c.args.level.depth) c.args.level.parens l c.loop-one.left c.args.at.now s) c.args.all.now c.loop-one.one-index c.one-item.result c.loop-one.self.state c.loop-one-test.true c.one-item.is c.loop-one.invariant) c.in_ok-linked.ensures
 
 pub links-returns : goal.links-returns
 links-returns g t c =
@@ -278,7 +281,7 @@ chain-returns g t c =
 
 pub items-loop-one-init : goal.items-loop-one-init
 items-loop-one-init g t c =
-    rw c.new-done.ensures (still _ _ _)
+    rw c.new.ensures (still _ _ _)
 
 pub items-returns-in_err-value : goal.items-returns-in_err-value
 items-returns-in_err-value g t c =
@@ -290,7 +293,7 @@ items-returns-in_err-push g t c =
 
 pub items-loop-one-preserved : goal.items-loop-one-preserved
 items-loop-one-preserved g t c =
-    rw c.in_ok-push.ensures.ok (ran_then _ (loop_at (λ l s. items (value_to c.args.level.depth) c.args.level.parens l c.loop-one.done s) c.args.all.now c.loop-one.one-index c.one-item.result c.loop-one.self.state c.loop-one-test.true c.one-item.is c.loop-one.invariant) c.in_ok-value.ensures)
+    rw c.in_ok-push.ensures (ran_then _ (loop_at (λ l s. items (value_to c.args.level.depth) c.args.level.parens l c.loop-one.done s) c.args.all.now c.loop-one.one-index c.one-item.result c.loop-one.self.state c.loop-one-test.true c.one-item.is c.loop-one.invariant) c.in_ok-value.ensures)
 
 pub items-returns : goal.items-returns
 items-returns g t c =
@@ -308,7 +311,7 @@ plain_value-returns g t c =
 
 pub pairs-loop-one-init : goal.pairs-loop-one-init
 pairs-loop-one-init g t c =
-    rw c.new-done.ensures (still _ _ _)
+    rw c.new.ensures (still _ _ _)
 
 pub pairs-returns-in_err-key : goal.pairs-returns-in_err-key
 pairs-returns-in_err-key g t c =
@@ -320,11 +323,11 @@ pairs-returns-in_err-value g t c =
 
 pub pairs-returns-in_err-push : goal.pairs-returns-in_err-push
 pairs-returns-in_err-push g t c =
-    ran_did (loop_at (λ l s. pairs (value_to c.args.depth) l c.loop-one.done s) c.args.all.now c.loop-one.one-index c.one-item.result c.loop-one.self.state c.loop-one-test.true c.one-item.is c.loop-one.invariant) (did_then _ c.in_ok-key.ensures (did_then _ c.in_ok-value.ensures (no_memory _ _ _ _ _ c.from_residual-in_err-push.ensures)))
+    ran_did (loop_at (λ l s. pairs (value_to c.args.depth) l c.loop-one.done s) c.args.all.now c.loop-one.one-index c.one-item.result c.loop-one.self.state c.loop-one-test.true c.one-item.is c.loop-one.invariant) (did_then _ c.in_ok-key.ensures (did_then _ c.in_ok-value.ensures (no_memory _ c.value-2.new.self.state _ _ _ c.from_residual-in_err-push.ensures)))
 
 pub pairs-loop-one-preserved : goal.pairs-loop-one-preserved
 pairs-loop-one-preserved g t c =
-    rw c.in_ok-push.ensures.ok (ran_then _ (ran_then _ (loop_at (λ l s. pairs (value_to c.args.depth) l c.loop-one.done s) c.args.all.now c.loop-one.one-index c.one-item.result c.loop-one.self.state c.loop-one-test.true c.one-item.is c.loop-one.invariant) c.in_ok-key.ensures) c.in_ok-value.ensures)
+    rw c.in_ok-push.ensures (ran_then _ (ran_then _ (loop_at (λ l s. pairs (value_to c.args.depth) l c.loop-one.done s) c.args.all.now c.loop-one.one-index c.one-item.result c.loop-one.self.state c.loop-one-test.true c.one-item.is c.loop-one.invariant) c.in_ok-key.ensures) c.in_ok-value.ensures)
 
 pub pairs-returns : goal.pairs-returns
 pairs-returns g t c =

@@ -63,7 +63,7 @@ invariant-pieces-loop-one g l =
 
 abbrev pub invariant-links-loop-one : goal.invariant-links-loop-one
 invariant-links-loop-one g l =
-    Ran g.W.World.gives (links (value_to l.level.depth) l.level.parens l.all l.fn.first l.at l.fn.self.state) (stand l.fn.self.asked) l.fn.world (links (value_to l.level.depth) l.level.parens (drop l.one-index l.all) l.left l.at l.self.state) (stand l.self.asked) l.world
+    Ran g.W.World.gives (links (value_to l.level.depth) l.level.parens l.all l.first l.at l.fn.self.state) (stand l.fn.self.asked) l.fn.world (links (value_to l.level.depth) l.level.parens (drop l.one-index l.all) l.left l.at l.self.state) (stand l.self.asked) l.world
 
 abbrev pub invariant-items-loop-one : goal.invariant-items-loop-one
 invariant-items-loop-one g l =

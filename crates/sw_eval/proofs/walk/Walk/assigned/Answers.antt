@@ -1,11 +1,13 @@
 use Rattle.sw_eval.specs.Statements.{assigned}
-use Rattle.sw_eval.proofs.Choices.{did_yes, did_no}
+use Rattle.sw_eval.proofs.Steps.{did_value}
 use Rattle.sw_eval.proofs.walk.Walk.assigned.Goals as goal
 
 pub returns-then-statement : goal.returns-then-statement
 unfolding assigned
-returns-then-statement g c = did_yes _ _ _ c.if-statement.true c.assigned_default.ensures
+returns-then-statement g c =
+    rw c.if-statement.true c.assigned_default.ensures
 
 pub returns-else-statement : goal.returns-else-statement
 unfolding assigned
-returns-else-statement g c = did_no _ _ _ c.if-statement.false c.assigned_always.ensures
+returns-else-statement g c =
+    rw c.if-statement.false c.assigned_always.ensures
