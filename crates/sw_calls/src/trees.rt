@@ -2,11 +2,10 @@
 // whether the sheets of two texts are the same, spans and all.
 use crate::places::sheet;
 use std::alloc::Global;
-use sw_expr_parse::ReadEnd;
 use sw_row_files::{Refusal, yes_or_no};
-use sw_sheet_parse::read;
-use sw_syntax_tree::{Sheet, globals_of};
+use sw_scss_parse::{ReadEnd, read_sheet};
 use sw_text::Shared;
+use sw_tree::{Sheet, globals_of};
 
 pub fn answer(alloc: Global, name: &str, text: &str) -> Result<String, Refusal> {
     let (left, right) = text.split_once(" ; ").unwrap_or((text, ""));
@@ -19,7 +18,7 @@ pub fn answer(alloc: Global, name: &str, text: &str) -> Result<String, Refusal> 
 
 fn tree(alloc: Global, text: &str) -> Result<Shared<Sheet>, Refusal> {
     let text = Shared::new(alloc, sheet(alloc, text)?)?;
-    match read(alloc, &text) {
+    match read_sheet(alloc, &text) {
         Ok(sheet) => Ok(sheet),
         Err(ReadEnd::Fault(_)) => Err(Refusal::named(alloc, "Syntax")?),
         Err(ReadEnd::Memory) => Err(Refusal::Memory),

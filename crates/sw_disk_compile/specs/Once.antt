@@ -6,7 +6,7 @@ use Rattle.sw_io.specs.Disks.{Course}
 use Rattle.sw_folder.specs.Files.{Files}
 use Rattle.sw_folders.specs.Held.{IsRead, IsBrokenOff}
 use Rattle.sw_command_line.specs.Forms.{Target}
-use Rattle.sw_syntax_tree.specs.declared.sheet.Sheet.{Sheet}
+use Rattle.sw_tree.specs.declared.sheet.Sheet.{Sheet}
 use Rattle.sw_world.specs.Body.{BodyOf}
 use Rattle.sw_modules.specs.Fresh.{Setting, setting_of}
 use Rattle.sw_record.specs.declared.reply.Cause.{Cause}

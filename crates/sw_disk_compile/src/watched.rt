@@ -27,15 +27,14 @@ pub struct Watched<R: Reader, E: Engine> {
 impl<R: Reader, E: Engine> Model for Watched<R, E> {
     ghost use Rattle.std.specs.Coded.{codes};
     ghost use Rattle.sw_folder.specs.Files.{files_code};
-    ghost use Rattle.sw_syntax_tree.specs.contracts.expr.ExprKind as expr;
-    ghost use Rattle.sw_syntax_tree.specs.contracts.statement.Statement as statement;
+    ghost use Rattle.sw_tree.specs.contracts.statement.Statement as statement;
     ghost use Rattle.sw_values.specs.contracts.plain.Plain as plain;
     ghost use Rattle.sw_keeper.specs.Keeping.{Keeping};
     ghost use Rattle.sw_disk_compile.specs.Watched.{Covers};
 
     ghost Value = { Keeping };
 
-    ghost coded = { Prim.hlevel (codes, files_code, expr.the_row.coded, statement.the_row.coded, plain.the_row.coded) };
+    ghost coded = { Prim.hlevel (codes, files_code, statement.the_row.coded, plain.the_row.coded) };
 
     ghost view = { λ watched. watched.keeper };
 

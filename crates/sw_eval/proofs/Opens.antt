@@ -1,18 +1,10 @@
 -- One level of each statement that holds others.
-use Rattle.std.proofs.Common.{◌≡◌, List, Option, sym, ◌∙◌, ap}
+use Rattle.std.proofs.Common.{◌≡◌, List, sym, ◌∙◌, ap}
 use Rattle.sw_text.specs.declared.place.Span.{Span}
-use Rattle.sw_syntax_tree.specs.declared.statement.Branch.{Branch}
-use Rattle.sw_syntax_tree.specs.declared.statement.Rule.{Rule}
-use Rattle.sw_syntax_tree.specs.declared.statement.While.{While}
-use Rattle.sw_syntax_tree.specs.declared.statement.Statement.{Statement, out-Statement, out-roll-Statement}
-use Rattle.sw_syntax_tree.specs.declared.statement.Statement.TheVariants as S
-use Rattle.sw_syntax_tree.specs.declared.statement.Statement.TheOpen.{Statement-F}
+use Rattle.sw_tree.specs.declared.expr.Text.{Text}
+use Rattle.sw_tree.specs.declared.statement.Statement.{Statement, out-Statement, out-roll-Statement}
+use Rattle.sw_tree.specs.declared.statement.Statement.TheVariants as S
+use Rattle.sw_tree.specs.declared.statement.Statement.TheOpen.{Statement-F}
 
-pub out_Rule : (x : Rule) → out-Statement (S.Rule x) ≡ Statement-F.Rule x
-out_Rule x = ap out-Statement (sym (S.rolls-Rule x)) ∙ out-roll-Statement (Statement-F.Rule x)
-
-pub out_If : (bs : List Branch) (otherwise : Option (List Statement)) (at : Span) → out-Statement (S.If bs otherwise at) ≡ Statement-F.If bs otherwise at
-out_If bs otherwise at = ap out-Statement (sym (S.rolls-If bs otherwise at)) ∙ out-roll-Statement (Statement-F.If bs otherwise at)
-
-pub out_While : (x : While) → out-Statement (S.While x) ≡ Statement-F.While x
-out_While x = ap out-Statement (sym (S.rolls-While x)) ∙ out-roll-Statement (Statement-F.While x)
+pub out_Rule : (selector : Text) (xs : List Statement) (at : Span) → out-Statement (S.Rule selector xs at) ≡ Statement-F.Rule selector xs at
+out_Rule selector xs at = ap out-Statement (sym (S.rolls-Rule selector xs at)) ∙ out-roll-Statement (Statement-F.Rule selector xs at)

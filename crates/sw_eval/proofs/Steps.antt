@@ -12,7 +12,7 @@ use Rattle.sw_world.specs.Laws.{most_asked}
 use Rattle.sw_eval.specs.Talk.{Question, Talk, Gives, Fails, bind, answered, too_many, no_owner}
 use Rattle.sw_eval.specs.Ran.{Stand, Ran, op_at, still, takes, asks, full, lost, ran_on, within}
 use Rattle.sw_eval.specs.Did.{Did, IsReturn}
-use Rattle.sw_eval.specs.Asking.{asking}
+use Rattle.sw_eval.specs.Means.{asking}
 use Rattle.sw_eval.specs.declared.state.State.{State}
 use Rattle.sw_eval.specs.declared.stop.Stop.{Stop}
 use Rattle.sw_eval.specs.declared.stop.Stop.TheVariants.{Memory, Fault}

@@ -1,10 +1,8 @@
 -- The statements of the top level, a step at a time.
-use Rattle.std.proofs.Common.{◌≡◌, ℕ, suc, ◌+◌, ◌<◌, ◌≤◌, Bool, true, false, cond, is_some, List, [], ◌∷◌, length, drop, take, get_or, Option, Some, None, Result, Ok, Err, refl, sym, ◌∙◌, ap, subst, add-one}
+use Rattle.std.proofs.Common.{◌≡◌, ℕ, suc, ◌+◌, ◌<◌, ◌≤◌, true, false, cond, is_some, List, [], ◌∷◌, length, drop, take, get_or, Option, Some, None, Result, Ok, Err, refl, sym, ◌∙◌, ap, subst, add-one}
 use Rattle.std.specs.Prelude.{IsErr, IsErrAnd, IfOk}
-use Rattle.sw_syntax_tree.specs.declared.load.Use.{Use}
-use Rattle.sw_syntax_tree.specs.declared.statement.Statement.{Statement, out-Statement}
-use Rattle.sw_syntax_tree.specs.declared.statement.Statement.TheOpen.{Statement-F}
-use Rattle.sw_values.specs.declared.plain.Plain.{Plain}
+use Rattle.sw_tree.specs.declared.statement.Statement.{Statement, out-Statement}
+use Rattle.sw_tree.specs.declared.statement.Statement.TheOpen.{Statement-F}
 use Rattle.sw_world.specs.declared.op.Op.{Op}
 use Rattle.sw_world.specs.declared.op.Op.TheVariants.{Load}
 use Rattle.sw_world.specs.declared.op.How.TheVariants as H
@@ -18,9 +16,7 @@ use Rattle.sw_eval.specs.Talk.{Question, Loads, Talk, Gives, Fails, Asking, bind
 use Rattle.sw_eval.specs.Ran.{Stand, Ran, ran_on, within}
 use Rattle.sw_eval.specs.Did.{Did, IsReturn}
 use Rattle.sw_eval.specs.Loaded.{loaded}
-use Rattle.sw_eval.specs.Layers.{Layer, place_of}
-use Rattle.sw_eval.specs.Asking.{asking, fault}
-use Rattle.sw_eval.specs.Means.{top, tops, load_of, load_by, used, configures, space_of, marked, does_to}
+use Rattle.sw_eval.specs.Means.{asking, fault, top, tops, load_of, load_at, place_of, space_of, marked, does_to}
 use Rattle.sw_eval.specs.Tops.{TopDid, StopsAt, WaitsAt, Walked}
 use Rattle.sw_eval.specs.declared.state.State.{State}
 use Rattle.sw_eval.specs.declared.stop.Stop.{Stop}
@@ -29,75 +25,27 @@ use Rattle.sw_eval.proofs.Steps.{err_of, did_memory, did_stop, did_then, did_val
 use Rattle.sw_eval.proofs.Loops.{next_item, drop_all}
 
 -- what a load asks doesn't depend on what was answered, and is a load
-used_is : (path : List ℕ) (x : Use) (configured : Bool) (q : Question) (op : Op) → used x configured ≡ Some q → op_of path [] q ≡ Some op → (seen : List Answer) → IsLoad op × (op_of path seen q ≡ Some op)
-used_is path x false q op e is seen =
-    let k : Loads x.url.text x.url.span (H.Use (space_of x.namespace)) [] ≡ q = cc in
-    let o : Some (Load path x.url.text x.url.span (H.Use (space_of x.namespace)) []) ≡ Some op = ap (op_of path []) k ∙ is in
-    let p : Load path x.url.text x.url.span (H.Use (space_of x.namespace)) [] ≡ op = cc in
-    (subst (λ (y : Op). IsLoad y) p tt, ap (op_of path seen) (sym k) ∙ o)
-used_is path x true q op e is seen = absurd cc
-
-load_is : (path : List ℕ) (layer : Layer) (q : Question) (op : Op) → load_by layer ≡ Some q → op_of path [] q ≡ Some op → (seen : List Answer) → IsLoad op × (op_of path seen q ≡ Some op)
-load_is path (Statement-F.Use x) q op e is seen = used_is path x (configures x.configuration) q op e is seen
-load_is path (Statement-F.Variable x) q op e is seen = absurd cc
-load_is path (Statement-F.Assignment x) q op e is seen = absurd cc
-load_is path (Statement-F.Declaration x) q op e is seen = absurd cc
-load_is path (Statement-F.Rule x) q op e is seen = absurd cc
-load_is path (Statement-F.Properties x) q op e is seen = absurd cc
-load_is path (Statement-F.Custom x) q op e is seen = absurd cc
-load_is path (Statement-F.Forward x) q op e is seen = absurd cc
-load_is path (Statement-F.Callable x) q op e is seen = absurd cc
-load_is path (Statement-F.Include mixin content at) q op e is seen = absurd cc
-load_is path (Statement-F.Content x) q op e is seen = absurd cc
-load_is path (Statement-F.Return x) q op e is seen = absurd cc
-load_is path (Statement-F.Say x) q op e is seen = absurd cc
-load_is path (Statement-F.If branches otherwise at) q op e is seen = absurd cc
-load_is path (Statement-F.Each x) q op e is seen = absurd cc
-load_is path (Statement-F.For x) q op e is seen = absurd cc
-load_is path (Statement-F.While x) q op e is seen = absurd cc
-load_is path (Statement-F.Media x) q op e is seen = absurd cc
-load_is path (Statement-F.Supports x) q op e is seen = absurd cc
-load_is path (Statement-F.AtRoot x) q op e is seen = absurd cc
-load_is path (Statement-F.Charset at) q op e is seen = absurd cc
-load_is path (Statement-F.Import x) q op e is seen = absurd cc
-load_is path (Statement-F.Extend x) q op e is seen = absurd cc
-load_is path (Statement-F.AtRule x) q op e is seen = absurd cc
-load_is path (Statement-F.Comment text) q op e is seen = absurd cc
+load_is : (path : List ℕ) (layer : Statement-F Statement) (q : Question) (op : Op) → load_at layer ≡ Some q → op_of path [] q ≡ Some op → (seen : List Answer) → IsLoad op × (op_of path seen q ≡ Some op)
+load_is path (Statement-F.Use url namespace config at) q op e is seen =
+    let k : Loads url.text url.span (H.Use (Some (space_of namespace))) [] ≡ q = cc in
+    let o : Some (Load path url.text url.span (H.Use (Some (space_of namespace))) []) ≡ Some op = ap (op_of path []) k ∙ is in
+    let p : Load path url.text url.span (H.Use (Some (space_of namespace))) [] ≡ op = cc in
+    (subst (λ (x : Op). IsLoad x) p tt, ap (op_of path seen) (sym k) ∙ o)
+load_is path (Statement-F.Variable name v flags at) q op e is seen = absurd cc
+load_is path (Statement-F.Assignment t v flags at) q op e is seen = absurd cc
+load_is path (Statement-F.Declaration property v at) q op e is seen = absurd cc
+load_is path (Statement-F.Rule selector xs at) q op e is seen = absurd cc
 
 pub load_goes_on : (path : List ℕ) (x : Statement) (q : Question) (op : Op) → load_of x ≡ Some q → op_of path [] q ≡ Some op → (seen : List Answer) → IsLoad op × (op_of path seen q ≡ Some op)
 unfolding load_of
 load_goes_on path x q op e is seen = load_is path (out-Statement x) q op e is seen
 
-used_some : (path : List ℕ) (x : Use) (configured : Bool) (q : Question) → used x configured ≡ Some q → (op : Op) × (op_of path [] q ≡ Some op)
-used_some path x false q e = let k : Loads x.url.text x.url.span (H.Use (space_of x.namespace)) [] ≡ q = cc in (Load path x.url.text x.url.span (H.Use (space_of x.namespace)) [], ap (op_of path []) (sym k))
-used_some path x true q e = absurd cc
-
-asks_some : (path : List ℕ) (layer : Layer) (q : Question) → load_by layer ≡ Some q → (op : Op) × (op_of path [] q ≡ Some op)
-asks_some path (Statement-F.Use x) q e = used_some path x (configures x.configuration) q e
-asks_some path (Statement-F.Variable x) q e = absurd cc
-asks_some path (Statement-F.Assignment x) q e = absurd cc
-asks_some path (Statement-F.Declaration x) q e = absurd cc
-asks_some path (Statement-F.Rule x) q e = absurd cc
-asks_some path (Statement-F.Properties x) q e = absurd cc
-asks_some path (Statement-F.Custom x) q e = absurd cc
-asks_some path (Statement-F.Forward x) q e = absurd cc
-asks_some path (Statement-F.Callable x) q e = absurd cc
-asks_some path (Statement-F.Include mixin content at) q e = absurd cc
-asks_some path (Statement-F.Content x) q e = absurd cc
-asks_some path (Statement-F.Return x) q e = absurd cc
-asks_some path (Statement-F.Say x) q e = absurd cc
-asks_some path (Statement-F.If branches otherwise at) q e = absurd cc
-asks_some path (Statement-F.Each x) q e = absurd cc
-asks_some path (Statement-F.For x) q e = absurd cc
-asks_some path (Statement-F.While x) q e = absurd cc
-asks_some path (Statement-F.Media x) q e = absurd cc
-asks_some path (Statement-F.Supports x) q e = absurd cc
-asks_some path (Statement-F.AtRoot x) q e = absurd cc
-asks_some path (Statement-F.Charset at) q e = absurd cc
-asks_some path (Statement-F.Import x) q e = absurd cc
-asks_some path (Statement-F.Extend x) q e = absurd cc
-asks_some path (Statement-F.AtRule x) q e = absurd cc
-asks_some path (Statement-F.Comment text) q e = absurd cc
+asks_some : (path : List ℕ) (layer : Statement-F Statement) (q : Question) → load_at layer ≡ Some q → (op : Op) × (op_of path [] q ≡ Some op)
+asks_some path (Statement-F.Use url namespace config at) q e = let k : Loads url.text url.span (H.Use (Some (space_of namespace))) [] ≡ q = cc in (Load path url.text url.span (H.Use (Some (space_of namespace))) [], ap (op_of path []) (sym k))
+asks_some path (Statement-F.Variable name v flags at) q e = absurd cc
+asks_some path (Statement-F.Assignment t v flags at) q e = absurd cc
+asks_some path (Statement-F.Declaration property v at) q e = absurd cc
+asks_some path (Statement-F.Rule selector xs at) q e = absurd cc
 
 -- what a statement asks where it asks at all
 pub some_load : (path : List ℕ) (x : Statement) → true ≡ is_some (load_of x) → (q : Question) × (load_of x ≡ Some q) × ((op : Op) × (op_of path [] q ≡ Some op))
@@ -138,14 +86,14 @@ module _ {W : Type 0} (gives : W → Op → Answer → W → Type 0) where
   top_memory n x s u a w b r same p = rw (err_of r Memory p, same) (did_memory (top n x s) u a w)
 
   -- another statement than a load
-  pub other_goes : (n : ℕ) (x : Statement) (s u v : State) (a b : Stand) (w y : W) (o : Option Plain) → load_of x ≡ None → u ≡ marked n x s → Did gives (does_to 1000 x u) a w (Ok o) v b y → Did gives (top n x s) a w (Ok tt) v b y
+  pub other_goes : (n : ℕ) (x : Statement) (s u v : State) (a b : Stand) (w y : W) → load_of x ≡ None → u ≡ marked n x s → Did gives (does_to 1000 x u) a w (Ok tt) v b y → Did gives (top n x s) a w (Ok tt) v b y
   unfolding top
-  other_goes n x s u v a b w y o is at d = rw (is, ← at) (did_then _ d (did_value tt v b y))
+  other_goes n x s u v a b w y is at d = rw (is, ← at) d
 
   pub other_errs : (n : ℕ) (x : Statement) (s u v : State) (a b : Stand) (w y : W) (e : Stop) (r : Result (Option Op) Stop) → load_of x ≡ None → u ≡ marked n x s → Did gives (does_to 1000 x u) a w (Err e) v b y
       → IsErr r × IsErrAnd r (λ z. z ≡ e) → TopDid gives n x s a w r v b y
   unfolding top
-  other_errs n x s u v a b w y e r is at d p = top_err n x s v a b w y r e (rw (is, ← at) (did_stop _ d)) p
+  other_errs n x s u v a b w y e r is at d p = top_err n x s v a b w y r e (rw (is, ← at) d) p
 
   -- a load that comes too late
   pub late_fails : (n : ℕ) (x : Statement) (s : State) (a : Stand) (w : W) (r : Result (Option Op) Stop) (q : Question) → load_of x ≡ Some q → s.late ≡ true

@@ -1,9 +1,10 @@
 -- The laws of the body of a sheet: they are laws of every talk.
-use Rattle.std.proofs.Common.{◌≡◌, [], ◌∙◌, ap, refl, arith}
+use Rattle.std.proofs.Common.{◌≡◌, List, [], ◌∙◌, ap, refl, arith}
+use Rattle.sw_tree.specs.declared.statement.Statement.{Statement}
 use Rattle.sw_world.specs.Laws.{EndsForGood, EndsInTime, AsksFromSources, NamesOnce, EndsRefused, most_asked}
-use Rattle.sw_syntax_tree.specs.Globals.{globals, joined}
+use Rattle.sw_tree.specs.Globals.{globals}
 use Rattle.sw_eval.specs.Laws.{run_ends, run_keeps, run_refused, run_gives, run_sourced}
-use Rattle.sw_eval.specs.Left.{finish_of, end_of, names, names-left, once_joined}
+use Rattle.sw_eval.specs.Left.{finish_of, end_of, names, names-left, once_after}
 use Rattle.sw_eval.specs.Means.{body, begin, tops}
 
 pub ends_in_time : EndsInTime body
@@ -29,7 +30,8 @@ asks_from_sources job seen op goes e = run_sourced (end_of job.sheet) job.path m
 pub names_once : NamesOnce body
 unfolding body finish_of
 names_once job given finish e =
+    let xs : List Statement = job.sheet.statements in
     let is = run_gives (end_of job.sheet) job.path most_asked [] (tops 0 job.sheet.statements begin) given finish e in
-    let same : names finish.variables ≡ joined [] (globals job.sheet) =
-    ap (λ f. names f.variables) is.1 ∙ names-left is.0.1.scopes (globals job.sheet) [] in
-    λ name. rw same (once_joined (globals job.sheet) [] (λ n. refl) name)
+    let same : names finish.variables ≡ globals xs =
+    ap (λ f. names f.variables) is.1 ∙ names-left is.0.1.scopes xs [] in
+    λ name. rw same (once_after [] xs (λ n. refl) name)

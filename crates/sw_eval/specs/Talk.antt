@@ -4,7 +4,7 @@ use Rattle.std.specs.Prelude.{ℕ, zero, suc, List, [], ◌∷◌, ◌++◌, len
 use Rattle.sw_text.specs.declared.fault.Fault.{Fault}
 use Rattle.sw_text.specs.declared.fault.FaultCode.TheVariants.{Turns, UnknownVariable}
 use Rattle.sw_text.specs.declared.place.Span.{Span}
-use Rattle.sw_syntax_tree.specs.declared.callable.Kind.{Kind}
+use Rattle.sw_tree.specs.declared.callable.Kind.{Kind}
 use Rattle.sw_values.specs.declared.plain.Plain.{Plain}
 use Rattle.sw_world.specs.declared.op.Op.{Op}
 use Rattle.sw_world.specs.declared.op.Op.TheVariants.{Load, Find, Get, Put, Say, Call}

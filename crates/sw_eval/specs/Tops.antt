@@ -1,7 +1,7 @@
 -- What the statements of the top level do.
 use Rattle.std.specs.Prelude.{◌≡◌, ℕ, ◌<◌, ◌≤◌, false, List, [], length, drop, Option, Some, None, Result, Ok, Err}
 use Rattle.sw_text.specs.declared.place.Span.{Span}
-use Rattle.sw_syntax_tree.specs.declared.statement.Statement.{Statement}
+use Rattle.sw_tree.specs.declared.statement.Statement.{Statement}
 use Rattle.sw_world.specs.declared.op.Op.{Op}
 use Rattle.sw_world.specs.declared.answer.Answer.{Answer}
 use Rattle.sw_world.specs.Questions.{IsLoad}

@@ -8,7 +8,7 @@ ghost use Rattle.sw_world.specs.declared.op.Op.{Op};
 ghost use Rattle.sw_eval.specs.Talk.{Question, Gets, Puts, Gives, answered, site_of, owned, no_owner, Fails};
 ghost use Rattle.sw_eval.specs.Ran.{op_at};
 ghost use Rattle.sw_eval.specs.Did.{Did, IsReturn, stand, Goes_on};
-ghost use Rattle.sw_eval.specs.Asking.{asking, finding};
+ghost use Rattle.sw_eval.specs.Means.{asking, finding};
 ghost use Rattle.sw_eval.specs.declared.state.State.{State};
 ghost use Rattle.sw_eval.specs.declared.stop.Stop.TheVariants as S;
 ghost use Rattle.sw_text.specs.declared.fault.FaultCode.TheVariants as F;
@@ -17,8 +17,8 @@ use crate::asked::Asked;
 use crate::stop::{Stop, fails};
 use crate::walk::Walk;
 use std::alloc::Global;
-use sw_syntax_tree::Kind;
 use sw_text::{FaultCode, Memory, Name, Span};
+use sw_tree::Kind;
 use sw_values::Value;
 use sw_world::{Answer, Op, World};
 

@@ -15,8 +15,8 @@ use crate::walk::Walk;
 use std::alloc::Global;
 use std::marker::Model;
 use std::mem;
-use sw_syntax_tree::Sheet;
 use sw_text::{List, Memory, Name, Shared};
+use sw_tree::Sheet;
 use sw_world::{Answer, Config, Engine, Op, Turn, World, share_pairs};
 
 /// A body that the evaluator runs: its sheet, its pairs, and where its evaluation stands.
@@ -34,13 +34,12 @@ impl Model for Evaluation {
     ghost use Rattle.std.specs.Prelude.{vec_len, vec_capacity};
     ghost use Rattle.std.specs.Coded.{codes};
     ghost use Rattle.sw_eval.specs.Resume.{Shown, Keeps};
-    ghost use Rattle.sw_syntax_tree.specs.contracts.expr.ExprKind as e;
-    ghost use Rattle.sw_syntax_tree.specs.contracts.statement.Statement as s;
+    ghost use Rattle.sw_tree.specs.contracts.statement.Statement as s;
     ghost use Rattle.sw_values.specs.contracts.plain.Plain as p;
 
     ghost Value = { Shown };
 
-    ghost coded = { Prim.hlevel (codes, e.the_row.coded, s.the_row.coded, p.the_row.coded) };
+    ghost coded = { Prim.hlevel (codes, s.the_row.coded, p.the_row.coded) };
 
     ghost view = { λ b. record {
       job = record { sheet = b.sheet; config = b.config; path = b.walk.asked.path };

@@ -4,24 +4,18 @@
 
 mod ask;
 mod asked;
-mod assignments;
 mod engine;
-mod flow;
 mod here;
 mod laws;
 mod left;
-mod level;
 mod look;
 mod output;
 mod parts;
 mod place;
-mod selecting;
 mod state;
 mod stop;
-mod texts;
 mod top;
 mod turn;
-mod value;
 mod walk;
 mod work;
 

@@ -1,13 +1,12 @@
 // Variables, also those of other modules.
 ghost use Rattle.sw_eval.specs.Did.{Goes_on};
-ghost use Rattle.sw_eval.specs.Variables.{owner_of, outside, variable, qualified, targeted, getting, putting, got_or_null, sought, before_by, before_default, has_value, kept, put_global, set_global, stored};
+ghost use Rattle.sw_eval.specs.Means.{outside, variable, qualified, targeted, getting, putting};
 
-use crate::left::or_null;
-use crate::parts::{got, is_null, owner, sought_owner, target};
+use crate::parts::{got, owner, target};
 use crate::stop::{Stop, fails};
 use crate::walk::Walk;
-use sw_syntax_tree::{Flags, Kind, Qualified};
 use sw_text::{FaultCode, Name, Span};
+use sw_tree::{Kind, Qualified};
 use sw_values::Value;
 use sw_world::World;
 
@@ -39,23 +38,6 @@ impl Walk {
         Ok(())
     }
 
-    // The owner of another module's variable.
-    fn owner_of<W: World>(
-        &mut self,
-        unknown: FaultCode,
-        space: Option<Name>,
-        name: &Name,
-        at: &Span,
-        space_at: &Span,
-        world: &mut W,
-    ) -> Result<usize, Stop>
-        ensures { Goes_on W.gives (owner_of unknown space name.now at.now space_at.now) self.old world.old result
-            self.new world.new }
-    {
-        let a = self.find(space, Kind::Variable, name, at, world)?;
-        owner(unknown, at, space_at, a.0, &a.1)
-    }
-
     // What another module's variable holds.
     fn outside<W: World>(
         &mut self,
@@ -69,7 +51,8 @@ impl Walk {
         ensures { Goes_on W.gives (outside unknown space name.now at.now space_at.now) self.old world.old result
             self.new world.new }
     {
-        let number = self.owner_of(unknown, space, name, at, space_at, world)?;
+        let a = self.find(space, Kind::Variable, name, at, world)?;
+        let number = owner(unknown, at, space_at, a.0, &a.1)?;
         self.getting(number, at, world)
     }
 
@@ -92,181 +75,38 @@ impl Walk {
     pub(crate) fn qualified<W: World>(
         &mut self,
         q: &Qualified,
-        at: &Span,
         world: &mut W,
     ) -> Result<Value, Stop>
-        ensures { Goes_on W.gives (qualified q.now at.now) self.old world.old result self.new world.new }
+        ensures { Goes_on W.gives (qualified q.now) self.old world.old result self.new world.new }
     {
         if q.name.is_private() {
-            return fails(FaultCode::Private, at);
+            return fails(FaultCode::Private, &q.span);
         }
-        let space = q.namespace.name.share()?;
+        let space = q.space.share()?;
         self.outside(
             FaultCode::UnknownMember,
             Some(space),
             &q.name,
-            at,
-            &q.namespace.span,
+            &q.span,
+            &q.space_span,
             world,
         )
     }
 
-    // The owner of a variable behind a namespace that is assigned; the variable stands at the first place.
+    // The owner of a variable behind a namespace that is assigned.
     pub(crate) fn targeted<W: World>(
         &mut self,
         q: &Qualified,
-        name_at: &Span,
         at: &Span,
         world: &mut W,
     ) -> Result<usize, Stop>
-        ensures { Goes_on W.gives (targeted q.now name_at.now at.now) self.old world.old result self.new world.new }
+        ensures { Goes_on W.gives (targeted q.now at.now) self.old world.old result self.new world.new }
     {
         if q.name.is_private() {
-            return fails(FaultCode::Private, name_at);
+            return fails(FaultCode::Private, &q.span);
         }
-        let space = q.namespace.name.share()?;
+        let space = q.space.share()?;
         let a = self.find(Some(space), Kind::Variable, &q.name, at, world)?;
-        target(at, name_at, &q.namespace.span, a.0, &a.1)
-    }
-
-    // What the variable of an owner holds; null where there is none.
-    fn got_or_null<W: World>(
-        &mut self,
-        number: Option<usize>,
-        at: &Span,
-        world: &mut W,
-    ) -> Result<Value, Stop>
-        ensures { Goes_on W.gives (got_or_null at.now number) self.old world.old result self.new world.new }
-    {
-        match number {
-            Some(number) => self.getting(number, at, world),
-            None => Ok(Value::null()),
-        }
-    }
-
-    // What the variable has that a name means, which is asked.
-    fn sought<W: World>(&mut self, name: &Name, at: &Span, world: &mut W) -> Result<Value, Stop>
-        ensures { Goes_on W.gives (sought name.now at.now) self.old world.old result self.new world.new }
-    {
-        let a = self.find(None, Kind::Variable, name, at, world)?;
-        let number = sought_owner(at, a.0, &a.1)?;
-        self.got_or_null(number, at, world)
-    }
-
-    // What a name has before its default, where not the module's own variables alone count.
-    fn before_by<W: World>(
-        &mut self,
-        global: bool,
-        name: &Name,
-        at: &Span,
-        world: &mut W,
-    ) -> Result<Value, Stop>
-        ensures { Goes_on W.gives (before_by global name.now at.now) self.old world.old result self.new world.new }
-    {
-        if global {
-            return self.sought(name, at, world);
-        }
-        match self.state.own(name) {
-            Some(value) => Ok(value.share()?),
-            None => self.sought(name, at, world),
-        }
-    }
-
-    // What a name has before its default.
-    fn before_default<W: World>(
-        &mut self,
-        global: bool,
-        name: &Name,
-        at: &Span,
-        world: &mut W,
-    ) -> Result<Value, Stop>
-        ensures { Goes_on W.gives (before_default global name.now at.now) self.old world.old result self.new
-            world.new }
-    {
-        if self.state.is_mine(global) {
-            let own = self.state.scopes.look_top(name);
-            return Ok(or_null(own)?);
-        }
-        self.before_by(global, name, at, world)
-    }
-
-    // Whether it is a value that isn't null.
-    fn has_value<W: World>(
-        &mut self,
-        global: bool,
-        name: &Name,
-        at: &Span,
-        world: &mut W,
-    ) -> Result<bool, Stop>
-        ensures { Goes_on W.gives (has_value global name.now at.now) self.old world.old result self.new world.new }
-    {
-        let old = self.before_default(global, name, at, world)?;
-        Ok(!is_null(&old))
-    }
-
-    // Whether a variable with `!default` has its value.
-    pub(crate) fn kept<W: World>(
-        &mut self,
-        flags: Flags,
-        name: &Name,
-        at: &Span,
-        world: &mut W,
-    ) -> Result<bool, Stop>
-        ensures { Goes_on W.gives (kept flags name.now at.now) self.old world.old result self.new world.new }
-    {
-        if flags.default {
-            self.has_value(flags.global, name, at, world)
-        } else {
-            Ok(false)
-        }
-    }
-
-    // Gives the running code's module's variable a value, where that is another module.
-    fn put_global<W: World>(
-        &mut self,
-        name: &Name,
-        value: Value,
-        at: &Span,
-        world: &mut W,
-    ) -> Result<(), Stop>
-        ensures { Goes_on W.gives (put_global name.now value at.now) self.old world.old result self.new world.new }
-    {
-        let number = self.owner_of(FaultCode::UnknownVariable, None, name, at, at, world)?;
-        self.putting(number, value, at, world)
-    }
-
-    // Gives a variable of the running code's module a value.
-    fn set_global<W: World>(
-        &mut self,
-        name: &Name,
-        value: Value,
-        at: &Span,
-        world: &mut W,
-    ) -> Result<(), Stop>
-        ensures { Goes_on W.gives (set_global name.now value at.now) self.old world.old result self.new world.new }
-    {
-        if self.state.is_home() {
-            self.state.set_own(name, value)
-        } else {
-            self.put_global(name, value, at, world)
-        }
-    }
-
-    // An assignment to a variable without a namespace.
-    pub(crate) fn stored<W: World>(
-        &mut self,
-        global: bool,
-        name: &Name,
-        value: Value,
-        at: &Span,
-        world: &mut W,
-    ) -> Result<(), Stop>
-        ensures { Goes_on W.gives (stored global name.now value at.now) self.old world.old result self.new world.new }
-    {
-        if global {
-            return self.set_global(name, value, at, world);
-        }
-        let name = name.share()?;
-        self.state.set_by(name, value)
+        target(at, &q.span, &q.space_span, a.0, &a.1)
     }
 }

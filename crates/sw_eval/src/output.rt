@@ -2,19 +2,18 @@
 ghost use Rattle.std.specs.Prelude.{◌≡◌, true};
 ghost use Rattle.sw_css_tree.specs.Output.{is_open, closed};
 ghost use Rattle.sw_eval.specs.Did.{IsReturn};
-ghost use Rattle.sw_eval.specs.Output.{numbered, opened, opening, lining, declaring, declaring_by, written};
+ghost use Rattle.sw_eval.specs.Means.{numbered, opening, text_of, lining, declaring, written};
+ghost use Rattle.sw_eval.specs.declared.state.State.{State};
 
-use crate::selecting::selected;
 use crate::state::State;
 use crate::stop::{Stop, fails};
 use std::alloc::Global;
 use sw_css_tree::{CssTree, TreeFault};
-use sw_literals::declaration_text;
 use sw_text::{FaultCode, Name, Span};
-use sw_values::Value;
+use sw_values::{Value, ValueFault};
 
 // What follows belongs to this statement; in an open rule it belongs to the rule's.
-#[tactic(auto, unfolding(crate::specs::Output::numbered))]
+#[tactic(auto, unfolding(crate::specs::Means::numbered))]
 pub(crate) fn numbered(css: &mut CssTree, number: usize)
     ensures { css.new ≡ numbered number css.old }
 {
@@ -32,31 +31,30 @@ pub(crate) fn close(css: &mut CssTree)
     }
 }
 
+// The value's text.
+fn text_of(alloc: Global, value: &Value, at: &Span) -> Result<Name, Stop>
+    ensures { (s : State) → IsReturn result s (text_of value.now at.now s) }
+{
+    match value.css_text(alloc, true) {
+        Ok(text) => Ok(text),
+        Err(ValueFault::NotCss) => fails(FaultCode::NotCss, at),
+        Err(ValueFault::TooLarge) => fails(FaultCode::TooLarge, at),
+        Err(ValueFault::DuplicateKey(_)) => unreachable!(),
+        Err(ValueFault::Memory) => Err(Stop::Memory),
+    }
+}
+
 impl State {
-    // Opens a rule with these selectors.
-    #[tactic(auto, unfolding(crate::specs::Output::opened))]
-    fn opened(&mut self, selectors: Name, at: &Span) -> Result<(), Stop>
-        ensures { IsReturn result self.new (opened selectors at.now self.old) }
+    // Opens a rule.
+    #[tactic(auto, unfolding(crate::specs::Means::opening))]
+    pub(crate) fn opening(&mut self, selectors: Name, at: &Span) -> Result<(), Stop>
+        ensures { IsReturn result self.new (opening selectors at.now self.old) }
     {
         match self.css.open_rule(selectors) {
             Ok(()) => Ok(()),
             Err(TreeFault::TooLarge) => fails(FaultCode::TooLarge, at),
             Err(TreeFault::Memory) => Err(Stop::Memory),
         }
-    }
-
-    // Opens a rule, whose selectors have this text, which stands at the first place; the rule stands at the second.
-    pub(crate) fn opening(
-        &mut self,
-        alloc: Global,
-        text: &Name,
-        text_at: &Span,
-        at: &Span,
-    ) -> Result<(), Stop>
-        ensures { IsReturn result self.new (opening text.now text_at.now at.now self.old) }
-    {
-        let selectors = selected(alloc, text, text_at)?;
-        self.opened(selectors, at)
     }
 
     // A line of the open rule.
@@ -71,7 +69,7 @@ impl State {
         }
     }
 
-    #[tactic(auto, unfolding(crate::specs::Output::declaring))]
+    #[tactic(auto, unfolding(crate::specs::Means::declaring))]
     fn declaring(&mut self, property: Name, text: Name, at: &Span) -> Result<(), Stop>
         ensures { IsReturn result self.new (declaring property text at.now self.old) }
     {
@@ -81,28 +79,22 @@ impl State {
         self.lining(property, text, at)
     }
 
-    // A declaration of this text, if there is one.
-    fn declaring_by(&mut self, property: Name, text: Option<Name>, at: &Span) -> Result<(), Stop>
-        ensures { IsReturn result self.new (declaring_by property text at.now self.old) }
-    {
-        match text {
-            Some(text) => self.declaring(property, text, at),
-            None => Ok(()),
-        }
-    }
-
     // A declaration of this value, whose expression stands at the first place and whose statement at the second.
     pub(crate) fn written(
         &mut self,
         alloc: Global,
-        property: Name,
+        property: &Name,
         value: &Value,
         value_at: &Span,
         at: &Span,
     ) -> Result<(), Stop>
-        ensures { IsReturn result self.new (written property value.now value_at.now at.now self.old) }
+        ensures { IsReturn result self.new (written property.now value.now value_at.now at.now self.old) }
     {
-        let text = declaration_text(alloc, value, value_at)?;
-        self.declaring_by(property, text, at)
+        if value.is_blank() {
+            return Ok(());
+        }
+        let property = property.share()?;
+        let text = text_of(alloc, value, value_at)?;
+        self.declaring(property, text, at)
     }
 }

@@ -2,17 +2,15 @@
 ghost use Rattle.std.specs.Prelude.{◌≡◌, option_copied};
 ghost use Rattle.sw_eval.specs.Did.{IsReturn};
 ghost use Rattle.sw_eval.specs.Means.{begin};
-ghost use Rattle.sw_eval.specs.Scope.{origin, is_home, own, is_mine, set_by, set_own, entered, left};
-ghost use Rattle.sw_eval.specs.Expressions.{parent};
-ghost use Rattle.sw_eval.specs.Flow.{spent};
+ghost use Rattle.sw_eval.specs.Scope.{origin, own, set_by, entered, left};
 ghost use Rattle.sw_eval.specs.Talk.{Gives};
 
 use crate::here::Here;
-use crate::stop::{Stop, fails};
+use crate::stop::Stop;
 use std::alloc::Global;
 use sw_css_tree::CssTree;
 use sw_scope::{FrameKind, Origin, Scopes};
-use sw_text::{FaultCode, Name, Span};
+use sw_text::Name;
 use sw_values::Value;
 
 /// What an evaluation has made so far.
@@ -40,13 +38,6 @@ impl State {
             late: false,
             turns: 1_000_000,
         }
-    }
-
-    // Whether the running code is the body's own.
-    pub(crate) fn is_home(&self) -> bool
-        ensures { result ≡ is_home self.now }
-    {
-        self.here.site == 0
     }
 
     // Whose the running code is.
@@ -78,35 +69,6 @@ impl State {
         Ok(())
     }
 
-    // Whether what a name has before its default is sought among the module's own variables alone.
-    #[tactic(auto, unfolding(crate::specs::Scope::is_mine))]
-    pub(crate) fn is_mine(&self, global: bool) -> bool
-        ensures { result ≡ is_mine self.now global }
-    {
-        self.scopes.top_alone(self.origin(), global)
-    }
-
-    // Gives the module's own variable a value.
-    #[tactic(auto, unfolding(crate::specs::Scope::set_own))]
-    pub(crate) fn set_own(&mut self, name: &Name, value: Value) -> Result<(), Stop>
-        ensures { IsReturn result self.new (Gives (tt, set_own self.old (name.now, value))) }
-    {
-        let name = name.share()?;
-        self.scopes.set_top(name, value)?;
-        Ok(())
-    }
-
-    // What `&` is.
-    #[tactic(auto, unfolding(crate::specs::Expressions::parent))]
-    pub(crate) fn parent(&self, at: &Span) -> Result<Value, Stop>
-        ensures { IsReturn result self.now (parent at.now self.now) }
-    {
-        if self.css.is_open() {
-            return fails(FaultCode::BadPlace, at);
-        }
-        Ok(Value::null())
-    }
-
     // Opens a frame.
     #[tactic(auto, unfolding(crate::specs::Scope::entered))]
     pub(crate) fn enter(&mut self, kind: FrameKind) -> Result<(), Stop>
@@ -122,17 +84,5 @@ impl State {
         ensures { self.new ≡ left self.old }
     {
         self.scopes.pop();
-    }
-
-    // Takes one of the turns that are left.
-    #[tactic(auto, unfolding(crate::specs::Flow::spent))]
-    pub(crate) fn spend(&mut self, at: &Span) -> Result<(), Stop>
-        ensures { IsReturn result self.new (spent at.now self.old) }
-    {
-        if self.turns == 0 {
-            return fails(FaultCode::Turns, at);
-        }
-        self.turns -= 1;
-        Ok(())
     }
 }

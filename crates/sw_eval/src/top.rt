@@ -3,7 +3,7 @@ ghost use Rattle.std.specs.Prelude.{◌≡◌, ◌<◌, is_some, IfOk, IfSome, v
 ghost use Rattle.sw_eval.specs.Did.{stand};
 ghost use Rattle.sw_eval.specs.Tops.{TopDid, Walked};
 ghost use Rattle.sw_eval.specs.Loaded.{loaded};
-ghost use Rattle.sw_eval.specs.Means.{load_of, ends_loads, marked, space_of, configures, used};
+ghost use Rattle.sw_eval.specs.Means.{load_of, ends_loads, marked, space_of};
 
 use crate::ask::known;
 use crate::output::numbered;
@@ -12,46 +12,17 @@ use crate::state::State;
 use crate::stop::{Stop, fails};
 use crate::walk::Walk;
 use std::alloc::Global;
-use sw_syntax_tree::{Namespace, Statement, Use};
 use sw_text::{FaultCode, List, Memory, Name, Shared};
+use sw_tree::{Namespace, Statement};
 use sw_world::{How, Op, World};
 
-fn space_of(namespace: &Namespace) -> Result<Option<Name>, Memory>
-    ensures { IfOk result (λ space. space ≡ space_of namespace.now) }
+fn space_of(namespace: &Namespace) -> &Name
+    ensures { result.now ≡ space_of namespace.now }
 {
     match namespace {
-        Namespace::Default(name) => Ok(Some(name.share()?)),
-        Namespace::Written(name) => Ok(Some(name.share()?)),
-        Namespace::Without => Ok(None),
+        Namespace::Default(name) => name,
+        Namespace::Written(name) => name,
     }
-}
-
-// Whether a load configures variables.
-fn configures(load: &Use) -> bool
-    ensures { result ≡ configures load.now.configuration }
-{
-    !load.configuration.is_empty()
-}
-
-// The question of a load.
-fn used(alloc: Global, path: &Name, load: &Use) -> Result<Option<Op>, Memory>
-    ensures { IfOk result (λ op. op ≡ loaded path.now (used load.now (configures load.now.configuration))) }
-{
-    if configures(load) {
-        return Ok(None);
-    }
-    let site = path.share()?;
-    let space = space_of(&load.namespace)?;
-    let text = load.url.text.share()?;
-    let span = load.url.span.share()?;
-    let config = Shared::new(alloc, List::new(alloc))?;
-    Ok(Some(Op::Load {
-        site,
-        url: text,
-        span,
-        how: How::Use { space },
-        config,
-    }))
 }
 
 // The question of a statement that loads a module.
@@ -60,7 +31,20 @@ fn load_of(alloc: Global, path: &Name, statement: &Statement) -> Result<Option<O
     ensures { IfOk result (λ op. op ≡ loaded path.now (load_of statement.now)) }
 {
     match statement {
-        Statement::Use(load) => used(alloc, path, load),
+        Statement::Use { url, namespace, .. } => {
+            let site = path.share()?;
+            let space = space_of(namespace).share()?;
+            let text = url.text.share()?;
+            let span = url.span.share()?;
+            let config = Shared::new(alloc, List::new(alloc))?;
+            Ok(Some(Op::Load {
+                site,
+                url: text,
+                span,
+                how: How::Use { space: Some(space) },
+                config,
+            }))
+        }
         _ => Ok(None),
     }
 }
@@ -70,25 +54,17 @@ fn load_of(alloc: Global, path: &Name, statement: &Statement) -> Result<Option<O
 fn is_load(statement: &Statement) -> bool
     ensures { result ≡ is_some (load_of statement.now) }
 {
-    match statement {
-        Statement::Use(load) => !configures(load),
-        _ => false,
-    }
+    matches!(statement, Statement::Use { .. })
 }
 
-// No load may stand behind a statement, but behind assignments, comments and other loads.
+// No load may stand behind such a statement.
 #[tactic(auto, unfolding(crate::specs::Means::ends_loads))]
 fn ends_loads(statement: &Statement) -> bool
     ensures { result ≡ ends_loads statement.now }
 {
-    !matches!(
+    matches!(
         statement,
-        Statement::Variable(_)
-            | Statement::Assignment(_)
-            | Statement::Use(_)
-            | Statement::Forward(_)
-            | Statement::Charset(_)
-            | Statement::Comment(_)
+        Statement::Declaration { .. } | Statement::Rule { .. }
     )
 }
 
@@ -115,7 +91,7 @@ fn top<W: World>(
 {
     if !is_load(statement) {
         mark(number, statement, &mut walk.state);
-        let _value = walk.does(1000, statement, world)?;
+        walk.does(1000, statement, world)?;
         return Ok(None);
     }
     if walk.state.late {

@@ -8,8 +8,8 @@ use crate::state::State;
 use crate::stop::Stop;
 use crate::top::walk_on;
 use crate::walk::Walk;
-use sw_syntax_tree::Sheet;
 use sw_text::Memory;
+use sw_tree::Sheet;
 use sw_world::{Config, End, Turn, World};
 
 // Lets the next turn begin from the start.

@@ -1,109 +1,111 @@
-// Statements.
-ghost use Rattle.sw_literals.specs.declared.quotients.Parens.TheVariants as P;
-ghost use Rattle.sw_eval.specs.declared.texts.TextKind.TheVariants as K;
+// Expressions and statements.
 ghost use Rattle.sw_eval.specs.Did.{Goes_on};
-ghost use Rattle.sw_eval.specs.Texts.{text};
-ghost use Rattle.sw_eval.specs.Expressions.{plain_value};
-ghost use Rattle.sw_eval.specs.Statements.{declaration, rule, does_one};
-ghost use Rattle.sw_eval.specs.Means.{value_to, does_to};
+ghost use Rattle.sw_eval.specs.Means.{value_one, value_to, variable_set, assigned, declaration, block, framed, rule, does_one, does_to};
 
-use crate::level::Level;
 use crate::output::close;
-use crate::parts::place_of;
+use crate::parts::{place_of, plain, span_of, weighed};
 use crate::stop::{Stop, fails};
-use crate::texts::TextKind;
 use crate::walk::Walk;
-use sw_literals::Parens;
 use sw_scope::FrameKind;
-use sw_syntax_tree::{Declaration, Expr, Rule, Statement, Text};
-use sw_text::{FaultCode, Name};
-use sw_values::Value;
+use sw_text::{FaultCode, Name, Span};
+use sw_tree::{Expr, Qualified, Statement};
+use sw_values::{Node, Value};
 use sw_world::World;
 
 impl Walk {
-    // The value of an expression of a statement.
-    pub(crate) fn statement_value<W: World>(
+    // The value of an expression, at most so deep.
+    pub(crate) fn value<W: World>(
         &mut self,
-        inner: u32,
+        depth: u32,
         e: &Expr,
         world: &mut W,
     ) -> Result<Value, Stop>
-        ensures { Goes_on W.gives (value_to inner P.Outside e.now) self.old world.old result self.new world.new }
+        ensures { Goes_on W.gives (value_to depth e.now) self.old world.old result self.new world.new }
     {
-        let level = Level {
-            depth: inner,
-            parens: Parens::Outside,
-        };
-        self.value(level, e, world)
+        if depth == 0 {
+            return fails(FaultCode::Depth, span_of(e));
+        }
+        self.value_one(e, world)
     }
 
-    // The same without sides.
-    pub(crate) fn statement_plain<W: World>(
+    fn value_one<W: World>(&mut self, e: &Expr, world: &mut W) -> Result<Value, Stop>
+        ensures { Goes_on W.gives (value_one e.now) self.old world.old result self.new world.new }
+    {
+        match e {
+            Expr::Word(word) => {
+                let text = plain(&word.parts).share()?;
+                let node = Node::Text {
+                    text,
+                    quoted: false,
+                };
+                weighed(node, &word.span)
+            }
+            Expr::Variable { name, span } => self.variable(name, span, world),
+            Expr::Qualified(q) => self.qualified(q, world),
+        }
+    }
+
+    // An assignment to a variable without a namespace.
+    fn variable_set<W: World>(
         &mut self,
         inner: u32,
+        name: &Name,
         e: &Expr,
         world: &mut W,
-    ) -> Result<Value, Stop>
-        ensures { Goes_on W.gives (plain_value (value_to inner) P.Outside e.now) self.old world.old result
-            self.new world.new }
-    {
-        let level = Level {
-            depth: inner,
-            parens: Parens::Outside,
-        };
-        self.plain_value(level, e, world)
-    }
-
-    // A text of a statement, with the values in it.
-    pub(crate) fn statement_text<W: World>(
-        &mut self,
-        inner: u32,
-        it: &Text,
-        world: &mut W,
-    ) -> Result<Name, Stop>
-        ensures { Goes_on W.gives (text (value_to inner) K.Sheet P.Outside it.now.parts it.now.span) self.old world.old
+    ) -> Result<(), Stop>
+        ensures { Goes_on W.gives (variable_set (value_to inner) name.now e.now) self.old world.old
             result self.new world.new }
     {
-        let level = Level {
-            depth: inner,
-            parens: Parens::Outside,
-        };
-        self.text(level, TextKind::Sheet, &it.parts, &it.span, world)
+        let value = self.value(inner, e, world)?;
+        let name = name.share()?;
+        self.state.set_by(name, value)
+    }
+
+    // An assignment to a variable behind a namespace.
+    fn assigned<W: World>(
+        &mut self,
+        inner: u32,
+        q: &Qualified,
+        e: &Expr,
+        at: &Span,
+        world: &mut W,
+    ) -> Result<(), Stop>
+        ensures { Goes_on W.gives (assigned (value_to inner) q.now e.now at.now) self.old world.old
+            result self.new world.new }
+    {
+        let value = self.value(inner, e, world)?;
+        let owner = self.targeted(q, at, world)?;
+        self.putting(owner, value, at, world)
     }
 
     // A declaration, which stands in a rule.
     fn declaration<W: World>(
         &mut self,
         inner: u32,
-        statement: &Declaration,
+        property: &Name,
+        e: &Expr,
+        at: &Span,
         world: &mut W,
-    ) -> Result<Option<Value>, Stop>
-        ensures { Goes_on W.gives (declaration (value_to inner) statement.now) self.old world.old result
-            self.new world.new }
+    ) -> Result<(), Stop>
+        ensures { Goes_on W.gives (declaration (value_to inner) property.now e.now at.now) self.old
+            world.old result self.new world.new }
     {
         if !self.state.css.is_open() {
-            return fails(FaultCode::BadPlace, &statement.span);
+            return fails(FaultCode::BadPlace, at);
         }
-        let property = self.statement_text(inner, &statement.property, world)?;
-        let value = self.statement_value(inner, &statement.value, world)?;
-        self.state.written(
-            self.alloc,
-            property,
-            &value,
-            &statement.value.span,
-            &statement.span,
-        )?;
-        Ok(None)
+        let value = self.value(inner, e, world)?;
+        self.state
+            .written(self.alloc, property, &value, span_of(e), at)
     }
 
-    // A statement, at most so deep. A value that it gives ends what is around it.
+    // A statement, at most so deep.
     #[cycle(walk)]
     pub(crate) fn does<W: World>(
         &mut self,
         depth: u32,
         statement: &Statement,
         world: &mut W,
-    ) -> Result<Option<Value>, Stop>
+    ) -> Result<(), Stop>
         ensures { Goes_on W.gives (does_to depth statement.now) self.old world.old result self.new world.new }
     {
         if depth == 0 {
@@ -118,40 +120,31 @@ impl Walk {
         inner: u32,
         statement: &Statement,
         world: &mut W,
-    ) -> Result<Option<Value>, Stop>
+    ) -> Result<(), Stop>
         ensures { Goes_on W.gives (does_one (value_to inner) (does_to inner) statement.now) self.old world.old result
             self.new world.new }
     {
         match statement {
-            Statement::Variable(one) => self.variable_set(inner, one, world),
-            Statement::Assignment(one) => self.assigned(inner, one, world),
-            Statement::Declaration(one) => self.declaration(inner, one, world),
-            Statement::Rule(one) => self.rule(inner, one, world),
-            Statement::If {
-                branches,
-                otherwise,
+            Statement::Variable { name, value, .. } => {
+                self.variable_set(inner, name, value, world)
+            }
+            Statement::Assignment {
+                target,
+                value,
+                span,
                 ..
-            } => self.branches(inner, branches.as_slice(), otherwise, world),
-            Statement::While(one) => self.repeat_in(inner, one, world),
-            Statement::Use(_)
-            | Statement::Properties(_)
-            | Statement::Custom(_)
-            | Statement::Forward(_)
-            | Statement::Callable(_)
-            | Statement::Include { .. }
-            | Statement::Content(_)
-            | Statement::Return(_)
-            | Statement::Say(_)
-            | Statement::Each(_)
-            | Statement::For(_)
-            | Statement::Media(_)
-            | Statement::Supports(_)
-            | Statement::AtRoot(_)
-            | Statement::Charset(_)
-            | Statement::Import(_)
-            | Statement::Extend(_)
-            | Statement::AtRule(_)
-            | Statement::Comment(_) => fails(FaultCode::BadPlace, place_of(statement)),
+            } => self.assigned(inner, target, value, span, world),
+            Statement::Declaration {
+                property,
+                value,
+                span,
+            } => self.declaration(inner, plain(&property.parts), value, span, world),
+            Statement::Rule {
+                selector,
+                block,
+                span,
+            } => self.rule(inner, plain(&selector.parts), block.as_slice(), span, world),
+            Statement::Use { span, .. } => fails(FaultCode::BadPlace, span),
         }
     }
 
@@ -159,24 +152,48 @@ impl Walk {
     fn rule<W: World>(
         &mut self,
         inner: u32,
-        statement: &Rule,
+        selectors: &Name,
+        all: &[Statement],
+        at: &Span,
         world: &mut W,
-    ) -> Result<Option<Value>, Stop>
-        ensures { Goes_on W.gives (rule (value_to inner) (does_to inner) statement.now) self.old world.old result
+    ) -> Result<(), Stop>
+        ensures { Goes_on W.gives (rule (does_to inner) selectors.now all.now at.now) self.old world.old result
             self.new world.new }
     {
         if self.state.css.is_open() {
-            return fails(FaultCode::BadPlace, &statement.span);
+            return fails(FaultCode::BadPlace, at);
         }
-        let selectors = self.statement_text(inner, &statement.selector, world)?;
-        self.state.opening(
-            self.alloc,
-            &selectors,
-            &statement.selector.span,
-            &statement.span,
-        )?;
-        let value = self.framed(inner, FrameKind::Block, statement.block.as_slice(), world)?;
+        let selectors = selectors.share()?;
+        self.state.opening(selectors, at)?;
+        self.framed(inner, FrameKind::Block, all, world)?;
         close(&mut self.state.css);
-        Ok(value)
+        Ok(())
+    }
+
+    // A block in a frame of its own.
+    #[cycle(walk)]
+    fn framed<W: World>(
+        &mut self,
+        inner: u32,
+        kind: FrameKind,
+        all: &[Statement],
+        world: &mut W,
+    ) -> Result<(), Stop>
+        ensures { Goes_on W.gives (framed (does_to inner) kind all.now) self.old world.old result self.new world.new }
+    {
+        self.state.enter(kind)?;
+        self.block(inner, all, world)?;
+        self.state.leave();
+        Ok(())
+    }
+
+    #[cycle(walk)]
+    fn block<W: World>(&mut self, inner: u32, all: &[Statement], world: &mut W) -> Result<(), Stop>
+        ensures { Goes_on W.gives (block (does_to inner) all.now) self.old world.old result self.new world.new }
+    {
+        for one in all {
+            self.does(inner, one, world)?;
+        }
+        Ok(())
     }
 }

@@ -1,7 +1,7 @@
 -- Evaluations that begin with a kept run.
 use Rattle.std.proofs.Common.{◌≡◌, ℕ, suc, List, [], ◌∷◌, ◌++◌, length, take, drop, Option, Some, None, Ok, refl, sym, ◌∙◌, ap, subst, append_assoc, append-nil, inl}
 use Rattle.sw_text.specs.declared.place.Span.{Span}
-use Rattle.sw_syntax_tree.specs.declared.sheet.Sheet.{Sheet}
+use Rattle.sw_tree.specs.declared.sheet.Sheet.{Sheet}
 use Rattle.sw_values.specs.declared.plain.Plain.{Plain}
 use Rattle.sw_world.specs.declared.op.Op.{Op}
 use Rattle.sw_world.specs.declared.op.Op.TheVariants as ops

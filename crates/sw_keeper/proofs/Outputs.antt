@@ -1,12 +1,12 @@
 -- The outputs of a compile are those of its runs.
-use Rattle.std.proofs.Common.{◌≡◌, Bool, true, false, not, if◌then◌else◌, ℕ, zero, suc, ◌-◌, nat_le, bytes_eq, length, List, [], ◌∷◌, ◌++◌, append_assoc, append-nil, refl, sym, ◌∙◌, ap, Option, None, Some, Result, Ok, Err}
+use Rattle.std.proofs.Common.{◌≡◌, Bool, true, false, if◌then◌else◌, ℕ, zero, suc, ◌-◌, nat_le, bytes_eq, length, List, [], ◌∷◌, ◌++◌, append_assoc, append-nil, refl, sym, ◌∙◌, ap, Option, None, Some, Result, Ok, Err}
 use Rattle.std.specs.Map.{lookup}
 use Rattle.std.specs.FinMap.{get}
 use Rattle.std.proofs.lemmas.List.Concat.{flat_map-append}
 use Rattle.sw_text.specs.declared.place.Span.{Span}
 use Rattle.sw_text.specs.declared.fault.Fault.{Fault}
-use Rattle.sw_text.specs.declared.fault.FaultCode.TheVariants.{Loop, Depth, NotFound}
-use Rattle.sw_syntax_tree.specs.declared.sheet.Sheet.{Sheet}
+use Rattle.sw_text.specs.declared.fault.FaultCode.TheVariants.{Loop, Depth}
+use Rattle.sw_tree.specs.declared.sheet.Sheet.{Sheet}
 use Rattle.sw_values.specs.declared.plain.Plain.{Plain}
 use Rattle.sw_css_tree.specs.Output.{Output}
 use Rattle.sw_css_print.specs.Page.{print}
@@ -27,8 +27,7 @@ use Rattle.sw_modules.specs.declared.module.Module.{Module}
 use Rattle.sw_modules.specs.declared.live.Begin.{Begin}
 use Rattle.sw_modules.specs.declared.live.Begin.TheVariants.{Answered, Open}
 use Rattle.sw_modules.specs.State.{State, nothing_loaded, open_at, path_in, loaded_now}
-use Rattle.sw_modules.specs.BuiltIns.{is_sass, is_built_in}
-use Rattle.sw_modules.specs.Loads.{is_open, refused, first_explicit, built_in_unless, built_in_used, begun, begin_url, begin_path, begin_module, at_once, used_as, used_unless, ended_by, left_by, entered, entry_text, first_untaken}
+use Rattle.sw_modules.specs.Loads.{is_open, refused, begun, begin_url, begin_path, begin_module, at_once, used_as, used_unless, ended_by, left_by, entered, entry_text, first_untaken}
 use Rattle.sw_modules.specs.Outside.{Functions, Outside}
 use Rattle.sw_modules.specs.Fresh.{Setting, Outcome as Evaluated, Evaluation, Response, load_by, responds, ended, turn, goes_on, evaluated_by, fresh, room, rest_of, from_open}
 use Rattle.sw_world.specs.Laws.{most_asked}
@@ -87,23 +86,6 @@ url_outputs (Err R.NotFound) span how config s = refl
 url_outputs (Err R.Ambiguous) span how config s = refl
 url_outputs (Err R.Memory) span how config s = refl
 
-unless_built_in : (given : Option Given) (url : List ℕ) (span : Span) (how : How) (s : State) → (built_in_unless given url span how s).1.outputs ≡ s.outputs
-unless_built_in None url span how s = used_outputs how url [] span s
-unless_built_in (Some given) url span how s = refl
-
-built_in_outputs : (url : List ℕ) (span : Span) (how : How) (config : List Given) (s : State) → (built_in_used url span how config s).1.outputs ≡ s.outputs
-built_in_outputs url span how config s =
-    let used : Answer × State = built_in_unless (first_explicit config) url span how s in
-    either_state (not (is_built_in url)) (refused NotFound span, s) (if nat_le 64 (length s.opened) then (refused Depth span, s) else used) s.outputs refl
-    (either_state (nat_le 64 (length s.opened)) (refused Depth span, s) used s.outputs refl (unless_built_in (first_explicit config) url span how s))
-
-begun_outputs : (site url : List ℕ) (span : Span) (how : How) (config : List Given) (s : State) → (begun (Load site url span how config) s).1.outputs ≡ s.outputs
-begun_outputs site url span how config s =
-    let used : Answer × State = built_in_used url span how config s in
-    let sought : Begin × State = begin_url (resolved s.folder site url s.paths) span how config s in
-    either_state (is_sass url) (at_once used) sought s.outputs (at_once_outputs used ∙ built_in_outputs url span how config s)
-    (url_outputs (resolved s.folder site url s.paths) span how config s)
-
 -- Evaluations
 
 -- the outputs, when the module that was evaluated is left
@@ -128,7 +110,7 @@ response_outputs : (functions : Functions) (inner : Evaluation) → Adds inner �
     → (responds functions inner op o).outside.live.outputs ≡ o.live.outputs ++ outputs_of (responds functions inner op o).runs
 response_outputs functions inner adds (Load site url span how config) o =
     load_outputs inner adds (Load site url span how config) (begun (Load site url span how config) o.live).0 (begun (Load site url span how config) o.live).1 o
-    (begun_outputs site url span how config o.live)
+    (url_outputs (resolved o.live.folder site url o.live.paths) span how config o.live)
 response_outputs functions inner adds (Find site space kind name) o = sym (append-nil o.live.outputs)
 response_outputs functions inner adds (Get owner name) o = sym (append-nil o.live.outputs)
 response_outputs functions inner adds (Put owner name value) o = sym (append-nil o.live.outputs)

@@ -5,8 +5,8 @@ use crate::results::Results;
 use std::alloc::Global;
 use sw_modules::Live;
 use sw_record::Cause;
-use sw_syntax_tree::Sheet;
 use sw_text::{Name, Shared};
+use sw_tree::Sheet;
 use sw_world::{Answer, Config, Engine, Op};
 
 /// What stays as it is during a compile: how texts are read, and the runs that are kept of its entry.

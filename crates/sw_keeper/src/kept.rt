@@ -21,14 +21,13 @@ pub(crate) struct KeptRun<R: Reader, E: Engine> {
 impl<R: Reader, E: Engine> Model for KeptRun<R, E> {
     ghost use Rattle.std.specs.Prelude.{◌≡◌, Ok};
     ghost use Rattle.std.specs.Coded.{codes};
-    ghost use Rattle.sw_syntax_tree.specs.contracts.expr.ExprKind as expr;
-    ghost use Rattle.sw_syntax_tree.specs.contracts.statement.Statement as statement;
+    ghost use Rattle.sw_tree.specs.contracts.statement.Statement as statement;
     ghost use Rattle.sw_values.specs.contracts.plain.Plain as plain;
     ghost use Rattle.sw_world.specs.Body.{Run};
 
     ghost Value = { Run };
 
-    ghost coded = { Prim.hlevel (codes, expr.the_row.coded, statement.the_row.coded, plain.the_row.coded) };
+    ghost coded = { Prim.hlevel (codes, statement.the_row.coded, plain.the_row.coded) };
 
     ghost view = { λ kept. kept.run.run };
 
@@ -71,15 +70,14 @@ pub(crate) struct KeptRuns<R: Reader, E: Engine> {
 
 impl<R: Reader, E: Engine> Model for KeptRuns<R, E> {
     ghost use Rattle.std.specs.Coded.{codes};
-    ghost use Rattle.sw_syntax_tree.specs.contracts.expr.ExprKind as expr;
-    ghost use Rattle.sw_syntax_tree.specs.contracts.statement.Statement as statement;
+    ghost use Rattle.sw_tree.specs.contracts.statement.Statement as statement;
     ghost use Rattle.sw_values.specs.contracts.plain.Plain as plain;
     ghost use Rattle.sw_record.specs.Ran as ran;
     ghost use Rattle.sw_keeper.specs.Keeping.{EachAtItsPath};
 
     ghost Value = { ran.Table };
 
-    ghost coded = { Prim.hlevel (codes, expr.the_row.coded, statement.the_row.coded, plain.the_row.coded) };
+    ghost coded = { Prim.hlevel (codes, statement.the_row.coded, plain.the_row.coded) };
 
     ghost view = { λ kept. kept.table };
 

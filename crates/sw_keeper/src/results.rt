@@ -9,8 +9,8 @@ use crate::kept::KeptRun;
 use std::alloc::Global;
 use std::marker::Model;
 use sw_record::{Cause, Run};
-use sw_syntax_tree::Sheet;
 use sw_text::{List, Memory, Name, Shared};
+use sw_tree::Sheet;
 use sw_world::{Answer, End, Engine, Op, Share};
 
 /// The run of a body that ended.
@@ -44,14 +44,13 @@ pub(crate) struct Results<R: Reader, E: Engine> {
 
 impl<R: Reader, E: Engine> Model for Results<R, E> {
     ghost use Rattle.std.specs.Coded.{codes};
-    ghost use Rattle.sw_syntax_tree.specs.contracts.expr.ExprKind as expr;
-    ghost use Rattle.sw_syntax_tree.specs.contracts.statement.Statement as statement;
+    ghost use Rattle.sw_tree.specs.contracts.statement.Statement as statement;
     ghost use Rattle.sw_values.specs.contracts.plain.Plain as plain;
     ghost use Rattle.sw_keeper.specs.Results as specs;
 
     ghost Value = { specs.Results };
 
-    ghost coded = { Prim.hlevel (codes, expr.the_row.coded, statement.the_row.coded, plain.the_row.coded) };
+    ghost coded = { Prim.hlevel (codes, statement.the_row.coded, plain.the_row.coded) };
 
     ghost view = { λ results. record { runs = results.runs; ran = results.ran } };
 }

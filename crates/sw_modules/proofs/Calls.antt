@@ -1,7 +1,7 @@
 -- The calls of an evaluation lead the host's functions on.
 use Rattle.std.proofs.Common.{◌≡◌, ℕ, zero, suc, ◌+◌, ◌-◌, List, [], ◌∷◌, ◌++◌, length, Result, Ok, Err, refl, sym, ◌∙◌, ap, append_assoc, append-nil, add-zero, add-suc}
 use Rattle.sw_text.specs.declared.fault.Fault.{Fault}
-use Rattle.sw_syntax_tree.specs.declared.sheet.Sheet.{Sheet}
+use Rattle.sw_tree.specs.declared.sheet.Sheet.{Sheet}
 use Rattle.sw_values.specs.declared.plain.Plain.{Plain}
 use Rattle.sw_world.specs.Hosts.{HostState}
 use Rattle.sw_world.specs.declared.op.Op.{Op}

@@ -1,11 +1,11 @@
 -- Evaluations end as the bodies of their modules do.
-use Rattle.std.proofs.Common.{◌≡◌, ◌⊎◌, ℕ, zero, suc, ◌+◌, ◌-◌, ◌<◌, ◌≤◌, Bool, true, false, cond, not, nat_le, List, [], ◌∷◌, ◌++◌, length, bytes_eq, Option, None, Some, Result, Ok, Err, refl, sym, ◌∙◌, ap, subst, inl, inr, arith, length-append}
+use Rattle.std.proofs.Common.{◌≡◌, ◌⊎◌, ℕ, zero, suc, ◌+◌, ◌-◌, ◌<◌, ◌≤◌, Bool, true, false, cond, nat_le, List, [], ◌∷◌, ◌++◌, length, bytes_eq, Option, None, Some, Result, Ok, Err, refl, sym, ◌∙◌, ap, subst, inl, inr, arith, length-append}
 use Rattle.std.specs.Map.{lookup}
 use Rattle.std.specs.FinMap.{get}
 use Rattle.std.proofs.lemmas.List.{length-take}
 use Rattle.sw_text.specs.declared.place.Span.{Span}
 use Rattle.sw_text.specs.declared.fault.Fault.{Fault}
-use Rattle.sw_syntax_tree.specs.declared.sheet.Sheet.{Sheet}
+use Rattle.sw_tree.specs.declared.sheet.Sheet.{Sheet}
 use Rattle.sw_values.specs.declared.plain.Plain.{Plain}
 use Rattle.sw_folder.specs.Resolution.{resolved}
 use Rattle.sw_folder.specs.declared.resolve.ResolveFault.{ResolveFault}
@@ -25,8 +25,7 @@ use Rattle.sw_modules.specs.declared.live.Begin.TheVariants.{Answered, Open}
 use Rattle.sw_modules.specs.State.{State, path_in, loaded_now}
 use Rattle.sw_modules.specs.Uses.{no_uses, is_taken, with_one}
 use Rattle.sw_modules.specs.State.{uses_in}
-use Rattle.sw_modules.specs.BuiltIns.{is_sass, is_built_in}
-use Rattle.sw_modules.specs.Loads.{is_open, is_explicit, first_explicit, built_in_unless, built_in_used, begun, begin_url, begin_path, begin_module, at_once, used_as, used_unless, ended_by, first_untaken}
+use Rattle.sw_modules.specs.Loads.{is_open, is_explicit, begun, begin_url, begin_path, begin_module, at_once, used_as, used_unless, ended_by, first_untaken}
 use Rattle.sw_modules.specs.Outside.{Outside}
 use Rattle.sw_modules.specs.Fresh.{Setting, Outcome, Evaluation, Response, load_by, responds, turn, goes_on, evaluated_by, fresh, room}
 use Rattle.sw_modules.specs.Ends.{EndsAsBody, EachEndsAsBody, IsEndOf, EndsByBodies}
@@ -75,20 +74,6 @@ url_begins (Err R.NotFound) span how config s = refl
 url_begins (Err R.Ambiguous) span how config s = refl
 url_begins (Err R.Memory) span how config s = refl
 
-built_in_unless_opened : (given : Option Given) (url : List ℕ) (span : Span) (how : How) (s : State) → length (built_in_unless given url span how s).1.opened ≡ length s.opened
-built_in_unless_opened None url span how s = used_opened how url [] span s
-built_in_unless_opened (Some given) url span how s = refl
-
-built_in_opened : (url : List ℕ) (span : Span) (how : How) (config : List Given) (s : State) → length (built_in_used url span how config s).1.opened ≡ length s.opened
-built_in_opened url span how config s =
-    if_opened (not (is_built_in url)) _ _ (length s.opened) refl
-    (if_opened (nat_le 64 (length s.opened)) _ _ (length s.opened) refl (built_in_unless_opened (first_explicit config) url span how s))
-
-load_begins : (site url : List ℕ) (span : Span) (how : How) (config : List Given) (s : State) → Begins s (begun (Load site url span how config) s)
-load_begins site url span how config s =
-    if_begins s (is_sass url) _ _ (at_once_begins s (built_in_used url span how config s) (built_in_opened url span how config s))
-    (λ is. url_begins (resolved s.folder site url s.paths) span how config s)
-
 unless_opened : (given : Option Given) (how : How) (path : List ℕ) (taken : List (List ℕ)) (span : Span) (s : State) → length (used_unless given how path taken span s).1.opened ≡ length s.opened
 unless_opened None how path taken span s = used_opened how path taken span s
 unless_opened (Some given) how path taken span s = refl
@@ -136,7 +121,7 @@ module _ (setting : Setting) (loads : ℕ) (inner : Evaluation) (well : Inner se
   responds_well : (op : Op) (o : Outside) → length o.live.opened ≡ loads → RespondsWell setting loads (responds setting.functions inner op o)
   responds_well (Load site url span how config) o same =
       let b = begun (Load site url span how config) o.live in
-      load_responds site url span how config o b.0 b.1 same (load_begins site url span how config o.live)
+      load_responds site url span how config o b.0 b.1 same (url_begins (resolved o.live.folder site url o.live.paths) span how config o.live)
   responds_well (Find site space kind name) o same = record { runs = tt; same_depth = same }
   responds_well (Get owner name) o same = record { runs = tt; same_depth = same }
   responds_well (Put owner name value) o same = record { runs = tt; same_depth = same }

@@ -1,26 +1,18 @@
 -- That answers fit their questions.
-use Rattle.std.proofs.Common.{◌≡◌, ℕ, Bool, true, false, List, Option, None, Some, Result, Ok, Err, IfOk, cond, bytes_eq, find, sym, subst}
-use Rattle.std.specs.List.{list_any}
+use Rattle.std.proofs.Common.{◌≡◌, ℕ, Bool, true, false, List, Option, None, Some, Result, Ok, Err, IfOk, cond, is_some, bytes_eq, sym, subst}
 use Rattle.std.specs.Map.{lookup}
-use Rattle.sw_syntax_tree.specs.declared.callable.Callable as tree
-use Rattle.sw_syntax_tree.specs.declared.callable.Kind.{Kind}
-use Rattle.sw_syntax_tree.specs.declared.callable.Kind.TheVariants.{Variable, Function, Mixin}
-use Rattle.sw_values.specs.declared.plain.Plain.{Plain}
-use Rattle.sw_builtins.specs.declared.built_in.Found.{Found}
-use Rattle.sw_builtins.specs.declared.built_in.Found.TheVariants as F
-use Rattle.sw_builtins.specs.Tables as built_in
+use Rattle.sw_tree.specs.declared.callable.Kind.{Kind}
+use Rattle.sw_tree.specs.declared.callable.Kind.TheVariants.{Variable, Function, Mixin}
 use Rattle.sw_world.specs.declared.op.Op.{Op}
 use Rattle.sw_world.specs.declared.op.Op.TheVariants.{Load, Find, Get, Put, Say, Call}
 use Rattle.sw_world.specs.declared.answer.Answer.{Answer}
-use Rattle.sw_world.specs.declared.answer.Answer.TheVariants.{NoNamespace, NoMember, LeftOut, Conflict, BuiltIn}
+use Rattle.sw_world.specs.declared.answer.Answer.TheVariants.{Owner, NoNamespace, NoMember}
 use Rattle.sw_world.specs.Questions.{IsLoad, Fits}
 use Rattle.sw_modules.specs.declared.module.Module.{Module}
-use Rattle.sw_modules.specs.declared.uses.Use.{Use}
 use Rattle.sw_modules.specs.declared.uses.Uses.{Uses}
-use Rattle.sw_modules.specs.BuiltIns.{is_sass}
 use Rattle.sw_modules.specs.State.{State, path_in, uses_in}
 use Rattle.sw_text.specs.Names.{is_private}
-use Rattle.sw_modules.specs.Names.{variable_of, callable_of, own_member, loaded_own, built_in_member, member_of, public_of, public_member, is_member, brings, brings_other, brought, used_member, loaded_member, found}
+use Rattle.sw_modules.specs.Names.{variable_of, member_of, public_member, used_member, loaded_member, found}
 use Rattle.sw_modules.specs.Outside.{Functions, Outside, plain}
 
 module _ (site : List ℕ) (space : Option (List ℕ)) (name : List ℕ) where
@@ -38,80 +30,26 @@ module _ (site : List ℕ) (space : Option (List ℕ)) (name : List ℕ) where
   no_namespace_fits Function = tt
   no_namespace_fits Mixin = tt
 
-  conflict_fits : (kind : Kind) → Fits (Find site space kind name) Conflict
-  conflict_fits Variable = tt
-  conflict_fits Function = tt
-  conflict_fits Mixin = tt
-
-  left_out_fits : (kind : Kind) → Fits (Find site space kind name) LeftOut
-  left_out_fits Variable = tt
-  left_out_fits Function = tt
-  left_out_fits Mixin = tt
-
-  built_in_fits : (kind : Kind) (url : List ℕ) → Fits (Find site space kind name) (BuiltIn url name)
-  built_in_fits Variable url = tt
-  built_in_fits Function url = tt
-  built_in_fits Mixin url = tt
-
-  -- Modules
-
-  variable_fits : (path : List ℕ) (value : Option Plain) → Fits (Find site space Variable name) (variable_of path name value)
+  variable_fits : (path : List ℕ) (held : Option Module) → Fits (Find site space Variable name) (variable_of path name held)
   variable_fits path None = tt
-  variable_fits path (Some value) = tt
-
-  function_fits : (path : List ℕ) (body : Option tree.Callable) → Fits (Find site space Function name) (callable_of path body)
-  function_fits path None = tt
-  function_fits path (Some body) = tt
-
-  mixin_fits : (path : List ℕ) (body : Option tree.Callable) → Fits (Find site space Mixin name) (callable_of path body)
-  mixin_fits path None = tt
-  mixin_fits path (Some body) = tt
-
-  own_fits : (kind : Kind) (path : List ℕ) (held : Module) → Fits (Find site space kind name) (own_member kind name path held)
-  own_fits Variable path held = variable_fits path (lookup (bytes_eq name) held.variables)
-  own_fits Function path held = function_fits path (lookup (bytes_eq name) held.callables.functions)
-  own_fits Mixin path held = mixin_fits path (lookup (bytes_eq name) held.callables.mixins)
-
-  loaded_own_fits : (kind : Kind) (path : List ℕ) (held : Option Module) → Fits (Find site space kind name) (loaded_own kind name path held)
-  loaded_own_fits kind path None = none_fits kind
-  loaded_own_fits kind path (Some held) = own_fits kind path held
-
-  meaning_fits : (kind : Kind) (url : List ℕ) (meaning : Found) → Fits (Find site space kind name) (built_in_member url name meaning)
-  meaning_fits kind url (F.Known meaning) = built_in_fits kind url
-  meaning_fits kind url F.LeftOut = left_out_fits kind
-  meaning_fits kind url F.NoSuch = none_fits kind
+  variable_fits path (Some held) = either Variable (is_some (lookup (bytes_eq name) held.variables)) (Owner path name) NoMember tt tt
 
   member_fits : (s : State) (kind : Kind) (path : List ℕ) → Fits (Find site space kind name) (member_of s kind name path)
-  member_fits s kind path =
-      either kind (is_sass path) (built_in_member path name (built_in.found (Some path) kind name)) (loaded_own kind name path (lookup (bytes_eq path) s.loaded))
-      (meaning_fits kind path (built_in.found (Some path) kind name)) (loaded_own_fits kind path (lookup (bytes_eq path) s.loaded))
+  member_fits s Variable path = variable_fits path (lookup (bytes_eq path) s.loaded)
+  member_fits s Function path = tt
+  member_fits s Mixin path = tt
 
-  public_fits : (s : State) (kind : Kind) (path : List ℕ) → Fits (Find site space kind name) (public_of s kind name path)
-  public_fits s kind path = either kind (is_private name) NoMember (member_of s kind name path) (none_fits kind) (member_fits s kind path)
-
-  -- Uses
-
-  behind_fits : (s : State) (kind : Kind) (path : Option (List ℕ)) → Fits (Find site space kind name) (public_member s kind name path)
-  behind_fits s kind None = no_namespace_fits kind
-  behind_fits s kind (Some path) = public_fits s kind path
-
-  brought_fits : (s : State) (kind : Kind) (uses : List Use) (one : Option Use) → Fits (Find site space kind name) (brought s kind name uses one)
-  brought_fits s kind uses None = none_fits kind
-  brought_fits s kind uses (Some one) =
-      either kind (list_any (brings_other s kind name one.path) uses) Conflict (public_of s kind name one.path) (conflict_fits kind) (public_fits s kind one.path)
+  public_fits : (s : State) (kind : Kind) (path : Option (List ℕ)) → Fits (Find site space kind name) (public_member s kind name path)
+  public_fits s kind None = no_namespace_fits kind
+  public_fits s kind (Some path) = either kind (is_private name) NoMember (member_of s kind name path) (none_fits kind) (member_fits s kind path)
 
   used_fits : (s : State) (uses : Uses) (kind : Kind) (behind : Option (List ℕ)) → Fits (Find site space kind name) (used_member s uses behind kind name)
-  used_fits s uses kind None = brought_fits s kind uses.others (find (brings s kind name) uses.others)
-  used_fits s uses kind (Some behind) = behind_fits s kind (lookup (bytes_eq behind) uses.named)
-
-  -- Places
+  used_fits s uses kind None = none_fits kind
+  used_fits s uses kind (Some behind) = public_fits s kind (lookup (bytes_eq behind) uses.named)
 
   loaded_fits : (s : State) (kind : Kind) (held : Option Module) (behind : Option (List ℕ)) → Fits (Find site space kind name) (loaded_member s site held behind kind name)
   loaded_fits s kind None behind = none_fits kind
-  loaded_fits s kind (Some held) None =
-      let own : Answer = own_member kind name site held in
-      let used : Answer = used_member s held.uses None kind name in
-      either kind (is_member own) own used (own_fits kind site held) (used_fits s held.uses kind None)
+  loaded_fits s kind (Some held) None = member_fits s kind site
   loaded_fits s kind (Some held) (Some behind) = used_fits s held.uses kind (Some behind)
 
   found_fits : (s : State) (kind : Kind) → Fits (Find site space kind name) (found s site space kind name)

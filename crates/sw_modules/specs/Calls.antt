@@ -1,7 +1,7 @@
 -- The calls of the host's functions in an evaluation, in order (this project's own rule).
 use Rattle.std.specs.Prelude.{◌≡◌, ℕ, zero, suc, ◌-◌, List, [], ◌∷◌, ◌++◌, length, Result, Ok, Err}
 use Rattle.sw_text.specs.declared.fault.Fault.{Fault}
-use Rattle.sw_syntax_tree.specs.declared.sheet.Sheet.{Sheet}
+use Rattle.sw_tree.specs.declared.sheet.Sheet.{Sheet}
 use Rattle.sw_values.specs.declared.plain.Plain.{Plain}
 use Rattle.sw_world.specs.Hosts.{HostState}
 use Rattle.sw_world.specs.declared.op.Op.{Op}

@@ -1,7 +1,5 @@
 pub mod Uses
-pub mod Callables
 pub mod State
-pub mod BuiltIns
 pub mod Names
 pub mod Loads
 pub mod Outside

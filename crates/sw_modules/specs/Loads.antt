@@ -1,6 +1,5 @@
 -- What a load comes to: the refusals in their order, an answer at once, or a module whose body has to run (the Sass
--- specification's modules; the limit of open loads is this project's own). A built-in module is answered at once; no
--- folder is looked into for it.
+-- specification's modules; the limit of open loads is this project's own).
 use Rattle.std.specs.Prelude.{◌≡◌, ◌<◌, ◌≤◌, ℕ, ◌&&◌, not, nat_le, List, [], length, map, find, bytes_eq, Option, None, Some, Result, Ok, Err, if◌then◌else◌, Bool}
 use Rattle.std.specs.List.{list_any}
 use Rattle.std.specs.Map.{lookup}
@@ -31,7 +30,6 @@ use Rattle.sw_modules.specs.declared.live.Begin.TheVariants.{Answered, Open}
 use Rattle.sw_modules.specs.declared.live.Enter.{Enter}
 use Rattle.sw_modules.specs.declared.live.Enter.TheVariants.{Refused as Refused_entry, Open as Open_entry}
 use Rattle.sw_modules.specs.Uses.{is_taken}
-use Rattle.sw_modules.specs.BuiltIns.{is_sass, is_built_in}
 use Rattle.sw_modules.specs.State.{State, open_at, uses_in, with_use, closed, loaded_now}
 
 abbrev pub refused : FaultCode → Span → Answer
@@ -46,10 +44,6 @@ config_of given = insert_all bytes_eq [] (map (λ one. (one.name, one.value)) gi
 
 abbrev pub is_explicit : List Given → Bool
 is_explicit given = list_any (λ one. one.explicit) given
-
--- the first value that is given in a `with`
-abbrev pub first_explicit : List Given → Option Given
-first_explicit given = find (λ one. one.explicit) given
 
 -- the first name that is given in a `with` and isn't taken
 abbrev pub first_untaken : List Given → List (List ℕ) → Option Given
@@ -83,23 +77,9 @@ begin_url (Err R.NotFound) span how config s = (Answered (refused NotFound span)
 begin_url (Err R.Ambiguous) span how config s = (Answered (refused Ambiguous span), s)
 begin_url (Err R.Memory) span how config s = (Answered (refused NotFound span), s)
 
--- a built-in module is used, unless a `with` gives values to it
-abbrev pub built_in_unless : Option Given → List ℕ → Span → How → State → Answer × State
-built_in_unless None url span how s = used_as how url [] span s
-built_in_unless (Some given) url span how s = (refused NotConfigurable given.span, s)
-
--- the answer to the load of a built-in module, and the next state
-abbrev pub built_in_used : List ℕ → Span → How → List Given → State → Answer × State
-built_in_used url span how config s =
-    if not (is_built_in url) then (refused NotFound span, s)
-    else if nat_le 64 (length s.opened) then (refused Depth span, s)
-    else built_in_unless (first_explicit config) url span how s
-
 -- what a load begins with, and the next state
 abbrev pub begun : Op → State → Begin × State
-begun (Load site url span how config) s =
-    if is_sass url then at_once (built_in_used url span how config s)
-    else begin_url (resolved s.folder site url s.paths) span how config s
+begun (Load site url span how config) s = begin_url (resolved s.folder site url s.paths) span how config s
 begun _ s = (Answered Done, s)
 
 -- a module whose body is done is used, unless a name of a `with` wasn't taken

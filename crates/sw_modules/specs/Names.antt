@@ -1,128 +1,51 @@
--- What a name means in a module (the Sass specification's modules). Behind a namespace it is a public member of the
--- module that is used so. Without one it is an own member of the module in which it is written, or else a public member
--- of the modules that are used there `as *`; what is forwarded isn't looked at yet. A built-in module has the members
--- that the Sass reference documentation gives it, of which this language leaves out some.
-use Rattle.std.specs.Prelude.{ℕ, List, bytes_eq, find, Bool, true, false, ◌&&◌, not, Option, None, Some, if◌then◌else◌}
-use Rattle.std.specs.List.{list_any}
+-- What a name means in a module (the Sass specification's modules; sheets have variables alone so far, and each of
+-- their uses has a namespace).
+use Rattle.std.specs.Prelude.{ℕ, List, bytes_eq, Option, None, Some, is_some, if◌then◌else◌}
 use Rattle.std.specs.Option.{option_map_or}
 use Rattle.std.specs.Map.{lookup}
 use Rattle.sw_text.specs.Names.{is_private}
-use Rattle.sw_syntax_tree.specs.declared.callable.Callable as tree
-use Rattle.sw_syntax_tree.specs.declared.callable.Kind.{Kind}
-use Rattle.sw_syntax_tree.specs.declared.callable.Kind.TheVariants.{Variable, Function, Mixin}
+use Rattle.sw_tree.specs.declared.callable.Kind.{Kind}
+use Rattle.sw_tree.specs.declared.callable.Kind.TheVariants.{Variable, Function, Mixin}
 use Rattle.sw_values.specs.declared.plain.Plain.{Plain}
 use Rattle.sw_values.specs.declared.plain.Plain.TheVariants.{Null}
-use Rattle.sw_builtins.specs.declared.built_in.Found.{Found}
-use Rattle.sw_builtins.specs.declared.built_in.Found.TheVariants as F
-use Rattle.sw_builtins.specs.Tables as built_in
-use Rattle.sw_world.specs.declared.op.How.{How}
-use Rattle.sw_world.specs.declared.op.How.TheVariants.{Use as Use_how, Forward}
 use Rattle.sw_world.specs.declared.answer.Answer.{Answer}
-use Rattle.sw_world.specs.declared.answer.Answer.TheVariants.{Owner, Callable, BuiltIn, NoNamespace, NoMember, LeftOut, Conflict}
+use Rattle.sw_world.specs.declared.answer.Answer.TheVariants.{Owner, NoNamespace, NoMember}
 use Rattle.sw_modules.specs.declared.module.Module.{Module}
-use Rattle.sw_modules.specs.declared.uses.Use.{Use}
 use Rattle.sw_modules.specs.declared.uses.Uses.{Uses}
-use Rattle.sw_modules.specs.BuiltIns.{is_sass}
 use Rattle.sw_modules.specs.State.{State, path_in, uses_in}
 
--- ---- what a module has of a name
-
 -- the module at a path has this variable
-abbrev pub variable_of : List ℕ → List ℕ → Option Plain → Answer
+abbrev pub variable_of : List ℕ → List ℕ → Option Module → Answer
 variable_of path name None = NoMember
-variable_of path name (Some value) = Owner path name
+variable_of path name (Some held) =
+    if is_some (lookup (bytes_eq name) held.variables) then Owner path name else NoMember
 
--- the module at a path has this function or mixin
-abbrev pub callable_of : List ℕ → Option tree.Callable → Answer
-callable_of path None = NoMember
-callable_of path (Some body) = Callable path body
-
--- its own members, private ones among them
-abbrev pub own_member : Kind → List ℕ → List ℕ → Module → Answer
-own_member Variable name path held = variable_of path name (lookup (bytes_eq name) held.variables)
-own_member Function name path held = callable_of path (lookup (bytes_eq name) held.callables.functions)
-own_member Mixin name path held = callable_of path (lookup (bytes_eq name) held.callables.mixins)
-
-abbrev pub loaded_own : Kind → List ℕ → List ℕ → Option Module → Answer
-loaded_own kind name path None = NoMember
-loaded_own kind name path (Some held) = own_member kind name path held
-
--- what the name of a built-in module is
-abbrev pub built_in_member : List ℕ → List ℕ → Found → Answer
-built_in_member url name (F.Known meaning) = BuiltIn url name
-built_in_member url name F.LeftOut = LeftOut
-built_in_member url name F.NoSuch = NoMember
-
--- a member of the module at a path, or of the built-in module of a URL
 abbrev pub member_of : State → Kind → List ℕ → List ℕ → Answer
-member_of s kind name path =
-    if is_sass path then built_in_member path name (built_in.found (Some path) kind name)
-    else loaded_own kind name path (lookup (bytes_eq path) s.loaded)
-
--- ---- behind a namespace
+member_of s Variable name path = variable_of path name (lookup (bytes_eq path) s.loaded)
+member_of s Function name path = NoMember
+member_of s Mixin name path = NoMember
 
 -- a public member of the module at a path
-abbrev pub public_of : State → Kind → List ℕ → List ℕ → Answer
-public_of s kind name path = if is_private name then NoMember else member_of s kind name path
-
--- a public member of the module that is used so
 abbrev pub public_member : State → Kind → List ℕ → Option (List ℕ) → Answer
 public_member s kind name None = NoNamespace
-public_member s kind name (Some path) = public_of s kind name path
+public_member s kind name (Some path) = if is_private name then NoMember else member_of s kind name path
 
--- ---- without a namespace
-
-abbrev pub is_member : Answer → Bool
-is_member NoMember = false
-is_member _ = true
-
-abbrev pub is_star : How → Bool
-is_star (Use_how None) = true
-is_star (Use_how (Some space)) = false
-is_star (Forward prefix filter) = false
-
--- a module is used `as *` and has this public member
-abbrev pub brings : State → Kind → List ℕ → Use → Bool
-brings s kind name one = is_star one.how && is_member (public_of s kind name one.path)
-
-abbrev pub brings_other : State → Kind → List ℕ → List ℕ → Use → Bool
-brings_other s kind name path other = brings s kind name other && not (bytes_eq path other.path)
-
--- what the first of these uses brings, unless another one brings another module's
-abbrev pub brought : State → Kind → List ℕ → List Use → Option Use → Answer
-brought s kind name uses None = NoMember
-brought s kind name uses (Some one) =
-    if list_any (brings_other s kind name one.path) uses then Conflict
-    else public_of s kind name one.path
-
--- a public member of the modules that are used `as *`
-abbrev pub star_member : State → Kind → List ℕ → List Use → Answer
-star_member s kind name uses = brought s kind name uses (find (brings s kind name) uses)
-
+-- behind a namespace of these uses; without one no used module is looked at yet, also none that is used `as *`
 abbrev pub used_member : State → Uses → Option (List ℕ) → Kind → List ℕ → Answer
-used_member s uses None kind name = star_member s kind name uses.others
+used_member s uses None kind name = NoMember
 used_member s uses (Some space) kind name = public_member s kind name (lookup (bytes_eq space) uses.named)
 
--- ---- at a place
-
-abbrev pub own_or_used : Answer → Answer → Answer
-own_or_used own used = if is_member own then own else used
-
--- in a loaded module its own members are looked at first where there is no namespace
+-- in a loaded module its own members are looked at where there is no namespace
 abbrev pub loaded_member : State → List ℕ → Option Module → Option (List ℕ) → Kind → List ℕ → Answer
 loaded_member s site None space kind name = NoMember
-loaded_member s site (Some held) None kind name =
-    own_or_used (own_member kind name site held) (used_member s held.uses None kind name)
+loaded_member s site (Some held) None kind name = member_of s kind name site
 loaded_member s site (Some held) (Some space) kind name = used_member s held.uses (Some space) kind name
 
--- what a name means in the module at `site`: one that is being loaded is the innermost open load, whose own members its
--- body knows
+-- what a name means in the module at `site`: one that is being loaded is the innermost open load
 abbrev pub found : State → List ℕ → Option (List ℕ) → Kind → List ℕ → Answer
 found s site space kind name =
     if bytes_eq site (path_in s.opened) then used_member s (uses_in s.opened) space kind name
     else loaded_member s site (lookup (bytes_eq site) s.loaded) space kind name
-
--- ---- the value of a variable
 
 -- null stands for a variable that isn't there; no body asks for one
 abbrev pub no_value : Plain

@@ -13,7 +13,6 @@ use Rattle.sw_modules.specs.declared.module.Module.{Module}
 use Rattle.sw_modules.specs.declared.module.Opened.{Opened}
 use Rattle.sw_modules.specs.declared.uses.Uses.{Uses}
 use Rattle.sw_modules.specs.Uses.{no_uses, with_one}
-use Rattle.sw_modules.specs.Callables.{callables_of}
 
 -- the folder and the load paths; the loaded modules by their paths, in the order in which their bodies ended; the open
 -- loads, the innermost one last; the messages; the outputs of the modules whose bodies ended, in that order
@@ -63,8 +62,7 @@ closed s = record s { opened = below s.opened }
 
 -- the module that a body left behind, with these uses
 abbrev pub module_of : Finish → Uses → Module
-module_of finish uses =
-    record { variables = finish.variables; callables = callables_of finish.callables; uses = uses }
+module_of finish uses = record { variables = finish.variables; uses = uses }
 
 -- the module at a path has these uses
 abbrev pub used_by : List (List ℕ × Module) → List ℕ → Uses → List (List ℕ × Module)

@@ -1,15 +1,21 @@
 // Questions that are no loads.
 ghost use Rattle.std.specs.Prelude.{◌≡◌, ◌++◌, ◌∷◌, [], bytes_eq, IfOk, OnOk, OnErr, None, Some};
 ghost use Rattle.std.specs.Map.{lookup};
+ghost use Rattle.std.specs.Option.{option_map};
 ghost use Rattle.sw_world.specs.Questions.{IsLoad, Fits};
 ghost use Rattle.sw_world.specs.declared.answer.Answer.TheVariants.{Value as Value_answer};
-ghost use Rattle.sw_modules.specs.Names.{found, value_of, no_value};
+ghost use Rattle.sw_modules.specs.Names.{found, used_member, loaded_member, public_member, member_of, value_of, no_value};
+ghost use Rattle.sw_text.specs.Names.{is_private};
 ghost use Rattle.sw_modules.specs.Outside.{plain};
-ghost use Rattle.sw_modules.specs.State.{with_variable};
+ghost use Rattle.sw_modules.specs.State.{path_in, uses_in, with_variable};
 
-use crate::Live;
+use crate::live::Recent;
+use crate::loads::{is_innermost, use_of};
+use crate::names::{Found, variable_of};
+use crate::{Live, Used};
 use std::alloc::Global;
 use sw_text::{Memory, Name, Span};
+use sw_tree::Kind;
 use sw_values::Value;
 use sw_world::{Answer, Hosts, Op, SayKind, World};
 
@@ -45,6 +51,104 @@ impl<'a> Live<'a> {
                 let given = hosts.call(self.allocator(), name, args.get())?;
                 Ok(Answer::Hosted(given))
             }
+        }
+    }
+
+    /// What a name means. Where it was found is where the next one is looked for first.
+    fn find(
+        &mut self,
+        site: &Name,
+        space: &Option<Name>,
+        kind: Kind,
+        name: &Name,
+    ) -> Result<Answer, Memory>
+        ensures found { IfOk result (λ answer. answer ≡ found self.old site.now space.now kind name.now) }
+        ensures same { self.new ≡ self.old }
+    {
+        let Found { answer, recent } = self.found(site, space, kind, name)?;
+        self.recent = recent;
+        Ok(answer)
+    }
+
+    fn found(
+        &self,
+        site: &Name,
+        space: &Option<Name>,
+        kind: Kind,
+        name: &Name,
+    ) -> Result<Found, Memory>
+        ensures { IfOk result (λ it. it.answer ≡ found self.now site.now space.now kind name.now) }
+    {
+        if is_innermost(self.opened(), site) {
+            return self.used_now(space, kind, name);
+        }
+        match self.loaded().get(site) {
+            None => Ok(self.missed(Answer::NoMember)),
+            Some(held) => match space {
+                None => self.member_of(kind, name, site, self.recent),
+                Some(space) => {
+                    let used = held.uses.named.find(space, self.recent.space);
+                    self.public_member(kind, name, used)
+                }
+            },
+        }
+    }
+
+    fn used_now(&self, space: &Option<Name>, kind: Kind, name: &Name) -> Result<Found, Memory>
+        ensures { IfOk result (λ it. it.answer
+            ≡ used_member self.now (uses_in self.now.opened) space.now kind name.now) }
+    {
+        match space {
+            None => Ok(self.missed(Answer::NoMember)),
+            Some(space) => {
+                let used = use_of(self.opened(), space, self.recent.space);
+                self.public_member(kind, name, used)
+            }
+        }
+    }
+
+    fn public_member(
+        &self,
+        kind: Kind,
+        name: &Name,
+        used: Option<(usize, &Used)>,
+    ) -> Result<Found, Memory>
+        ensures { IfOk result (λ it. it.answer
+            ≡ public_member self.now kind name.now (option_map (λ found. found.1.now) used.entry)) }
+    {
+        match used {
+            None => Ok(self.missed(Answer::NoNamespace)),
+            Some((place, used)) => {
+                if name.is_private() {
+                    Ok(self.missed(Answer::NoMember))
+                } else {
+                    let recent = Recent {
+                        space: place,
+                        module: used.near,
+                        variable: self.recent.variable,
+                    };
+                    self.member_of(kind, name, used.path(), recent)
+                }
+            }
+        }
+    }
+
+    fn member_of(&self, kind: Kind, name: &Name, path: &Name, near: Recent) -> Result<Found, Memory>
+        ensures { IfOk result (λ it. it.answer ≡ member_of self.now kind name.now path.now) }
+    {
+        match kind {
+            Kind::Variable => variable_of(self.loaded(), path, name, near),
+            Kind::Function => Ok(self.missed(Answer::NoMember)),
+            Kind::Mixin => Ok(self.missed(Answer::NoMember)),
+        }
+    }
+
+    fn missed(&self, answer: Answer) -> Found
+        ensures { result.answer ≡ answer }
+    {
+        Found {
+            answer,
+            recent: self.recent,
         }
     }
 

@@ -1,23 +1,19 @@
 //! What is outside the bodies of one compile: which module a load opens or answers, what a name means, what variables
-//! hold. Questions come up from the engine; the folder and the names of built-in modules are read, answers go down.
+//! hold. Questions come up from the engine; the folder is read, answers go down.
 #![tactic(auto)]
 
 mod ask;
-mod built_ins;
-mod callables;
 mod ends;
 mod laws;
 mod live;
 mod loaded;
 mod loads;
-mod meaning;
 mod module;
 mod names;
 mod uses;
 mod variables;
 
 pub use ask::Asked;
-pub use callables::Callables;
 pub use laws::{calls_lead, comes_by, ends_by_bodies};
 pub use live::{Begin, Enter, Finished, Live};
 pub use loaded::Loaded;

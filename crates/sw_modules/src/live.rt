@@ -8,7 +8,6 @@ ghost use Rattle.sw_folder.specs.Files.{most_bytes};
 ghost use Rattle.sw_world.specs.declared.op.How.{How};
 ghost use Rattle.sw_modules.specs.Loads.{entry_fault, is_explicit, refused, first_untaken};
 
-use crate::built_ins::is_sass;
 use crate::loads::{add_use, config_of, is_explicit, is_open, refused, takes};
 use crate::{Loaded, Opened, Uses};
 use std::alloc::Global;
@@ -19,7 +18,7 @@ use sw_text::{Fault, FaultCode, List, Memory, Name, Shared, Span};
 use sw_values::Value;
 use sw_world::{Answer, Config, Given, How, Op, SayKind, Saying};
 
-pub(crate) const MOST_OPEN: usize = 64;
+const MOST_OPEN: usize = 64;
 
 /// What a load begins with.
 #[derive(Drop)]
@@ -73,14 +72,13 @@ pub struct Live<'a> {
 impl<'a> Model for Live<'a> {
     ghost use Rattle.std.specs.Coded.{codes};
     ghost use Rattle.sw_folder.specs.Files.{files_code};
-    ghost use Rattle.sw_syntax_tree.specs.contracts.expr.ExprKind as expr;
-    ghost use Rattle.sw_syntax_tree.specs.contracts.statement.Statement as statement;
+    ghost use Rattle.sw_tree.specs.contracts.statement.Statement as statement;
     ghost use Rattle.sw_values.specs.contracts.plain.Plain as plain;
     ghost use Rattle.sw_modules.specs.State.{State};
 
     ghost Value = { State };
 
-    ghost coded = { Prim.hlevel (codes, files_code, expr.the_row.coded, statement.the_row.coded, plain.the_row.coded) };
+    ghost coded = { Prim.hlevel (codes, files_code, statement.the_row.coded, plain.the_row.coded) };
 
     ghost view = { λ live. record {
       folder = live.folder.now;
@@ -168,9 +166,9 @@ impl<'a> Live<'a> {
         }
     }
 
-    /// The answer to a load, or the module whose body has to run for it. The refusals of a URL of the folder come in
-    /// this order: it means no file or several; the module is being loaded; 64 loads are open; the module is loaded and
-    /// a `with` gives values to it; its namespace stands for a module already. After `Memory` the state is as before.
+    /// The answer to a load, or the module whose body has to run for it. The refusals come in this order: the URL means
+    /// no file or several; the module is being loaded; 64 loads are open; the module is loaded and a `with` gives
+    /// values to it; its namespace stands for a module already. After `Memory` the state is as before.
     pub fn begin(&mut self, op: &Op) -> Result<Begin, Memory>
         requires { IsLoad op.now }
         ensures ok { IfOk result (λ begin. begun op.now self.old ≡ (begin, self.new)) }
@@ -187,13 +185,8 @@ impl<'a> Live<'a> {
         else {
             unreachable!()
         };
-        let config = config.get().as_slice();
-        if is_sass(url.as_str()) {
-            let answer = self.use_built_in(url, span, how, config)?;
-            return Ok(Begin::Answered(answer));
-        }
         match self.folder.resolve(site.as_str(), url.as_str(), self.paths) {
-            Ok(path) => self.begin_path(path, span, how, config),
+            Ok(path) => self.begin_path(path, span, how, config.get().as_slice()),
             Err(ResolveFault::NotFound) => Ok(Begin::Answered(refused(FaultCode::NotFound, span)?)),
             Err(ResolveFault::Ambiguous) => {
                 Ok(Begin::Answered(refused(FaultCode::Ambiguous, span)?))
@@ -272,7 +265,7 @@ impl<'a> Live<'a> {
         }
     }
 
-    pub(crate) fn used_as(
+    fn used_as(
         &mut self,
         how: &How,
         path: Name,

@@ -6,7 +6,7 @@ ghost use Rattle.indexmap.specs.IndexMap.{insert_entry};
 ghost use Rattle.sw_modules.specs.Uses.{no_uses};
 ghost use Rattle.sw_modules.specs.State.{module_of, used_by, with_variable};
 
-use crate::{Module, Uses};
+use crate::{Module, Uses, Variables};
 use indexmap::IndexMap;
 use std::alloc::Global;
 use std::marker::Model;
@@ -23,14 +23,13 @@ pub struct Loaded {
 impl Model for Loaded {
     ghost use Rattle.std.specs.Prelude.{List, ℕ};
     ghost use Rattle.std.specs.Coded.{codes};
-    ghost use Rattle.sw_syntax_tree.specs.contracts.expr.ExprKind as expr;
-    ghost use Rattle.sw_syntax_tree.specs.contracts.statement.Statement as statement;
+    ghost use Rattle.sw_tree.specs.contracts.statement.Statement as statement;
     ghost use Rattle.sw_values.specs.contracts.plain.Plain as plain;
     ghost use Rattle.sw_modules.specs.declared.module.Module.{Module};
 
     ghost Value = { List (List ℕ × Module) };
 
-    ghost coded = { Prim.hlevel (codes, expr.the_row.coded, statement.the_row.coded, plain.the_row.coded) };
+    ghost coded = { Prim.hlevel (codes, statement.the_row.coded, plain.the_row.coded) };
 
     ghost view = { λ loaded. loaded.entries.entries };
 }
@@ -79,9 +78,11 @@ impl Loaded {
             ≡ insert_entry bytes_eq self.old path.now (module_of finish.now no_uses)) }
         ensures err { OnErr result (self.new ≡ self.old) }
     {
-        let path = path.share()?;
-        let held = Module::of(alloc, finish)?;
-        self.entries.insert(path, held)?;
+        let held = Module {
+            variables: Variables::of(finish)?,
+            uses: Uses::new(alloc),
+        };
+        self.entries.insert(path.share()?, held)?;
         Ok(())
     }
 

@@ -5,9 +5,9 @@ ghost use Rattle.std.specs.Map.{lookup};
 ghost use Rattle.std.specs.Option.{option_copied, option_map};
 ghost use Rattle.sw_modules.specs.State.{below, changed_at, path_in, uses_in, with_use};
 ghost use Rattle.sw_modules.specs.Uses.{is_taken, no_uses, with_one, without_last};
-ghost use Rattle.sw_modules.specs.Loads.{refused, is_open, config_of, is_explicit, first_explicit, first_untaken};
+ghost use Rattle.sw_modules.specs.Loads.{refused, is_open, config_of, is_explicit, first_untaken};
 
-use crate::Opened;
+use crate::{Opened, Used};
 use std::alloc::Global;
 use sw_text::{Fault, FaultCode, List, Memory, Name, Shared, Span};
 use sw_world::{Answer, Config, Given, How, Table};
@@ -34,6 +34,21 @@ pub(crate) fn is_innermost(opened: &[Opened], path: &Name) -> bool
     match opened.last() {
         Some(load) => path.same(&load.path),
         None => path.as_str() == "",
+    }
+}
+
+/// The module that a namespace of the innermost open load stands for, and the place of that namespace, which is looked
+/// for near another place first.
+pub(crate) fn use_of<'o>(
+    opened: &'o [Opened],
+    space: &Name,
+    near: usize,
+) -> Option<(usize, &'o Used)>
+    ensures { option_map (λ found. found.1.now) result ≡ lookup (bytes_eq space.now) (uses_in opened.now).named }
+{
+    match opened.last() {
+        Some(load) => load.uses.named.find(space, near),
+        None => None,
     }
 }
 
@@ -111,18 +126,6 @@ pub(crate) fn is_explicit(config: &[Given]) -> bool
     ensures { result ≡ is_explicit config.now }
 {
     config.iter().any(|given| given.explicit)
-}
-
-/// The first value that a `with` gives.
-pub(crate) fn first_explicit(config: &[Given]) -> Option<&Given>
-    ensures { option_copied result ≡ first_explicit config.now }
-{
-    'given: for one in config {
-        if one.explicit {
-            return Some(one);
-        }
-    }
-    None
 }
 
 /// The names and values of a configuration.

@@ -1,19 +1,12 @@
 // Modules and open loads.
-ghost use Rattle.std.specs.Prelude.{◌≡◌, IfOk};
-ghost use Rattle.sw_modules.specs.State.{module_of};
-ghost use Rattle.sw_modules.specs.Uses.{no_uses};
-
-use crate::{Callables, Uses, Variables};
-use std::alloc::Global;
-use sw_text::{Memory, Name, Shared};
-use sw_world::Finish;
+use crate::{Uses, Variables};
+use sw_text::Name;
 
 /// A loaded module.
 #[derive(Drop)]
 pub struct Module {
     /// The values that its own variables have now.
     pub variables: Variables,
-    pub callables: Callables,
     pub uses: Uses,
 }
 
@@ -23,18 +16,4 @@ pub struct Opened {
     pub path: Name,
     /// The modules that it uses so far.
     pub uses: Uses,
-}
-
-impl Module {
-    /// What a body left behind, as yet without the module's uses.
-    pub fn of(alloc: Global, finish: &Shared<Finish>) -> Result<Module, Memory>
-        ensures { IfOk result (λ held. held ≡ module_of finish.now no_uses) }
-    {
-        let callables = Callables::of(alloc, finish.get().callables.as_slice())?;
-        Ok(Module {
-            variables: Variables::of(finish)?,
-            callables,
-            uses: Uses::new(alloc),
-        })
-    }
 }

@@ -1,15 +1,12 @@
-// What a module has of a name.
-ghost use Rattle.std.specs.Prelude.{◌≡◌, bytes_eq, ℕ, List, IfOk};
+// What a name means.
+ghost use Rattle.std.specs.Prelude.{◌≡◌, bytes_eq, IfOk};
 ghost use Rattle.std.specs.Map.{lookup};
-ghost use Rattle.std.specs.Option.{option_copied};
-ghost use Rattle.sw_modules.specs.Names.{variable_of, callable_of, own_member, built_in_member, is_member, is_star};
+ghost use Rattle.sw_modules.specs.Names.{variable_of};
 
+use crate::Loaded;
 use crate::live::Recent;
-use crate::{Module, Variables};
-use sw_builtins::Found as Meaning;
-use sw_syntax_tree::{Callable, Kind};
-use sw_text::{Memory, Name, Shared};
-use sw_world::{Answer, How};
+use sw_text::{Memory, Name};
+use sw_world::Answer;
 
 /// What a name means, and the places at which that was found.
 #[derive(Drop)]
@@ -18,33 +15,23 @@ pub struct Found {
     pub(crate) recent: Recent,
 }
 
-/// The answer that the module at a path has an own member, or hasn't.
-pub(crate) fn own_member(
-    held: &Module,
-    path: &Name,
-    kind: Kind,
-    name: &Name,
-    near: Recent,
-) -> Result<Found, Memory>
-    ensures { IfOk result (λ it. it.answer ≡ own_member kind name.now path.now held.now) }
-{
-    match kind {
-        Kind::Variable => variable_of(&held.variables, path, name, near),
-        Kind::Function => callable_of(held.callables.functions.get(name), path, near),
-        Kind::Mixin => callable_of(held.callables.mixins.get(name), path, near),
-    }
-}
-
-// The variable is looked for near the place of the last one first.
-fn variable_of(
-    variables: &Variables,
+/// The answer that the module at a path has a variable, or hasn't. Both are looked for near these places first.
+pub(crate) fn variable_of(
+    loaded: &Loaded,
     path: &Name,
     name: &Name,
     near: Recent,
 ) -> Result<Found, Memory>
-    ensures { IfOk result (λ it. it.answer ≡ variable_of path.now name.now (lookup (bytes_eq name.now) variables.now)) }
+    ensures { IfOk result (λ it. it.answer
+        ≡ variable_of path.now name.now (lookup (bytes_eq path.now) loaded.now)) }
 {
-    match variables.find(name, near.variable) {
+    let Some((module, held)) = loaded.find(path, near.module) else {
+        return Ok(Found {
+            answer: Answer::NoMember,
+            recent: near,
+        });
+    };
+    match held.variables.find(name, near.variable) {
         None => Ok(Found {
             answer: Answer::NoMember,
             recent: near,
@@ -52,7 +39,7 @@ fn variable_of(
         Some((variable, _)) => {
             let recent = Recent {
                 space: near.space,
-                module: near.module,
+                module,
                 variable,
             };
             let answer = Answer::Owner {
@@ -61,75 +48,5 @@ fn variable_of(
             };
             Ok(Found { answer, recent })
         }
-    }
-}
-
-fn callable_of(body: Option<&Shared<Callable>>, path: &Name, near: Recent) -> Result<Found, Memory>
-    ensures { IfOk result (λ it. it.answer ≡ callable_of path.now (option_copied body.entry)) }
-{
-    let answer = match body {
-        None => Answer::NoMember,
-        Some(body) => Answer::Callable {
-            site: path.share()?,
-            body: body.share()?,
-        },
-    };
-    Ok(Found {
-        answer,
-        recent: near,
-    })
-}
-
-/// What a name of the built-in module of a URL is, by its meaning there.
-pub(crate) fn built_in_member(url: &Name, name: &Name, meaning: Meaning) -> Result<Answer, Memory>
-    ensures { IfOk result (λ answer. answer ≡ built_in_member url.now name.now meaning) }
-{
-    match meaning {
-        Meaning::Known(_) => Ok(Answer::BuiltIn {
-            module: url.share()?,
-            name: name.share()?,
-        }),
-        Meaning::LeftOut => Ok(Answer::LeftOut),
-        Meaning::NoSuch => Ok(Answer::NoMember),
-    }
-}
-
-/// Whether an answer is that a name means something.
-pub(crate) fn is_member(answer: &Answer) -> bool
-    ensures { result ≡ is_member answer.now }
-{
-    !matches!(answer, Answer::NoMember)
-}
-
-/// Whether the members of a module that is used so are written as the sheet's own.
-pub(crate) fn is_star(how: &How) -> bool
-    ensures { result ≡ is_star how.now }
-{
-    match how {
-        How::Use { space: None } => true,
-        How::Use { space: Some(_) } => false,
-        How::Forward { .. } => false,
-    }
-}
-
-/// Whether a module has an own member.
-pub(crate) fn has_own(held: &Module, kind: Kind, name: &Name) -> bool
-    ensures { (path : List ℕ) → result ≡ is_member (own_member kind name.now path held.now) }
-{
-    match kind {
-        Kind::Variable => held.variables.has(name),
-        Kind::Function => held.callables.functions.has(name),
-        Kind::Mixin => held.callables.mixins.has(name),
-    }
-}
-
-/// Whether a built-in module has a member, by what its name means there.
-pub(crate) fn has_meaning(meaning: Meaning) -> bool
-    ensures { (url : List ℕ) (name : List ℕ) → result ≡ is_member (built_in_member url name meaning) }
-{
-    match meaning {
-        Meaning::Known(_) => true,
-        Meaning::LeftOut => true,
-        Meaning::NoSuch => false,
     }
 }

@@ -7,8 +7,7 @@ use std::marker::Model;
 use sw_text::{List, Memory, Name};
 use sw_world::{How, Table};
 
-/// The path of a module that is used, or the URL of a built-in one, with a guess of its place among the loaded ones.
-/// Contracts see the path.
+/// The path of a module that is used, with a guess of its place among the loaded ones. Contracts see the path.
 #[derive(Drop)]
 pub struct Used {
     pub(crate) path: Name,

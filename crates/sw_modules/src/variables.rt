@@ -1,7 +1,7 @@
 // The variables of a loaded module.
 ghost use Rattle.std.specs.Prelude.{◌≡◌, bytes_eq, IfOk, OnOk, OnErr};
 ghost use Rattle.std.specs.Map.{lookup, set_value};
-ghost use Rattle.std.specs.Option.{option_map, is_some};
+ghost use Rattle.std.specs.Option.{option_map};
 
 use std::alloc::Global;
 use std::marker::Model;
@@ -40,16 +40,6 @@ impl Variables {
             finish: finish.share()?,
             own: None,
         })
-    }
-
-    /// Whether there is a value of this name.
-    pub fn has(&self, name: &Name) -> bool
-        ensures { result ≡ is_some (lookup (bytes_eq name.now) self.now) }
-    {
-        match &self.own {
-            Some(own) => own.has(name),
-            None => self.finish.get().variables.has(name),
-        }
     }
 
     /// The value of a name, and its place. The place `near` and the one behind it are looked at first; what is found is

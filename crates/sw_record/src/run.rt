@@ -7,8 +7,8 @@ ghost use Rattle.sw_record.specs.Kept.{IsKept, printed_of};
 use std::alloc::Global;
 use std::marker::{Model, PhantomData};
 use sw_css_print::{Printed, print_one};
-use sw_syntax_tree::Sheet;
 use sw_text::{List, Memory, Name, Shared};
+use sw_tree::Sheet;
 use sw_world::{Answer, Config, End, Engine, Op};
 
 /// A body that ran from its start to its end, with the sheet that it ran. Its questions and its end are those of the
@@ -27,15 +27,14 @@ pub struct Run<E: Engine> {
 
 impl<E: Engine> Model for Run<E> {
     ghost use Rattle.std.specs.Coded.{codes};
-    ghost use Rattle.sw_syntax_tree.specs.contracts.expr.ExprKind as expr;
-    ghost use Rattle.sw_syntax_tree.specs.contracts.statement.Statement as statement;
+    ghost use Rattle.sw_tree.specs.contracts.statement.Statement as statement;
     ghost use Rattle.sw_values.specs.contracts.plain.Plain as plain;
     ghost use Rattle.std.specs.Prelude.{◌≡◌};
     ghost use Rattle.sw_record.specs.Kept.{Kept, IsKept, printed_of};
 
     ghost Value = { Kept };
 
-    ghost coded = { Prim.hlevel (codes, expr.the_row.coded, statement.the_row.coded, plain.the_row.coded) };
+    ghost coded = { Prim.hlevel (codes, statement.the_row.coded, plain.the_row.coded) };
 
     ghost view = { λ run. record {
       sheet = run.sheet;

@@ -1,6 +1,6 @@
 -- The arguments of a call, in the order in which they are written (Sass reference documentation, "Passing Arguments",
 -- "Argument Lists", "Keyword Arguments").
-use Rattle.std.specs.Prelude.{Bool, true, false, not, ◌&&◌, ◌||◌, List, [], ◌∷◌, ◌++◌, Option, Some, None}
+use Rattle.std.specs.Prelude.{ℕ, Bool, true, false, not, ◌&&◌, ◌||◌, ◌==◌, if◌then◌else◌, List, [], ◌∷◌, ◌++◌, map, Option, Some, None}
 use Rattle.std.specs.Option.{is_some}
 use Rattle.sw_text.specs.Names.{dashed}
 use Rattle.sw_values.specs.declared.plain.Plain.{Plain}

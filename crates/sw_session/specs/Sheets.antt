@@ -4,8 +4,8 @@ use Rattle.std.specs.List.{ends_with}
 use Rattle.sw_text.specs.Starts.{start_of}
 use Rattle.sw_text.specs.declared.fault.FaultCode.TheVariants.{Syntax}
 use Rattle.sw_text.specs.declared.fault.Fault.{Fault}
-use Rattle.sw_syntax_tree.specs.declared.sheet.Sheet.{Sheet}
-use Rattle.sw_sheet_parse.specs.Readings.{sheet_of}
+use Rattle.sw_tree.specs.declared.sheet.Sheet.{Sheet}
+use Rattle.sw_scss_parse.specs.SheetReading.{sheet_of}
 use Rattle.sw_world.specs.Body.{BodyOf}
 use Rattle.sw_modules.specs.Fresh.{Setting, setting_of}
 

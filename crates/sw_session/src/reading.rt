@@ -2,14 +2,13 @@
 ghost use Rattle.std.specs.Prelude.{◌≡◌, ◌≤◌, length, IfOk};
 ghost use Rattle.sw_folder.specs.Files.{most_bytes};
 ghost use Rattle.sw_session.specs.Sheets.{sheet_at, is_scss, unread};
-ghost use Rattle.sw_sheet_parse.specs.Readings.{sheet_of};
+ghost use Rattle.sw_scss_parse.specs.SheetReading.{sheet_of};
 
 use std::alloc::Global;
-use sw_expr_parse::ReadEnd;
 use sw_keeper::Reader;
-use sw_sheet_parse::read;
-use sw_syntax_tree::Sheet;
+use sw_scss_parse::{ReadEnd, read_sheet};
 use sw_text::{Fault, FaultCode, Memory, Name, Shared, SheetText, Span};
+use sw_tree::Sheet;
 
 /// Reads each file by the extension of its path. A file that isn't `.scss` gives `Syntax` at its first place.
 #[derive(Clone, Copy, Debug)]
@@ -57,7 +56,7 @@ fn read_scss(
 {
     let sheet_text = SheetText::new(alloc, path.share()?, text.share()?)?;
     let sheet_text = Shared::new(alloc, sheet_text)?;
-    match read(alloc, &sheet_text) {
+    match read_sheet(alloc, &sheet_text) {
         Ok(sheet) => Ok(Ok(sheet)),
         Err(ReadEnd::Fault(fault)) => Ok(Err(fault)),
         Err(ReadEnd::Memory) => Err(Memory),

@@ -5,8 +5,8 @@ use crate::values::{DEPTH, inspected};
 use std::alloc::Global;
 use sw_row_files::{Refusal, answer_of};
 use sw_scope::{FrameKind, Mark, Origin, Passed, Scopes, Slot, bind};
-use sw_syntax_tree::{Expr, ExprKind, Param, Params};
 use sw_text::{List, Name, Span};
+use sw_tree::{Expr, Param, Params};
 use sw_values::{Node, Value};
 
 pub fn answer(alloc: Global, name: &str, text: &str) -> Result<String, Refusal> {
@@ -57,8 +57,7 @@ fn param(alloc: Global, text: &str) -> Result<Param, Refusal> {
 fn variable(alloc: Global, name: &str) -> Result<Expr, Refusal> {
     let name = Name::new(alloc, name)?;
     let span = Span::start_of(&name)?;
-    let kind = ExprKind::Variable(name);
-    Ok(Expr { kind, span })
+    Ok(Expr::Variable { name, span })
 }
 
 fn passed(alloc: Global, text: &str) -> Result<Passed, Refusal> {

@@ -3,8 +3,8 @@ ghost use Rattle.std.specs.Prelude.{◌≡◌, IfOk};
 
 use crate::{Op, Table};
 use sw_css_tree::CssTree;
-use sw_syntax_tree::Callable;
 use sw_text::{Fault, List, Memory, Name, Shared};
+use sw_tree::Callable;
 use sw_values::Value;
 
 /// The names and values with which a module is configured; each name once.

@@ -1,16 +1,11 @@
-use Rattle.std.proofs.Common.{◌≡◌, suc, ◌+◌, ⊎_elim, arith}
-use Rattle.sw_syntax_tree.specs.declared.statement.Statement as S
-use Rattle.sw_eval.specs.Layers.{place_of}
+use Rattle.std.proofs.Common.{◌≡◌, arith}
+use Rattle.sw_tree.specs.declared.statement.Statement as S
 use Rattle.sw_eval.specs.Ran.{still}
-use Rattle.sw_eval.specs.Flow.{block, framed, branches, repeat, repeats, repeat_in}
-use Rattle.sw_eval.specs.Statements.{rule, does_one}
-use Rattle.sw_eval.specs.Means.{value_to, does_to}
-use Rattle.sw_eval.proofs.Steps.{no_memory_by, gives_state, did_value, did_err, did_then, did_plain, ran_then, ran_did}
+use Rattle.sw_eval.specs.Means.{block, framed, rule, does_one, does_to}
+use Rattle.sw_eval.proofs.Steps.{no_memory, no_memory_by, gives_state, did_value, did_err, did_then, did_plain, ran_then, ran_did}
 use Rattle.sw_eval.proofs.Depth.{one_level_does}
-use Rattle.sw_eval.proofs.Opens.{out_Rule, out_If, out_While}
+use Rattle.sw_eval.proofs.Opens.{out_Rule}
 use Rattle.sw_eval.proofs.Loops.{loop_at, loop_end}
-use Rattle.sw_eval.proofs.Choices.{did_yes, did_no}
-use Rattle.sw_eval.proofs.Counts.{turn_at, turn_end}
 use Rattle.sw_eval.proofs.walk.Walk.+walk.Goals as goal
 
 pub does-returns-then-depth-eq0 : goal.does-returns-then-depth-eq0
@@ -32,11 +27,15 @@ does_one-returns-in-Assignment g t c = rw c.in-Assignment.is c.assigned.ensures
 
 pub does_one-returns-in-Declaration : goal.does_one-returns-in-Declaration
 unfolding does_one S.out-Statement denote.Hole.Carrier.out
-does_one-returns-in-Declaration g t c = rw c.in-Declaration.is c.declaration.ensures
+does_one-returns-in-Declaration g t c = rw c.in-Declaration.is (rw c.plain.ensures at c.declaration.ensures)
 
 pub does_one-returns-in-Rule : goal.does_one-returns-in-Rule
 unfolding does_one
-does_one-returns-in-Rule g t c = rw (c.in-Rule.is, out_Rule) c.rule.ensures
+does_one-returns-in-Rule g t c = rw (c.in-Rule.is, out_Rule) (rw (c.plain-in-Rule.ensures, c.as_slice.ensures) at c.rule.ensures)
+
+pub does_one-returns-in-Use : goal.does_one-returns-in-Use
+unfolding does_one S.out-Statement denote.Hole.Carrier.out
+does_one-returns-in-Use g t c = rw c.in-Use.is (did_plain _ c.args.self.now.state _ _ _ (c.fails.ensures c.args.self.now.state))
 
 pub rule-returns-then-is_open : goal.rule-returns-then-is_open
 unfolding rule
@@ -44,153 +43,47 @@ rule-returns-then-is_open g t c =
     rw (← c.is_open.ensures, c.if-is_open.true) (did_plain _ c.args.self.now.state _ _ _ (c.fails.ensures c.args.self.now.state))
 
 pub rule-returns-in_err-selectors : goal.rule-returns-in_err-selectors
-unfolding rule
-rule-returns-in_err-selectors g t c =
-    rw (← c.is_open.ensures, c.if-is_open.false) (did_err _ c.in_err-selectors.ensures c.from_residual.ensures)
+rule-returns-in_err-selectors g t c = no_memory _ c.args.self.now.state _ _ _ c.from_residual.ensures
 
 pub rule-returns-in_err-opening : goal.rule-returns-in_err-opening
 unfolding rule
 rule-returns-in_err-opening g t c =
-    rw (← c.is_open.ensures, c.if-is_open.false) (did_then _ c.in_ok-selectors.ensures (did_err _ (did_plain _ _ _ _ _ c.in_err-opening.ensures) c.from_residual-in_err-opening.ensures))
+    rw (← c.is_open.ensures, c.if-is_open.false, ← c.in_ok-selectors.ensures) (did_err _ (did_plain _ _ _ _ _ c.in_err-opening.ensures) c.from_residual-in_err-opening.ensures)
 
-pub rule-returns-in_err-value : goal.rule-returns-in_err-value
+pub rule-returns-in_err-framed : goal.rule-returns-in_err-framed
 unfolding rule
-rule-returns-in_err-value g t c =
-    rw (← c.is_open.ensures, c.if-is_open.false) (did_then _ c.in_ok-selectors.ensures (did_then _ (did_plain _ _ _ _ _ c.in_ok-opening.ensures) (did_err _ (rw c.as_slice.ensures at c.in_err-value.ensures) c.from_residual-in_err-value.ensures)))
+rule-returns-in_err-framed g t c =
+    rw (← c.is_open.ensures, c.if-is_open.false, ← c.in_ok-selectors.ensures) (did_then _ (did_plain _ _ _ _ _ c.in_ok-opening.ensures) (did_err _ c.in_err-framed.ensures c.from_residual-in_err-framed.ensures))
 
 pub rule-returns : goal.rule-returns
 unfolding rule
 rule-returns g t c =
-    rw (← c.is_open.ensures, c.if-is_open.false, c.close.ensures) (did_then _ c.in_ok-selectors.ensures (did_then _ (did_plain _ _ _ _ _ c.in_ok-opening.ensures) (did_then _ (rw c.as_slice.ensures at c.in_ok-value.ensures) (did_value _ _ _ _))))
+    rw (← c.is_open.ensures, c.if-is_open.false, ← c.in_ok-selectors.ensures, c.close.ensures) (did_then _ (did_plain _ _ _ _ _ c.in_ok-opening.ensures) (did_then _ c.in_ok-framed.ensures (did_value _ _ _ _)))
 
 pub framed-returns-in_err-enter : goal.framed-returns-in_err-enter
 framed-returns-in_err-enter g t c = no_memory_by _ _ _ _ _ _ _ _ c.in_err-enter.ensures c.from_residual.ensures
 
-pub framed-returns-in_err-value : goal.framed-returns-in_err-value
+pub framed-returns-in_err-block : goal.framed-returns-in_err-block
 unfolding framed
-framed-returns-in_err-value g t c =
-    rw (gives_state c.in_ok-enter.ensures) (did_err _ c.in_err-value.ensures c.from_residual-in_err-value.ensures)
+framed-returns-in_err-block g t c =
+    rw (gives_state c.in_ok-enter.ensures) (did_err _ c.in_err-block.ensures c.from_residual-in_err-block.ensures)
 
 pub framed-returns : goal.framed-returns
 unfolding framed
 framed-returns g t c =
-    rw (gives_state c.in_ok-enter.ensures) (did_then _ c.in_ok-value.ensures (rw c.leave.ensures (did_value _ _ _ _)))
+    rw (gives_state c.in_ok-enter.ensures) (did_then _ c.in_ok-block.ensures (rw c.leave.ensures (did_value _ _ _ _)))
 
 pub block-loop-one-init : goal.block-loop-one-init
 block-loop-one-init g t c = still _ _ _
 
-pub block-returns-in_err-value : goal.block-returns-in_err-value
-block-returns-in_err-value g t c =
-    ran_did (loop_at (λ l s. block (does_to c.args.inner) l s) c.args.all.now c.loop-one.one-index c.one-item.result c.loop-one.self.state c.loop-one-test.true c.one-item.is c.loop-one.invariant) (did_err _ c.in_err-value.ensures c.from_residual.ensures)
-
-pub block-returns-in-Some : goal.block-returns-in-Some
-block-returns-in-Some g t c =
-    ran_did (loop_at (λ l s. block (does_to c.args.inner) l s) c.args.all.now c.loop-one.one-index c.one-item.result c.loop-one.self.state c.loop-one-test.true c.one-item.is c.loop-one.invariant) (did_then _ (rw c.in-Some.is at c.in_ok-value.ensures) (did_value _ _ _ _))
+pub block-returns-in_err-does : goal.block-returns-in_err-does
+block-returns-in_err-does g t c =
+    ran_did (loop_at (λ l s. block (does_to c.args.inner) l s) c.args.all.now c.loop-one.one-index c.one-item.result c.loop-one.self.state c.loop-one-test.true c.one-item.is c.loop-one.invariant) (did_err _ c.in_err-does.ensures c.from_residual.ensures)
 
 pub block-loop-one-preserved : goal.block-loop-one-preserved
 block-loop-one-preserved g t c =
-    ran_then _ (loop_at (λ l s. block (does_to c.args.inner) l s) c.args.all.now c.loop-one.one-index c.one-item.result c.loop-one.self.state c.loop-one-test.true c.one-item.is c.loop-one.invariant) (rw c.in_default.is at c.in_ok-value.ensures)
+    ran_then _ (loop_at (λ l s. block (does_to c.args.inner) l s) c.args.all.now c.loop-one.one-index c.one-item.result c.loop-one.self.state c.loop-one-test.true c.one-item.is c.loop-one.invariant) c.in_ok-does.ensures
 
 pub block-returns : goal.block-returns
 block-returns g t c =
     ran_did (loop_end (λ l s. block (does_to c.args.inner) l s) c.args.all.now c.loop-one.one-index c.loop-one.self.state (omega arith) c.loop-one.invariant) (did_value _ _ _ _)
-
-pub does_one-returns-in-Use : goal.does_one-returns-in-Use
-unfolding does_one place_of S.out-Statement denote.Hole.Carrier.out
-does_one-returns-in-Use g t c =
-    (⊎_elim (λ p. rw p.1 (did_plain _ c.args.self.now.state _ _ _ (rw (c.place_of.ensures, p.1) at (c.fails.ensures c.args.self.now.state))))
-    (⊎_elim (λ p. rw p.1 (did_plain _ c.args.self.now.state _ _ _ (rw (c.place_of.ensures, p.1) at (c.fails.ensures c.args.self.now.state))))
-    (⊎_elim (λ p. rw p.1 (did_plain _ c.args.self.now.state _ _ _ (rw (c.place_of.ensures, p.1) at (c.fails.ensures c.args.self.now.state))))
-    (⊎_elim (λ p. rw p.1 (did_plain _ c.args.self.now.state _ _ _ (rw (c.place_of.ensures, p.1) at (c.fails.ensures c.args.self.now.state))))
-    (⊎_elim (λ p. rw p.1 (did_plain _ c.args.self.now.state _ _ _ (rw (c.place_of.ensures, p.1) at (c.fails.ensures c.args.self.now.state))))
-    (⊎_elim (λ p. rw p.3 (did_plain _ c.args.self.now.state _ _ _ (rw (c.place_of.ensures, p.3) at (c.fails.ensures c.args.self.now.state))))
-    (⊎_elim (λ p. rw p.1 (did_plain _ c.args.self.now.state _ _ _ (rw (c.place_of.ensures, p.1) at (c.fails.ensures c.args.self.now.state))))
-    (⊎_elim (λ p. rw p.1 (did_plain _ c.args.self.now.state _ _ _ (rw (c.place_of.ensures, p.1) at (c.fails.ensures c.args.self.now.state))))
-    (⊎_elim (λ p. rw p.1 (did_plain _ c.args.self.now.state _ _ _ (rw (c.place_of.ensures, p.1) at (c.fails.ensures c.args.self.now.state))))
-    (⊎_elim (λ p. rw p.1 (did_plain _ c.args.self.now.state _ _ _ (rw (c.place_of.ensures, p.1) at (c.fails.ensures c.args.self.now.state))))
-    (⊎_elim (λ p. rw p.1 (did_plain _ c.args.self.now.state _ _ _ (rw (c.place_of.ensures, p.1) at (c.fails.ensures c.args.self.now.state))))
-    (⊎_elim (λ p. rw p.1 (did_plain _ c.args.self.now.state _ _ _ (rw (c.place_of.ensures, p.1) at (c.fails.ensures c.args.self.now.state))))
-    (⊎_elim (λ p. rw p.1 (did_plain _ c.args.self.now.state _ _ _ (rw (c.place_of.ensures, p.1) at (c.fails.ensures c.args.self.now.state))))
-    (⊎_elim (λ p. rw p.1 (did_plain _ c.args.self.now.state _ _ _ (rw (c.place_of.ensures, p.1) at (c.fails.ensures c.args.self.now.state))))
-    (⊎_elim (λ p. rw p.1 (did_plain _ c.args.self.now.state _ _ _ (rw (c.place_of.ensures, p.1) at (c.fails.ensures c.args.self.now.state))))
-    (⊎_elim (λ p. rw p.1 (did_plain _ c.args.self.now.state _ _ _ (rw (c.place_of.ensures, p.1) at (c.fails.ensures c.args.self.now.state))))
-    (⊎_elim (λ p. rw p.1 (did_plain _ c.args.self.now.state _ _ _ (rw (c.place_of.ensures, p.1) at (c.fails.ensures c.args.self.now.state))))
-    (⊎_elim (λ p. rw p.1 (did_plain _ c.args.self.now.state _ _ _ (rw (c.place_of.ensures, p.1) at (c.fails.ensures c.args.self.now.state))))
-    (λ p. rw p.1 (did_plain _ c.args.self.now.state _ _ _ (rw (c.place_of.ensures, p.1) at (c.fails.ensures c.args.self.now.state)))))))))))))))))))))) c.in-Use.is
-
-pub does_one-returns-in-If : goal.does_one-returns-in-If
-unfolding does_one
-does_one-returns-in-If g t c = rw (c.in-If.is, out_If) (rw c.as_slice.ensures at c.branches.ensures)
-
-pub does_one-returns-in-While : goal.does_one-returns-in-While
-unfolding does_one
-does_one-returns-in-While g t c = rw (c.in-While.is, out_While) c.repeat_in.ensures
-
-pub branches-loop-one-init : goal.branches-loop-one-init
-branches-loop-one-init g t c = still _ _ _
-
-pub branches-returns-in_err-holds : goal.branches-returns-in_err-holds
-branches-returns-in_err-holds g t c =
-    ran_did (loop_at (λ l s. branches (value_to c.args.inner) (does_to c.args.inner) c.args.otherwise.now l s) c.args.all.now c.loop-one.one-index c.one-item.result c.loop-one.self.state c.loop-one-test.true c.one-item.is c.loop-one.invariant) (did_err _ c.in_err-holds.ensures c.from_residual.ensures)
-
-pub branches-returns-then-holds : goal.branches-returns-then-holds
-branches-returns-then-holds g t c =
-    ran_did (loop_at (λ l s. branches (value_to c.args.inner) (does_to c.args.inner) c.args.otherwise.now l s) c.args.all.now c.loop-one.one-index c.one-item.result c.loop-one.self.state c.loop-one-test.true c.one-item.is c.loop-one.invariant) (did_then _ c.in_ok-holds.ensures (did_yes _ _ _ c.if-holds.true (rw c.as_slice.ensures at c.framed.ensures)))
-
-pub branches-loop-one-preserved : goal.branches-loop-one-preserved
-branches-loop-one-preserved g t c =
-    rw c.if-holds.false at (ran_then _ (loop_at (λ l s. branches (value_to c.args.inner) (does_to c.args.inner) c.args.otherwise.now l s) c.args.all.now c.loop-one.one-index c.one-item.result c.loop-one.self.state c.loop-one-test.true c.one-item.is c.loop-one.invariant) c.in_ok-holds.ensures)
-
-pub branches-returns-in-Some : goal.branches-returns-in-Some
-branches-returns-in-Some g t c =
-    ran_did (loop_end (λ l s. branches (value_to c.args.inner) (does_to c.args.inner) c.args.otherwise.now l s) c.args.all.now c.loop-one.one-index c.loop-one.self.state (omega arith) c.loop-one.invariant) (rw c.in-Some.is (rw c.as_slice-in-Some.ensures at c.framed-in-Some.ensures))
-
-pub branches-returns-in-None : goal.branches-returns-in-None
-branches-returns-in-None g t c =
-    ran_did (loop_end (λ l s. branches (value_to c.args.inner) (does_to c.args.inner) c.args.otherwise.now l s) c.args.all.now c.loop-one.one-index c.loop-one.self.state (omega arith) c.loop-one.invariant) (rw c.in-None.is (did_value _ _ _ _))
-
-pub repeats-loop-left-init : goal.repeats-loop-left-init
-unfolding repeats
-repeats-loop-left-init g t c =
-    let tests : c.from-left.result + 1 ≡ suc c.args.self.now.state.turns = omega (arith, c.from-left.ensures) in rw tests (still _ _ _)
-
-pub repeats-returns-in_err-goes_on : goal.repeats-returns-in_err-goes_on
-repeats-returns-in_err-goes_on g t c =
-    ran_did (turn_at (λ n s. repeat (value_to c.args.inner) (does_to c.args.inner) c.args.statement.now n s) c.loop-left.left c.loop-left.self.state c.loop-left-test.true c.loop-left.invariant) (did_err _ c.in_err-goes_on.ensures c.from_residual.ensures)
-
-pub repeats-returns-then-not-goes_on : goal.repeats-returns-then-not-goes_on
-repeats-returns-then-not-goes_on g t c =
-    ran_did (turn_at (λ n s. repeat (value_to c.args.inner) (does_to c.args.inner) c.args.statement.now n s) c.loop-left.left c.loop-left.self.state c.loop-left-test.true c.loop-left.invariant) (did_then _ c.in_ok-goes_on.ensures (did_no _ _ _ c.if-not-goes_on.true (did_value _ _ _ _)))
-
-pub repeats-returns-in_err-spend : goal.repeats-returns-in_err-spend
-repeats-returns-in_err-spend g t c =
-    ran_did (turn_at (λ n s. repeat (value_to c.args.inner) (does_to c.args.inner) c.args.statement.now n s) c.loop-left.left c.loop-left.self.state c.loop-left-test.true c.loop-left.invariant) (did_then _ c.in_ok-goes_on.ensures (did_yes _ _ _ c.if-not-goes_on.false (did_err _ (did_plain _ _ _ _ _ c.in_err-spend.ensures) c.from_residual-in_err-spend.ensures)))
-
-pub repeats-returns-in_err-value : goal.repeats-returns-in_err-value
-repeats-returns-in_err-value g t c =
-    ran_did (turn_at (λ n s. repeat (value_to c.args.inner) (does_to c.args.inner) c.args.statement.now n s) c.loop-left.left c.loop-left.self.state c.loop-left-test.true c.loop-left.invariant) (did_then _ c.in_ok-goes_on.ensures (did_yes _ _ _ c.if-not-goes_on.false (did_then _ (did_plain _ _ _ _ _ c.in_ok-spend.ensures) (did_err _ (rw c.as_slice.ensures at c.in_err-value.ensures) c.from_residual-in_err-value.ensures))))
-
-pub repeats-returns-in-Some : goal.repeats-returns-in-Some
-repeats-returns-in-Some g t c =
-    ran_did (turn_at (λ n s. repeat (value_to c.args.inner) (does_to c.args.inner) c.args.statement.now n s) c.loop-left.left c.loop-left.self.state c.loop-left-test.true c.loop-left.invariant) (did_then _ c.in_ok-goes_on.ensures (did_yes _ _ _ c.if-not-goes_on.false (did_then _ (did_plain _ _ _ _ _ c.in_ok-spend.ensures) (did_then _ (rw (c.as_slice.ensures, c.in-Some.is) at c.in_ok-value.ensures) (did_value _ _ _ _)))))
-
-pub repeats-loop-left-preserved : goal.repeats-loop-left-preserved
-repeats-loop-left-preserved g t c =
-    ran_then _ (ran_then _ (rw c.if-not-goes_on.false at (ran_then _ (turn_at (λ n s. repeat (value_to c.args.inner) (does_to c.args.inner) c.args.statement.now n s) c.loop-left.left c.loop-left.self.state c.loop-left-test.true c.loop-left.invariant) c.in_ok-goes_on.ensures)) (did_plain _ _ _ _ _ c.in_ok-spend.ensures)) (rw (c.as_slice.ensures, c.in_default.is) at c.in_ok-value.ensures)
-
-pub repeats-returns : goal.repeats-returns
-repeats-returns g t c =
-    ran_did (turn_end (λ n s. repeat (value_to c.args.inner) (does_to c.args.inner) c.args.statement.now n s) c.loop-left.left c.loop-left.self.state (omega arith) c.loop-left.invariant) (did_plain _ c.loop-left.self.state _ _ _ (c.fails.ensures c.loop-left.self.state))
-
-pub repeat_in-returns-in_err-enter : goal.repeat_in-returns-in_err-enter
-repeat_in-returns-in_err-enter g t c = no_memory_by _ _ _ _ _ _ _ _ c.in_err-enter.ensures c.from_residual.ensures
-
-pub repeat_in-returns-in_err-value : goal.repeat_in-returns-in_err-value
-unfolding repeat_in
-repeat_in-returns-in_err-value g t c =
-    rw (gives_state c.in_ok-enter.ensures) (did_err _ c.in_err-value.ensures c.from_residual-in_err-value.ensures)
-
-pub repeat_in-returns : goal.repeat_in-returns
-unfolding repeat_in
-repeat_in-returns g t c =
-    rw (gives_state c.in_ok-enter.ensures) (did_then _ c.in_ok-value.ensures (rw c.leave.ensures (did_value _ _ _ _)))

@@ -1,8 +1,7 @@
 use Rattle.std.proofs.Common.{◌+◌, ◌*◌, drop}
 use Rattle.sw_eval.specs.Did.{stand}
 use Rattle.sw_eval.specs.Ran.{Ran}
-use Rattle.sw_eval.specs.Flow.{block, branches, repeat, repeats}
-use Rattle.sw_eval.specs.Means.{value_to, does_to}
+use Rattle.sw_eval.specs.Means.{block, does_to}
 use Rattle.sw_eval.proofs.walk.Walk.+walk.Given as goal
 
 abbrev pub decreases-does : goal.decreases-does
@@ -23,23 +22,3 @@ decreases-block g l = 8 * l.inner + 1
 abbrev pub invariant-block-loop-one : goal.invariant-block-loop-one
 invariant-block-loop-one g l =
     Ran g.W.World.gives (block (does_to l.inner) l.all l.fn.self.state) (stand l.fn.self.asked) l.fn.world (block (does_to l.inner) (drop l.one-index l.all) l.self.state) (stand l.self.asked) l.world
-
-abbrev pub decreases-branches : goal.decreases-branches
-decreases-branches g l = 8 * l.inner + 3
-
-abbrev pub decreases-repeats : goal.decreases-repeats
-decreases-repeats g l = 8 * l.inner + 2
-
-abbrev pub decreases-repeat_in : goal.decreases-repeat_in
-decreases-repeat_in g l = 8 * l.inner + 3
-
-abbrev pub invariant-branches-loop-one : goal.invariant-branches-loop-one
-invariant-branches-loop-one g l =
-    Ran g.W.World.gives (branches (value_to l.inner) (does_to l.inner) l.otherwise l.all l.fn.self.state) (stand l.fn.self.asked) l.fn.world (branches (value_to l.inner) (does_to l.inner) l.otherwise (drop l.one-index l.all) l.self.state) (stand l.self.asked) l.world
-
-abbrev pub invariant-repeats-loop-left : goal.invariant-repeats-loop-left
-invariant-repeats-loop-left g l =
-    Ran g.W.World.gives (repeats (value_to l.inner) (does_to l.inner) l.statement l.fn.self.state) (stand l.fn.self.asked) l.fn.world (repeat (value_to l.inner) (does_to l.inner) l.statement l.left l.self.state) (stand l.self.asked) l.world
-
-abbrev pub decreases-repeats-loop-left : goal.decreases-repeats-loop-left
-decreases-repeats-loop-left g l = l.left

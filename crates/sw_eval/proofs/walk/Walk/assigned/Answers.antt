@@ -1,11 +1,15 @@
-use Rattle.sw_eval.specs.Statements.{assigned}
-use Rattle.sw_eval.proofs.Choices.{did_yes, did_no}
+use Rattle.sw_eval.specs.Means.{assigned}
+use Rattle.sw_eval.proofs.Steps.{did_err, did_then}
 use Rattle.sw_eval.proofs.walk.Walk.assigned.Goals as goal
 
-pub returns-then-statement : goal.returns-then-statement
+pub returns-in_err-value : goal.returns-in_err-value
 unfolding assigned
-returns-then-statement g c = did_yes _ _ _ c.if-statement.true c.assigned_default.ensures
+returns-in_err-value g c = did_err _ c.in_err-value.ensures c.from_residual.ensures
 
-pub returns-else-statement : goal.returns-else-statement
+pub returns-in_err-owner : goal.returns-in_err-owner
 unfolding assigned
-returns-else-statement g c = did_no _ _ _ c.if-statement.false c.assigned_always.ensures
+returns-in_err-owner g c = did_then _ c.in_ok-value.ensures (did_err _ c.in_err-owner.ensures c.from_residual-in_err-owner.ensures)
+
+pub returns : goal.returns
+unfolding assigned
+returns g c = did_then _ c.in_ok-value.ensures (did_then _ c.in_ok-owner.ensures c.putting.ensures)

@@ -1,28 +1,15 @@
-use Rattle.sw_eval.specs.Statements.{variable_set}
-use Rattle.sw_eval.proofs.Steps.{did_value, did_err, did_then}
+use Rattle.sw_eval.specs.Means.{variable_set}
+use Rattle.sw_eval.proofs.Steps.{no_memory, did_err, did_then, did_plain}
 use Rattle.sw_eval.proofs.walk.Walk.variable_set.Goals as goal
-
-pub returns-in_err-kept : goal.returns-in_err-kept
-unfolding variable_set
-returns-in_err-kept g c =
-    did_err _ c.in_err-kept.ensures c.from_residual.ensures
-
-pub returns-then-kept : goal.returns-then-kept
-unfolding variable_set
-returns-then-kept g c =
-    did_then _ c.in_ok-kept.ensures (rw c.if-kept.true (did_value _ _ _ _))
 
 pub returns-in_err-value : goal.returns-in_err-value
 unfolding variable_set
-returns-in_err-value g c =
-    did_then _ c.in_ok-kept.ensures (rw c.if-kept.false (did_err _ c.in_err-value.ensures c.from_residual-in_err-value.ensures))
+returns-in_err-value g c = did_err _ c.in_err-value.ensures c.from_residual.ensures
 
-pub returns-in_err-stored : goal.returns-in_err-stored
+pub returns-in_err-name : goal.returns-in_err-name
 unfolding variable_set
-returns-in_err-stored g c =
-    did_then _ c.in_ok-kept.ensures (rw c.if-kept.false (did_then _ c.in_ok-value.ensures (did_err _ c.in_err-stored.ensures c.from_residual-in_err-stored.ensures)))
+returns-in_err-name g c = did_then _ c.in_ok-value.ensures (no_memory _ c.value.new.self.state _ _ _ c.from_residual-in_err-name.ensures)
 
 pub returns : goal.returns
 unfolding variable_set
-returns g c =
-    did_then _ c.in_ok-kept.ensures (rw c.if-kept.false (did_then _ c.in_ok-value.ensures (did_then _ c.in_ok-stored.ensures (did_value _ _ _ _))))
+returns g c = did_then _ c.in_ok-value.ensures (did_plain _ _ _ _ _ (rw c.in_ok-name.ensures at c.set_by.ensures))

@@ -12,8 +12,8 @@ on_err (Err x) p = p
 pub returns-in_err-set-clause-err : goal.returns-in_err-set-clause-err
 returns-in_err-set-clause-err c =
     let held : Module = c.in-Some.held.now in
-    let left : Module = record held { variables = c.set.new.self } in
-    let same : left ≡ held = ap (λ v. record held { variables = v }) c.in_err-set.ensures.err in
+    let left : Module = record { variables = c.set.new.self; uses = held.uses } in
+    let same : left ≡ held = ap (λ v. record { variables = v; uses = held.uses }) c.in_err-set.ensures.err in
     on_err c.from_residual.result (
     (c.get_mut.follows.holds left).0
     ∙ ap (λ es. set_value (bytes_eq c.args.owner.now) es left) c.self.view_is

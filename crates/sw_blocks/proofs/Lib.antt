@@ -1,4 +1,0 @@
-pub mod Braces
-pub mod Collected
-pub mod Repeated
-pub mod Made

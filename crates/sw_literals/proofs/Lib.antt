@@ -1,4 +1,0 @@
-pub mod Limits
-pub mod Keys
-pub mod Parts
-mod Examples

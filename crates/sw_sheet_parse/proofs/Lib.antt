@@ -1,6 +1,0 @@
-pub mod Choices
-pub mod Rows
-pub mod LaidLemmas
-pub mod StatesOf
-pub mod Alike
-pub mod Sheets

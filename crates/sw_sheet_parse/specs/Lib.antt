@@ -1,4 +1,0 @@
-pub mod Starts
-pub mod Laid
-pub mod Seen
-pub mod Readings
