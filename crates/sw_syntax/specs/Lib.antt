@@ -1,5 +1,6 @@
 pub mod Parts
 pub mod Sources
+pub mod Lined
 pub mod Numerals
 pub mod Sets
 pub mod Operators
