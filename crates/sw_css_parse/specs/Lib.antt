@@ -1,0 +1,10 @@
+pub mod Sorts
+pub mod Places
+pub mod Lexemes
+pub mod Seen
+pub mod Sheets
+pub mod Rows
+pub mod Reads
+pub mod Inner
+pub mod Ends
+pub mod Reading
