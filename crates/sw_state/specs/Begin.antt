@@ -1,0 +1,25 @@
+-- What a body begins with, and what is left of its turns (limits and places of faults are this project's own).
+use Rattle.std.specs.Prelude.{◌==◌, ◌-◌, if◌then◌else◌, [], false, None}
+use Rattle.sw_text.specs.declared.fault.FaultCode.TheVariants as C
+use Rattle.sw_text.specs.declared.place.Span.{Span}
+use Rattle.sw_scope.specs.Scopes.{empty}
+use Rattle.sw_css_tree.specs.Output.{nothing}
+use Rattle.sw_talk.specs.Talk.{Gives, Fails}
+use Rattle.sw_talk.specs.Asking.{fault}
+use Rattle.sw_state.specs.Eval.{Eval}
+use Rattle.sw_state.specs.declared.state.State.{State}
+
+abbrev pub begin : State
+begin = record {
+  scopes = empty;
+  here = record { site = 0 };
+  css = nothing;
+  nesting = record { parents = None; prefix = None };
+  outer = [];
+  late = false;
+  turns = 1000000;
+}
+
+-- one of the turns that are left
+unfoldable pub spent : Span → Eval (Unit {0})
+spent at s = if s.turns == 0 then Fails (fault C.Turns at) else Gives (tt, record s { turns = s.turns - 1 })
