@@ -12,7 +12,7 @@ use Rattle.sw_modules.specs.Fresh.{Setting, setting_of}
 use Rattle.sw_record.specs.declared.reply.Cause.{Cause}
 use Rattle.sw_record.specs.declared.reply.Outcome.{Outcome}
 use Rattle.sw_record.specs.declared.reply.Outcome.TheVariants.{Css, Error}
-use Rattle.sw_record.specs.Ran.{Ran}
+use Rattle.sw_record.specs.Ran.{Ran, none_kept}
 use Rattle.sw_keeper.specs.Compile.{compiled, paths_of}
 use Rattle.sw_wire.specs.Replies.{fault_text}
 use Rattle.sw_disk_compile.specs.declared.ending.Ending.{Ending}
@@ -49,7 +49,7 @@ pub record Compiles (setting : Setting) (target : Target) (outcome : Outcome) (o
   pub read : IsRead old.course new.course folder
   pub outcome_is : outcome ≡ (compiled setting folder target.paths target.entry []).outcome
   pub bodies : List (List ℕ × Cause)
-  pub are : Ran [] (compiled setting folder target.paths target.entry []).runs bodies
+  pub are : Ran none_kept (compiled setting folder target.paths target.entry []).runs bodies
   pub told : new.ran ≡ old.ran ++ paths_of bodies
 
 -- a front of what is to be written was written

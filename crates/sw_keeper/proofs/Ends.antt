@@ -1,5 +1,8 @@
 -- Evaluations that begin with a kept run.
-use Rattle.std.proofs.Common.{◌≡◌, ℕ, suc, List, [], ◌∷◌, ◌++◌, length, take, drop, Option, Some, None, Ok, refl, sym, ◌∙◌, ap, subst, append_assoc, append-nil, inl}
+use Rattle.std.proofs.Common.{◌≡◌, ◌≢◌, ℕ, suc, List, [], ◌∷◌, ◌++◌, length, take, drop, Option, Some, None, Ok, refl, sym, ◌∙◌, ap, subst, append_assoc, append-nil, inl}
+use Rattle.std.specs.List.{Contains}
+use Rattle.std.specs.Option.{option_to_list}
+use Rattle.std.proofs.lemmas.List.Elements.{Contains-push}
 use Rattle.sw_text.specs.declared.place.Span.{Span}
 use Rattle.sw_syntax_tree.specs.declared.sheet.Sheet.{Sheet}
 use Rattle.sw_values.specs.declared.plain.Plain.{Plain}
@@ -17,7 +20,8 @@ use Rattle.sw_modules.specs.Fresh.{Setting, ended}
 use Rattle.sw_record.specs.declared.reply.Cause.{Cause}
 use Rattle.sw_record.specs.declared.reply.Cause.TheVariants.{First, Text, Config}
 use Rattle.sw_record.specs.Kept.{Kept, job_of}
-use Rattle.sw_record.specs.Ran.{Table, IsCause, IsCauseBy, IsAnswered, FirstDiffer, Differs, kept_at}
+use Rattle.sw_record.specs.Ran.{IsAlike, IsAnswered, IsCause, IsCauseBy, FirstDiffer}
+use Rattle.sw_keeper.specs.Keeping.{Table, kept_at, kept_in}
 use Rattle.sw_keeper.specs.declared.departure.Departure.{Departure}
 use Rattle.sw_keeper.specs.Results.{Results}
 use Rattle.sw_keeper.specs.Departures.{HasTwoAnswers}
@@ -26,6 +30,7 @@ use Rattle.sw_keeper.specs.Replays.{DidReplay, IsDeparture, IsBehind, behind}
 use Rattle.sw_keeper.proofs.Pairs.{goes_departs, split_at}
 use Rattle.sw_keeper.proofs.Rest.{rest_ends}
 use Rattle.sw_keeper.proofs.Parts.{grown_join}
+use Rattle.sw_keeper.proofs.Tables.{the_one}
 use Rattle.sw_keeper.proofs.Loads.{did_read}
 
 -- an assignment and a message can be answered in one way alone
@@ -64,16 +69,28 @@ pub say_once : (kind : SayKind) (span : Span) (text : List ℕ) → HasTwoAnswer
 say_once kind span text two = two.differ (say_done kind span text two.one two.fits_one ∙ sym (say_done kind span text two.other two.fits_other))
 
 -- what such an answer is the cause of
-differs_by : (op : Op) (cause : Cause) (kept run : Run) → IsCauseBy op cause → IsAnswered kept run cause → Differs kept run cause
-differs_by (ops.Load site url span how config) cause kept run by is = let P : Cause → Type 0 = λ c. IsAnswered kept run c → Differs kept run c in subst P (sym by) (λ x. x) is
-differs_by (ops.Find site space kind name) cause kept run by is = let P : Cause → Type 0 = λ c. IsAnswered kept run c → Differs kept run c in subst P (sym by) (λ x. x) is
-differs_by (ops.Get owner name) cause kept run by is = let P : Cause → Type 0 = λ c. IsAnswered kept run c → Differs kept run c in subst P (sym by) (λ x. x) is
-differs_by (ops.Call name args) cause kept run by is = let P : Cause → Type 0 = λ c. IsAnswered kept run c → Differs kept run c in subst P (sym by) (λ x. x) is
-differs_by (ops.Put owner name value) cause kept run by is = absurd by
-differs_by (ops.Say kind span text) cause kept run by is = absurd by
+caused_by : (op : Op) (cause : Cause) (kept : List Run) (run : Run) → IsCauseBy op cause → IsAnswered kept run cause → IsCause kept run cause
+caused_by (ops.Load site url span how config) cause kept run by is = let P : Cause → Type 0 = λ c. IsAnswered kept run c → IsCause kept run c in subst P (sym by) (λ x. x) is
+caused_by (ops.Find site space kind name) cause kept run by is = let P : Cause → Type 0 = λ c. IsAnswered kept run c → IsCause kept run c in subst P (sym by) (λ x. x) is
+caused_by (ops.Get owner name) cause kept run by is = let P : Cause → Type 0 = λ c. IsAnswered kept run c → IsCause kept run c in subst P (sym by) (λ x. x) is
+caused_by (ops.Call name args) cause kept run by is = let P : Cause → Type 0 = λ c. IsAnswered kept run c → IsCause kept run c in subst P (sym by) (λ x. x) is
+caused_by (ops.Put owner name value) cause kept run by is = absurd by
+caused_by (ops.Say kind span text) cause kept run by is = absurd by
 
-cause_at : (table : Table) (path : List ℕ) (kept run : Run) (cause : Cause) → kept_at table path ≡ Some kept → Differs kept run cause → IsCause (kept_at table path) run cause
-cause_at table path kept run cause at differs = subst (λ (o : Option Run). IsCause o run cause) (sym at) differs
+cause_at : (table : Table) (path : List ℕ) (kept run : Run) (cause : Cause) → kept_at table path ≡ Some kept → IsCause (kept ∷ []) run cause → IsCause (kept_in table path) run cause
+cause_at table path kept run cause at causes = subst (λ (o : Option Run). IsCause (option_to_list o) run cause) (sym at) causes
+
+-- two lists that have the same pairs before
+cancel : (xs : List Pair) (p q : Pair) (ps qs : List Pair) → xs ++ p ∷ ps ≡ xs ++ q ∷ qs → p ≡ q
+cancel [] p q ps qs e = cc
+cancel (x ∷ xs) p q ps qs e = let rest : xs ++ p ∷ ps ≡ xs ++ q ∷ qs = cc in cancel xs p q ps qs rest
+
+-- the one kept run doesn't go on with the other answer
+none_goes_on : (kept run one : Run) (op : Op) (first : FirstDiffer kept.seen run.seen op) (rest : List Pair) → Contains (kept ∷ []) one → one.seen ≡ first.before ++ (op, first.new_answer) ∷ rest → ⊥
+none_goes_on kept run one op first rest among goes =
+    let seen : kept.seen ≡ one.seen = ap (λ (r : Run). r.seen) (sym (the_one kept one among)) in
+    let p : (op, first.old_answer) ≡ (op, first.new_answer) = cancel first.before (op, first.old_answer) (op, first.new_answer) first.old_rest rest (sym first.old_is ∙ seen ∙ goes) in
+    first.differ (ap (λ (q : Pair). q.1) p)
 
 -- a body that starts with the pairs of a departure
 pub known_differs : (table : Table) (path text : List ℕ) (config : List (List ℕ × Plain)) (k : Kept) (run : Run) (d : Departure)
@@ -91,8 +108,16 @@ known_differs table path text config k run d same is departs more end =
       new_is = ap (λ l. l ++ more) here.known_is ∙ append_assoc (take here.at run.seen) ((here.pair.0, here.answer) ∷ []) more;
       differ = here.differs;
     } in
-    cause_at table path run new d.cause same.at
-    (differs_by here.pair.0 d.cause run new here.by (record { same_text = same.text_is; same_config = same.config_is; op = here.pair.0; first = first; by = here.by }))
+    let answered : IsAnswered (run ∷ []) new d.cause = record {
+      one = run;
+      among = Contains-push [] run;
+      alike = record { same_text = same.text_is; same_config = same.config_is };
+      op = here.pair.0;
+      first = first;
+      furthest = λ one among alike rest goes. none_goes_on run new one here.pair.0 first rest among goes;
+      by = here.by;
+    } in
+    cause_at table path run new d.cause same.at (caused_by here.pair.0 d.cause (run ∷ []) new here.by answered)
 
 pub same_job : (table : Table) (path text : List ℕ) (config : List (List ℕ × Plain)) (sheet : Sheet) (k : Kept) (run : Run) → IsSame table path text config run → k.run ≡ run → sheet ≡ k.sheet
     → job_of k ≡ record { sheet = sheet; config = config; path = path }
@@ -152,7 +177,8 @@ did_whole setting table path text config k run r end o m t in_time same is reads
     let a1 : Advances setting (job_of k) [] k.run.seen did.new o.outside m.outside = subst (λ (x : Option Departure). Advances setting (job_of k) [] (behind k.run.seen x) did.new o.outside m.outside) r_is did.advances in
     let run_is : run_of (job_of k) text k.run.seen k.run.end ≡ run =
     ap (λ (x : List ℕ). run_of (job_of k) x k.run.seen k.run.end) (sym same.text_is ∙ sym (ap (λ (x : Run). x.text) is)) ∙ is in
-    let here : kept_at table run.path ≡ Some run = ap (kept_at table) same.path_is ∙ same.at in
+    let at : kept_at table run.path ≡ Some run = ap (kept_at table) same.path_is ∙ same.at in
+    let here : Contains (kept_in table run.path) run = subst (λ (o : Option Run). Contains (option_to_list o) run) (sym at) (Contains-push [] run) in
     let one : Grown table (run ∷ []) m t = record {
       runs = ap (λ (x : Results). x.runs) results;
       grown = [];
@@ -174,13 +200,22 @@ did_whole setting table path text config k run r end o m t in_time same is reads
 
 -- why a body runs of which no such run is kept
 pub first_cause : (table : Table) (path text : List ℕ) (config : List (List ℕ × Plain)) → kept_at table path ≡ None → DiffersBy table path text config [] First
-first_cause table path text config none more end =
-    subst (λ (o : Option Run). IsCause o (record { path = path; text = text; config = config; seen = more; end = end }) First) (sym none) refl
+first_cause table path text config none more end = ap (λ (o : Option Run). option_to_list o) none
+
+-- a list of one isn't empty
+some_kept : (run : Run) → run ∷ [] ≢ []
+some_kept run e = cc
 
 pub text_cause : (table : Table) (path text : List ℕ) (config : List (List ℕ × Plain)) (run : Run) → kept_at table path ≡ Some run → (run.text ≡ text → ⊥) → DiffersBy table path text config [] Text
 text_cause table path text config run at differ more end =
-    cause_at table path run (record { path = path; text = text; config = config; seen = more; end = end }) Text at differ
+    let new : Run = record { path = path; text = text; config = config; seen = more; end = end } in
+    let none : (one : Run) → Contains (run ∷ []) one → one.text ≢ text = λ one among same. differ (ap (λ (r : Run). r.text) (sym (the_one run one among)) ∙ same) in
+    cause_at table path run new Text at (some_kept run, none)
 
 pub config_cause : (table : Table) (path text : List ℕ) (config : List (List ℕ × Plain)) (run : Run) → kept_at table path ≡ Some run → NoneSame table path text config → run.text ≡ text → DiffersBy table path text config [] Config
 config_cause table path text config run at none same more end =
-    cause_at table path run (record { path = path; text = text; config = config; seen = more; end = end }) Config at (same, none run at same)
+    let new : Run = record { path = path; text = text; config = config; seen = more; end = end } in
+    let none_alike : (one : Run) → Contains (run ∷ []) one → IsAlike one new → ⊥ = λ one among alike.
+    let is : run ≡ one = sym (the_one run one among) in
+    none run at (ap (λ (r : Run). r.text) is ∙ alike.same_text) (ap (λ (r : Run). r.config) is ∙ alike.same_config) in
+    cause_at table path run new Config at ((run, Contains-push [] run, same), none_alike)

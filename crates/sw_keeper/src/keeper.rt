@@ -4,7 +4,7 @@ ghost use Rattle.std.specs.FinMap as files;
 ghost use Rattle.sw_folder.specs.Edits.{after_put, after_removal, IsFaultOf};
 ghost use Rattle.sw_record.specs.Ran.{Ran};
 ghost use Rattle.sw_keeper.specs.Compile.{compiled, CompilesTo, BreaksOff};
-ghost use Rattle.sw_keeper.specs.Keeping.{table_of, with_runs, kept_after};
+ghost use Rattle.sw_keeper.specs.Keeping.{table_of, kept_for, with_runs, kept_after};
 ghost use Rattle.sw_modules.specs.Fresh.{setting_of};
 ghost use Rattle.sw_keeper.specs.Whole.{IsCompiled, CompileCut};
 
@@ -136,7 +136,7 @@ fn keep_runs<R: Reader, E: Engine>(
     runs: &List<KeptRun<R, E>>,
     ran: &List<(Name, Cause)>,
 ) -> Result<(), Memory>
-    requires { Ran (table_of tables.old entry.now) runs.now ran.now }
+    requires { Ran (kept_for tables.old entry.now) runs.now ran.now }
     ensures ok { OnOk result (tables.new ≡ kept_after tables.old entry.now runs.now) }
     ensures err { OnErr result (tables.new ≡ tables.old) }
 {
