@@ -1,1 +1,3 @@
+pub mod Poll
+pub mod Served
 pub mod Run

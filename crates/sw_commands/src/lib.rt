@@ -3,5 +3,11 @@
 #![tactic(auto)]
 
 mod command;
+mod poll;
+mod scan;
+mod service;
+mod word;
 
 pub use command::run;
+pub use service::poll_folder;
+pub use word::Word;

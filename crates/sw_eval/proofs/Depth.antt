@@ -3,7 +3,7 @@ use Rattle.std.proofs.Common.{◌≡◌, ℕ, suc, ◌-◌, ◌<◌, ap, arith}
 use Rattle.sw_syntax_tree.specs.declared.expr.Expr.{Expr}
 use Rattle.sw_syntax_tree.specs.declared.statement.Statement.{Statement}
 use Rattle.sw_literals.specs.declared.quotients.Parens.{Parens}
-use Rattle.sw_state.specs.declared.state.State.{State}
+use Rattle.sw_eval.specs.declared.state.State.{State}
 use Rattle.sw_eval.specs.Expressions.{value_one}
 use Rattle.sw_eval.specs.Statements.{does_one}
 use Rattle.sw_eval.specs.Means.{value_to, does_to}

@@ -2,8 +2,6 @@
 use Rattle.std.proofs.Common.{◌≡◌, List, Option, sym, ◌∙◌, ap}
 use Rattle.sw_text.specs.declared.place.Span.{Span}
 use Rattle.sw_syntax_tree.specs.declared.statement.Branch.{Branch}
-use Rattle.sw_syntax_tree.specs.declared.statement.Each.{Each}
-use Rattle.sw_syntax_tree.specs.declared.statement.For.{For}
 use Rattle.sw_syntax_tree.specs.declared.statement.Rule.{Rule}
 use Rattle.sw_syntax_tree.specs.declared.statement.While.{While}
 use Rattle.sw_syntax_tree.specs.declared.statement.Statement.{Statement, out-Statement, out-roll-Statement}
@@ -18,9 +16,3 @@ out_If bs otherwise at = ap out-Statement (sym (S.rolls-If bs otherwise at)) ∙
 
 pub out_While : (x : While) → out-Statement (S.While x) ≡ Statement-F.While x
 out_While x = ap out-Statement (sym (S.rolls-While x)) ∙ out-roll-Statement (Statement-F.While x)
-
-pub out_Each : (x : Each) → out-Statement (S.Each x) ≡ Statement-F.Each x
-out_Each x = ap out-Statement (sym (S.rolls-Each x)) ∙ out-roll-Statement (Statement-F.Each x)
-
-pub out_For : (x : For) → out-Statement (S.For x) ≡ Statement-F.For x
-out_For x = ap out-Statement (sym (S.rolls-For x)) ∙ out-roll-Statement (Statement-F.For x)

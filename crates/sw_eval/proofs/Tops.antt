@@ -1,6 +1,6 @@
 -- The statements of the top level, a step at a time.
 use Rattle.std.proofs.Common.{◌≡◌, ℕ, suc, ◌+◌, ◌<◌, ◌≤◌, Bool, true, false, cond, is_some, List, [], ◌∷◌, length, drop, take, get_or, Option, Some, None, Result, Ok, Err, refl, sym, ◌∙◌, ap, subst, add-one}
-use Rattle.std.specs.Prelude.{IsErr, IsErrAnd}
+use Rattle.std.specs.Prelude.{IsErr, IsErrAnd, IfOk}
 use Rattle.sw_syntax_tree.specs.declared.load.Use.{Use}
 use Rattle.sw_syntax_tree.specs.declared.statement.Statement.{Statement, out-Statement}
 use Rattle.sw_syntax_tree.specs.declared.statement.Statement.TheOpen.{Statement-F}
@@ -14,19 +14,19 @@ use Rattle.sw_world.specs.Questions.{IsLoad}
 use Rattle.sw_world.specs.Body.{answers}
 use Rattle.sw_world.specs.Laws.{most_asked}
 use Rattle.sw_world.specs.declared.answer.Answer.{Answer}
-use Rattle.sw_talk.specs.Talk.{Question, Loads, Talk, Gives, Fails, Asking, bind, op_of}
-use Rattle.sw_talk.specs.Ran.{Stand, Ran, ran_on, within}
-use Rattle.sw_talk.specs.Did.{Did, IsReturn}
-use Rattle.sw_talk.specs.Loaded.{loaded}
+use Rattle.sw_eval.specs.Talk.{Question, Loads, Talk, Gives, Fails, Asking, bind, op_of}
+use Rattle.sw_eval.specs.Ran.{Stand, Ran, ran_on, within}
+use Rattle.sw_eval.specs.Did.{Did, IsReturn}
+use Rattle.sw_eval.specs.Loaded.{loaded}
 use Rattle.sw_eval.specs.Layers.{Layer, place_of}
-use Rattle.sw_talk.specs.Asking.{asking, fault}
+use Rattle.sw_eval.specs.Asking.{asking, fault}
 use Rattle.sw_eval.specs.Means.{top, tops, load_of, load_by, used, configures, space_of, marked, does_to}
 use Rattle.sw_eval.specs.Tops.{TopDid, StopsAt, WaitsAt, Walked}
-use Rattle.sw_state.specs.declared.state.State.{State}
-use Rattle.sw_talk.specs.declared.stop.Stop.{Stop}
-use Rattle.sw_talk.specs.declared.stop.Stop.TheVariants.{Memory, Fault}
-use Rattle.sw_talk.proofs.Steps.{err_of, did_memory, did_stop, did_then, did_value, did_plain}
-use Rattle.sw_talk.proofs.Loops.{next_item, drop_all}
+use Rattle.sw_eval.specs.declared.state.State.{State}
+use Rattle.sw_eval.specs.declared.stop.Stop.{Stop}
+use Rattle.sw_eval.specs.declared.stop.Stop.TheVariants.{Memory, Fault}
+use Rattle.sw_eval.proofs.Steps.{err_of, did_memory, did_stop, did_then, did_value, did_plain}
+use Rattle.sw_eval.proofs.Loops.{next_item, drop_all}
 
 -- what a load asks doesn't depend on what was answered, and is a load
 used_is : (path : List ℕ) (x : Use) (configured : Bool) (q : Question) (op : Op) → used x configured ≡ Some q → op_of path [] q ≡ Some op → (seen : List Answer) → IsLoad op × (op_of path seen q ≡ Some op)
@@ -232,3 +232,8 @@ module _ {W : Type 0} (gives : W → Op → Answer → W → Type 0) where
   pub walk_end : (T : Talk (Unit {0} × State)) (z a : Stand) (q w : W) (all : List Statement) (i : ℕ) (s : State) → length all ≤ i → Ran gives T z q (tops i (drop i all) s) a w → Ran gives T z q (Gives (tt, s)) a w
   unfolding tops
   walk_end T z a q w all i s le on = subst (λ (l : List Statement). Ran gives T z q (tops i l s) a w) (drop_all all i le) on
+
+-- a fault is no value
+pub fails_ok : {A : Type 0} (r : Result A Stop) (P : A → Type 0) (s : State) (code : Fault_at) → IsReturn r s (Fails code) → IfOk r P
+fails_ok (Ok v) P s code is = absurd cc
+fails_ok (Err e) P s code is = tt

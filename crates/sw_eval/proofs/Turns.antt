@@ -7,15 +7,13 @@ use Rattle.sw_text.specs.declared.fault.Fault.{Fault as Fault_at}
 use Rattle.sw_text.specs.declared.place.Span.{Span}
 use Rattle.sw_world.specs.Body.{Pair, Job, Next, Asks, Ends, answers}
 use Rattle.sw_world.specs.Laws.{most_asked}
-use Rattle.sw_talk.specs.Talk.{Question, Talk, Gives, Fails, Asking, answered, next_by, run}
-use Rattle.sw_talk.specs.Ran.{Stand, Ran, op_at}
-use Rattle.sw_talk.specs.Told.{IsRest, Told, tells}
-use Rattle.sw_state.specs.Left.{end_of, finish_of}
-use Rattle.sw_state.specs.Begin.{begin}
-use Rattle.sw_eval.specs.Means.{body, tops}
-use Rattle.sw_talk.specs.Turns.{TurnDid}
-use Rattle.sw_eval.specs.Resume.{IsResume}
-use Rattle.sw_state.specs.declared.state.State.{State}
+use Rattle.sw_eval.specs.Talk.{Question, Talk, Gives, Fails, Asking, answered, next_by, run}
+use Rattle.sw_eval.specs.Ran.{Stand, Ran, op_at}
+use Rattle.sw_eval.specs.Told.{IsRest, Told, tells}
+use Rattle.sw_eval.specs.Left.{end_of, finish_of}
+use Rattle.sw_eval.specs.Means.{body, tops, begin}
+use Rattle.sw_eval.specs.Resume.{IsResume, TurnDid}
+use Rattle.sw_eval.specs.declared.state.State.{State}
 
 pub turn_told : {W : Type 0} (gives : W → Op → Answer → W → Type 0) (job : Job) (ps : List Pair) (n i : ℕ) (s : State) (w x : W) (u : Talk (Unit {0} × State)) (b : Stand)
     → IsResume job ps n i s → Ran gives (tops i (drop i job.sheet.statements) s) (record { path = job.path; pairs = ps; at = n }) w u b x → Told gives (end_of job.sheet) job.path (body job) ps w u b x

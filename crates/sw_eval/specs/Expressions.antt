@@ -23,14 +23,17 @@ use Rattle.sw_literals.specs.Operations.{needs_right, first_left, taken, joined_
 use Rattle.sw_literals.specs.Lists.{list_value}
 use Rattle.sw_literals.specs.Maps.{map_value}
 use Rattle.sw_eval.specs.Layers.{Kinds, Texts}
-use Rattle.sw_talk.specs.Talk.{Gives, Fails, bind}
-use Rattle.sw_talk.specs.Asking.{fault}
-use Rattle.sw_talk.specs.Refusals.{answer}
-use Rattle.sw_state.specs.Selecting.{parent}
+use Rattle.sw_eval.specs.Talk.{Gives, Fails, bind}
+use Rattle.sw_eval.specs.Asking.{fault}
+use Rattle.sw_eval.specs.Refusals.{answer}
 use Rattle.sw_eval.specs.Variables.{variable, qualified}
 use Rattle.sw_eval.specs.Texts.{text, mixed}
-use Rattle.sw_state.specs.Eval.{Eval}
+use Rattle.sw_eval.specs.Did.{Eval}
 use Rattle.sw_eval.specs.declared.texts.TextKind.TheVariants as K
+
+-- `&` is null where no rule is open; else it has no meaning yet
+unfoldable pub parent : Span → Eval Plain
+parent at s = if is_open s.css then Fails (fault C.BadPlace at) else Gives (N.Null, s)
 
 -- `value` is the level below
 module _ (value : Parens → Expr → Eval Plain) where

@@ -13,12 +13,11 @@ use Rattle.sw_scope.specs.declared.mark.FrameKind.{FrameKind}
 use Rattle.sw_scope.specs.declared.mark.FrameKind.TheVariants as F
 use Rattle.sw_literals.specs.declared.quotients.Parens.{Parens}
 use Rattle.sw_literals.specs.declared.quotients.Parens.TheVariants as P
-use Rattle.sw_talk.specs.Talk.{Talk, Gives, Fails, bind}
-use Rattle.sw_talk.specs.Asking.{fault}
-use Rattle.sw_state.specs.Begin.{spent}
-use Rattle.sw_state.specs.Scope.{entered, left}
-use Rattle.sw_state.specs.Eval.{Eval}
-use Rattle.sw_state.specs.declared.state.State.{State}
+use Rattle.sw_eval.specs.Talk.{Talk, Gives, Fails, bind}
+use Rattle.sw_eval.specs.Asking.{fault}
+use Rattle.sw_eval.specs.Scope.{entered, left}
+use Rattle.sw_eval.specs.Did.{Eval}
+use Rattle.sw_eval.specs.declared.state.State.{State}
 
 -- a value that ends a body ends what is around it
 abbrev pub after : Option Plain → Eval (Option Plain) → Eval (Option Plain)
@@ -28,6 +27,10 @@ after None next s = next s
 -- nothing ends
 abbrev pub done : Unit {0} × State → Talk (Option Plain × State)
 done r = Gives (None, r.1)
+
+-- one of the turns that are left
+unfoldable pub spent : Span → Eval (Unit {0})
+spent at s = if s.turns == 0 then Fails (fault C.Turns at) else Gives (tt, record s { turns = s.turns - 1 })
 
 -- ---- one level: `value` and `does` are the levels below
 

@@ -17,15 +17,14 @@ use Rattle.sw_world.specs.declared.op.How.TheVariants as H
 use Rattle.sw_world.specs.Body.{BodyOf}
 use Rattle.sw_world.specs.Laws.{most_asked}
 use Rattle.sw_eval.specs.Layers.{Layer, place_of}
-use Rattle.sw_talk.specs.Talk.{Question, Loads, Gives, Fails, bind, run}
-use Rattle.sw_talk.specs.Asking.{fault, asking}
-use Rattle.sw_state.specs.Output.{numbered}
+use Rattle.sw_eval.specs.Talk.{Question, Loads, Gives, Fails, bind, run}
+use Rattle.sw_eval.specs.Asking.{fault, asking}
+use Rattle.sw_eval.specs.Output.{numbered}
 use Rattle.sw_eval.specs.Expressions.{value_one}
 use Rattle.sw_eval.specs.Statements.{does_one}
-use Rattle.sw_state.specs.Begin.{begin}
-use Rattle.sw_state.specs.Left.{end_of}
-use Rattle.sw_state.specs.Eval.{Eval}
-use Rattle.sw_state.specs.declared.state.State.{State}
+use Rattle.sw_eval.specs.Left.{end_of}
+use Rattle.sw_eval.specs.Did.{Eval}
+use Rattle.sw_eval.specs.declared.state.State.{State}
 
 -- nested no deeper than the number
 unfoldable pub value_to : ℕ → Parens → Expr → Eval Plain
@@ -91,6 +90,9 @@ top number x s = top_by number x (load_of x) s
 unfoldable pub tops : ℕ → List Statement → Eval (Unit {0})
 tops number [] s = Gives (tt, s)
 tops number (x ∷ xs) s = bind (top number x s) (λ r. tops (suc number) xs r.1)
+
+abbrev pub begin : State
+begin = record { scopes = empty; here = record { site = 0 }; css = nothing; late = false; turns = 1000000 }
 
 unfoldable pub body : BodyOf
 body job given = run (end_of job.sheet) job.path most_asked [] (tops 0 job.sheet.statements begin) given

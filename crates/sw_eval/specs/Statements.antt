@@ -10,24 +10,20 @@ use Rattle.sw_syntax_tree.specs.declared.statement.Variable.{Variable}
 use Rattle.sw_syntax_tree.specs.declared.statement.Statement.{Statement, out-Statement}
 use Rattle.sw_syntax_tree.specs.declared.statement.Statement.TheOpen.{Statement-F}
 use Rattle.sw_syntax_tree.specs.declared.expr.Expr.{Expr}
-use Rattle.sw_syntax_tree.specs.declared.text.Text.{Text}
 use Rattle.sw_values.specs.declared.plain.Plain.{Plain}
 use Rattle.sw_scope.specs.declared.mark.FrameKind.TheVariants as F
 use Rattle.sw_literals.specs.declared.quotients.Parens.{Parens}
 use Rattle.sw_literals.specs.declared.quotients.Parens.TheVariants as P
 use Rattle.sw_css_tree.specs.Output.{is_open, closed}
 use Rattle.sw_eval.specs.Layers.{Layer}
-use Rattle.sw_talk.specs.Talk.{Gives, Fails, bind}
-use Rattle.sw_talk.specs.Asking.{fault}
+use Rattle.sw_eval.specs.Talk.{Gives, Fails, bind}
+use Rattle.sw_eval.specs.Asking.{fault}
 use Rattle.sw_eval.specs.Flow.{done, framed, branches, repeat_in}
-use Rattle.sw_eval.specs.Loops.{each_in, count_in}
-use Rattle.sw_eval.specs.Messages.{saying}
-use Rattle.sw_eval.specs.Variables.{targeted, getting, putting, kept, stored}
-use Rattle.sw_state.specs.Owners.{is_null}
+use Rattle.sw_eval.specs.Variables.{targeted, getting, putting, is_null, kept, stored}
 use Rattle.sw_eval.specs.Texts.{text}
 use Rattle.sw_eval.specs.Expressions.{plain_value}
-use Rattle.sw_state.specs.Output.{opening, written, commented}
-use Rattle.sw_state.specs.Eval.{Eval}
+use Rattle.sw_eval.specs.Output.{opening, written}
+use Rattle.sw_eval.specs.Did.{Eval}
 use Rattle.sw_eval.specs.declared.texts.TextKind.TheVariants as K
 
 -- ---- one level: `value` and `does` are the levels below
@@ -66,10 +62,6 @@ module _ (value : Parens → Expr → Eval Plain) where
       (λ p. bind (value P.Outside x.value p.1) (λ r. bind (written p.0 r.0 x.value.span x.span r.1) done))
       else Fails (fault C.BadPlace x.span)
 
-  -- a comment is written with the values in it
-  unfoldable pub comment : Text → Eval (Option Plain)
-  comment x s = bind (text value K.Sheet P.Outside x.parts x.span s) (λ t. bind (commented t.0 x.span t.1) done)
-
 module _ (value : Parens → Expr → Eval Plain) (does : Statement → Eval (Option Plain)) where
   -- rules don't nest yet
   unfoldable pub rule : Rule → Eval (Option Plain)
@@ -86,12 +78,7 @@ module _ (value : Parens → Expr → Eval Plain) (does : Statement → Eval (Op
   does_by (Statement-F.Declaration x) s = declaration value x s
   does_by (Statement-F.Rule x) s = rule x s
   does_by (Statement-F.If bs otherwise at) s = branches value does otherwise bs s
-  does_by (Statement-F.Each x) s = each_in value does x s
-  does_by (Statement-F.For x) s = count_in value does x s
   does_by (Statement-F.While x) s = repeat_in value does x s
-  does_by (Statement-F.Say x) s = saying value x s
-  does_by (Statement-F.Charset at) s = Gives (None, s)
-  does_by (Statement-F.Comment text) s = comment value text s
   does_by (Statement-F.Use x) s = Fails (fault C.BadPlace x.span)
   does_by (Statement-F.Properties x) s = Fails (fault C.BadPlace x.span)
   does_by (Statement-F.Custom x) s = Fails (fault C.BadPlace x.span)
@@ -100,12 +87,17 @@ module _ (value : Parens → Expr → Eval Plain) (does : Statement → Eval (Op
   does_by (Statement-F.Include mixin content at) s = Fails (fault C.BadPlace at)
   does_by (Statement-F.Content x) s = Fails (fault C.BadPlace x.span)
   does_by (Statement-F.Return x) s = Fails (fault C.BadPlace x.span)
+  does_by (Statement-F.Say x) s = Fails (fault C.BadPlace x.span)
+  does_by (Statement-F.Each x) s = Fails (fault C.BadPlace x.span)
+  does_by (Statement-F.For x) s = Fails (fault C.BadPlace x.span)
   does_by (Statement-F.Media x) s = Fails (fault C.BadPlace x.span)
   does_by (Statement-F.Supports x) s = Fails (fault C.BadPlace x.span)
   does_by (Statement-F.AtRoot x) s = Fails (fault C.BadPlace x.span)
+  does_by (Statement-F.Charset at) s = Fails (fault C.BadPlace at)
   does_by (Statement-F.Import x) s = Fails (fault C.BadPlace x.span)
   does_by (Statement-F.Extend x) s = Fails (fault C.BadPlace x.span)
   does_by (Statement-F.AtRule x) s = Fails (fault C.BadPlace x.span)
+  does_by (Statement-F.Comment text) s = Fails (fault C.BadPlace text.span)
 
   unfoldable pub does_one : Statement → Eval (Option Plain)
   does_one x s = does_by (out-Statement x) s

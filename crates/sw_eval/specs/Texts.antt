@@ -11,9 +11,9 @@ use Rattle.sw_literals.specs.Answers.{Answer}
 use Rattle.sw_literals.specs.Quotients.{deeper}
 use Rattle.sw_literals.specs.Texts.{inserted, css_text, joined}
 use Rattle.sw_eval.specs.Layers.{Texts, Pieces}
-use Rattle.sw_talk.specs.Talk.{Gives, bind}
-use Rattle.sw_talk.specs.Refusals.{answer}
-use Rattle.sw_state.specs.Eval.{Eval}
+use Rattle.sw_eval.specs.Talk.{Gives, bind}
+use Rattle.sw_eval.specs.Refusals.{answer}
+use Rattle.sw_eval.specs.Did.{Eval}
 use Rattle.sw_eval.specs.declared.texts.TextKind.{TextKind}
 use Rattle.sw_eval.specs.declared.texts.TextKind.TheVariants as K
 

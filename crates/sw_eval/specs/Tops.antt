@@ -6,13 +6,13 @@ use Rattle.sw_world.specs.declared.op.Op.{Op}
 use Rattle.sw_world.specs.declared.answer.Answer.{Answer}
 use Rattle.sw_world.specs.Questions.{IsLoad}
 use Rattle.sw_world.specs.Laws.{most_asked}
-use Rattle.sw_talk.specs.Talk.{Question, Talk, Gives, Fails, Asking, op_of}
-use Rattle.sw_talk.specs.Ran.{Stand, Ran, op_at}
-use Rattle.sw_talk.specs.Did.{Did}
+use Rattle.sw_eval.specs.Talk.{Question, Talk, Gives, Fails, Asking, op_of}
+use Rattle.sw_eval.specs.Ran.{Stand, Ran, op_at}
+use Rattle.sw_eval.specs.Did.{Did}
 use Rattle.sw_eval.specs.Means.{top, load_of, tops}
-use Rattle.sw_state.specs.declared.state.State.{State}
-use Rattle.sw_talk.specs.declared.stop.Stop.{Stop}
-use Rattle.sw_talk.specs.declared.stop.Stop.TheVariants.{Memory, Fault}
+use Rattle.sw_eval.specs.declared.state.State.{State}
+use Rattle.sw_eval.specs.declared.stop.Stop.{Stop}
+use Rattle.sw_eval.specs.declared.stop.Stop.TheVariants.{Memory, Fault}
 
 -- nothing was done, and the statement is a load whose answer isn't known
 pub record StopsAt (x : Statement) (s : State) (a : Stand) (op : Op) (u : State) (b : Stand) : Type 0 where

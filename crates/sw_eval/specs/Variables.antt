@@ -15,16 +15,31 @@ use Rattle.sw_values.specs.Shape.{node_of}
 use Rattle.sw_scope.specs.Scopes.{look_top}
 use Rattle.sw_world.specs.declared.answer.Answer.{Answer}
 use Rattle.sw_world.specs.declared.answer.Answer.TheVariants.{Owner, BuiltIn, NoNamespace, NoMember, LeftOut, Conflict, Value}
-use Rattle.sw_talk.specs.Talk.{Gets, Puts, Gives, Fails, bind}
-use Rattle.sw_talk.specs.Asking.{fault, asking}
-use Rattle.sw_eval.specs.Going.{finding}
-use Rattle.sw_state.specs.Scope.{own, is_home, is_mine, set_by, set_own}
-use Rattle.sw_state.specs.Left.{or_null}
-use Rattle.sw_state.specs.Owners.{owner, target, got, is_null, sought_owner}
-use Rattle.sw_state.specs.Eval.{Eval}
+use Rattle.sw_eval.specs.Talk.{Gets, Puts, Gives, Fails, bind}
+use Rattle.sw_eval.specs.Asking.{fault, asking, finding}
+use Rattle.sw_eval.specs.Scope.{own, is_home, is_mine, set_by, set_own}
+use Rattle.sw_eval.specs.Left.{or_null}
+use Rattle.sw_eval.specs.Did.{Eval}
 use Rattle.sw_syntax_tree.specs.declared.statement.Flags.{Flags}
 
--- ---- the variables of others
+-- ---- owners
+
+-- the number of the owner that was answered, or what the name and its namespace are refused with
+abbrev pub owner : FaultCode → Span → Span → ℕ → Answer → Eval ℕ
+owner unknown at space_at n (Owner path name) s = Gives (n, s)
+owner unknown at space_at n NoNamespace s = Fails (fault C.UnknownNamespace space_at)
+owner unknown at space_at n LeftOut s = Fails (fault C.LeftOut at)
+owner unknown at space_at n Conflict s = Fails (fault C.MemberConflict at)
+owner unknown at space_at n _ s = Fails (fault unknown at)
+
+-- the owner of a variable that is assigned; one of a built-in module can't be
+abbrev pub target : Span → Span → Span → ℕ → Answer → Eval ℕ
+target at name_at space_at n (BuiltIn home name) s = Fails (fault C.NotConfigurable at)
+target at name_at space_at n answer s = owner C.UnknownMember name_at space_at n answer s
+
+abbrev pub got : Span → Answer → Eval Plain
+got at (Value v) s = Gives (v, s)
+got at _ s = Fails (fault C.UnknownVariable at)
 
 -- what the variable of an owner holds
 unfoldable pub getting : ℕ → Span → Eval Plain
@@ -66,6 +81,29 @@ targeted q name_at at s =
     (λ a. target at name_at q.namespace.span a.0.0 a.0.1 a.1)
 
 -- ---- what a variable has before its default
+
+abbrev pub null_by : Node → Bool
+null_by (nodes.Number _) = false
+null_by (nodes.Text _ _) = false
+null_by (nodes.Colour _) = false
+null_by (nodes.List _ _ _) = false
+null_by (nodes.Map _) = false
+null_by (nodes.Bool _) = false
+null_by nodes.Null = true
+null_by (nodes.Args _ _) = false
+
+abbrev pub is_null : Plain → Bool
+is_null v = null_by (node_of v)
+
+abbrev pub is_absent : Answer → Bool
+is_absent NoMember = true
+is_absent _ = false
+
+-- the owner that was answered, none where there is no such variable
+abbrev pub sought_owner : Span → ℕ → Answer → Eval (Option ℕ)
+sought_owner at n answer s =
+    if is_absent answer then Gives (None, s)
+    else bind (owner C.UnknownVariable at at n answer s) (λ o. Gives (Some o.0, o.1))
 
 abbrev pub got_or_null : Span → Option ℕ → Eval Plain
 got_or_null at (Some o) s = getting o at s

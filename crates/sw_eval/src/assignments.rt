@@ -1,12 +1,12 @@
 // Assignments.
-ghost use Rattle.sw_eval.specs.Going.{Goes_on};
+ghost use Rattle.sw_eval.specs.Did.{Goes_on};
 ghost use Rattle.sw_eval.specs.Statements.{variable_set, assigned, assigned_always, assigned_default};
 ghost use Rattle.sw_eval.specs.Means.{value_to};
 
+use crate::parts::is_null;
+use crate::stop::Stop;
 use crate::walk::Walk;
-use sw_state::is_null;
 use sw_syntax_tree::{Assignment, Variable};
-use sw_talk::Stop;
 use sw_values::Value;
 use sw_world::World;
 

@@ -3,17 +3,19 @@ ghost use Rattle.std.specs.Prelude.{◌≡◌, ◌<◌, true, [], ◌∷◌, ◌
 ghost use Rattle.sw_world.specs.declared.op.Op.{Op};
 ghost use Rattle.sw_world.specs.Progress.{Running, Waiting, stops, ran_by};
 ghost use Rattle.sw_eval.specs.Means.{body};
-ghost use Rattle.sw_talk.specs.Turns.{TurnDid, IsStep, status_of};
-ghost use Rattle.sw_talk.specs.declared.place.Place.TheVariants.{Running as At_Running};
+ghost use Rattle.sw_eval.specs.Resume.{TurnDid, IsStep, status_of};
+ghost use Rattle.sw_eval.specs.declared.place.Place.TheVariants.{Running as At_Running};
 
+use crate::ask::push_pair;
+use crate::asked::Asked;
+use crate::place::Place;
+use crate::state::State;
 use crate::turn::turn;
 use crate::walk::Walk;
 use std::alloc::Global;
 use std::marker::Model;
 use std::mem;
-use sw_state::State;
 use sw_syntax_tree::Sheet;
-use sw_talk::{Asked, Place, push_pair};
 use sw_text::{List, Memory, Name, Shared};
 use sw_world::{Answer, Config, Engine, Op, Turn, World, share_pairs};
 
@@ -31,8 +33,7 @@ pub struct Evaluation {
 impl Model for Evaluation {
     ghost use Rattle.std.specs.Prelude.{vec_len, vec_capacity};
     ghost use Rattle.std.specs.Coded.{codes};
-    ghost use Rattle.sw_talk.specs.Turns.{Shown};
-    ghost use Rattle.sw_eval.specs.Resume.{Keeps};
+    ghost use Rattle.sw_eval.specs.Resume.{Shown, Keeps};
     ghost use Rattle.sw_syntax_tree.specs.contracts.expr.ExprKind as e;
     ghost use Rattle.sw_syntax_tree.specs.contracts.statement.Statement as s;
     ghost use Rattle.sw_values.specs.contracts.plain.Plain as p;
@@ -124,7 +125,7 @@ impl Engine for Evaluator {
 
     ghost use Rattle.std.specs.Prelude.{List, ℕ};
     ghost use Rattle.sw_eval.specs.Means.{body};
-    ghost use Rattle.sw_talk.specs.Turns.{progress};
+    ghost use Rattle.sw_eval.specs.Resume.{progress};
     ghost use Rattle.sw_eval.specs.Body_laws.{ends_in_time, ends_for_good, asks_from_sources, names_once, ends_refused};
 
     ghost body = { body };
@@ -151,7 +152,7 @@ impl Engine for Evaluator {
             walk: Walk {
                 alloc,
                 state: State::begin(alloc),
-                asked: Asked::new(path, pairs),
+                asked: Asked { path, pairs, at: 0 },
             },
             started: false,
             place: Place::Running,

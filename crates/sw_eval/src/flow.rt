@@ -1,13 +1,12 @@
 // Blocks, branches and loops.
-ghost use Rattle.sw_eval.specs.Going.{Goes_on};
+ghost use Rattle.sw_eval.specs.Did.{Goes_on};
 ghost use Rattle.sw_eval.specs.Flow.{block, framed, holds, branches, repeats, repeat_in};
 ghost use Rattle.sw_eval.specs.Means.{value_to, does_to};
 
+use crate::stop::{Stop, fails};
 use crate::walk::Walk;
 use sw_scope::FrameKind;
-use sw_state::fails;
 use sw_syntax_tree::{Branch, Expr, Statement, While};
-use sw_talk::Stop;
 use sw_text::{FaultCode, List};
 use sw_values::Value;
 use sw_world::World;
@@ -31,7 +30,7 @@ impl Walk {
     }
 
     #[cycle(walk)]
-    pub(crate) fn block<W: World>(
+    fn block<W: World>(
         &mut self,
         inner: u32,
         all: &[Statement],

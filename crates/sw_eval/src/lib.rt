@@ -3,15 +3,21 @@
 #![tactic(auto)]
 
 mod ask;
+mod asked;
 mod assignments;
 mod engine;
 mod flow;
+mod here;
 mod laws;
+mod left;
 mod level;
 mod look;
-mod loops;
-mod messages;
-mod places;
+mod output;
+mod parts;
+mod place;
+mod selecting;
+mod state;
+mod stop;
 mod texts;
 mod top;
 mod turn;

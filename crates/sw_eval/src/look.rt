@@ -1,11 +1,12 @@
 // Variables, also those of other modules.
-ghost use Rattle.sw_eval.specs.Going.{Goes_on};
+ghost use Rattle.sw_eval.specs.Did.{Goes_on};
 ghost use Rattle.sw_eval.specs.Variables.{owner_of, outside, variable, qualified, targeted, getting, putting, got_or_null, sought, before_by, before_default, has_value, kept, put_global, set_global, stored};
 
+use crate::left::or_null;
+use crate::parts::{got, is_null, owner, sought_owner, target};
+use crate::stop::{Stop, fails};
 use crate::walk::Walk;
-use sw_state::{fails, got, is_null, or_null, owner, sought_owner, target};
 use sw_syntax_tree::{Flags, Kind, Qualified};
-use sw_talk::Stop;
 use sw_text::{FaultCode, Name, Span};
 use sw_values::Value;
 use sw_world::World;

@@ -1,16 +1,16 @@
 // Texts of a sheet in which values stand.
 ghost use Rattle.sw_literals.specs.Answers.{Returns};
-ghost use Rattle.sw_eval.specs.Going.{Goes_on};
+ghost use Rattle.sw_eval.specs.Did.{Goes_on};
 ghost use Rattle.sw_eval.specs.Texts.{spelled, spelled_value, piece, pieces, mixed, text};
 ghost use Rattle.sw_eval.specs.Means.{value_to};
 ghost use Rattle.std.specs.Prelude.{[]};
 
 use crate::level::Level;
+use crate::stop::{Stop, stopped};
 use crate::walk::Walk;
 use std::alloc::Global;
 use sw_literals::{Refused, css_text, inserted, joined};
 use sw_syntax_tree::{Expr, Parts, Piece};
-use sw_talk::{Stop, stopped};
 use sw_text::{List, Name, Span};
 use sw_values::Value;
 use sw_world::World;

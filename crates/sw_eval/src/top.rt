@@ -1,16 +1,18 @@
 // The statements of the top level.
 ghost use Rattle.std.specs.Prelude.{◌≡◌, ◌<◌, is_some, IfOk, IfSome, vec_len, vec_capacity};
-ghost use Rattle.sw_talk.specs.Did.{stand};
+ghost use Rattle.sw_eval.specs.Did.{stand};
 ghost use Rattle.sw_eval.specs.Tops.{TopDid, Walked};
-ghost use Rattle.sw_talk.specs.Loaded.{loaded};
+ghost use Rattle.sw_eval.specs.Loaded.{loaded};
 ghost use Rattle.sw_eval.specs.Means.{load_of, ends_loads, marked, space_of, configures, used};
 
-use crate::places::place_of;
+use crate::ask::known;
+use crate::output::numbered;
+use crate::parts::place_of;
+use crate::state::State;
+use crate::stop::{Stop, fails};
 use crate::walk::Walk;
 use std::alloc::Global;
-use sw_state::{State, fails, numbered};
 use sw_syntax_tree::{Namespace, Statement, Use};
-use sw_talk::{Stop, known};
 use sw_text::{FaultCode, List, Memory, Name, Shared};
 use sw_world::{How, Op, World};
 

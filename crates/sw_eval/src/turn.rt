@@ -1,15 +1,14 @@
 // Turns of a body.
 ghost use Rattle.std.specs.Prelude.{◌≡◌, IfOk, vec_len, vec_capacity};
-ghost use Rattle.sw_eval.specs.Means.{body};
-ghost use Rattle.sw_talk.specs.Turns.{TurnDid, IsStep, HasRoomAt};
-ghost use Rattle.sw_state.specs.Begin.{begin};
-ghost use Rattle.sw_eval.specs.Resume.{IsResume};
+ghost use Rattle.sw_eval.specs.Means.{body, begin};
+ghost use Rattle.sw_eval.specs.Resume.{IsResume, TurnDid, IsStep, HasRoomAt};
 
+use crate::left::finish;
+use crate::state::State;
+use crate::stop::Stop;
 use crate::top::walk_on;
 use crate::walk::Walk;
-use sw_state::{State, finish};
 use sw_syntax_tree::Sheet;
-use sw_talk::Stop;
 use sw_text::Memory;
 use sw_world::{Config, End, Turn, World};
 
@@ -23,7 +22,7 @@ fn reset(walk: &mut Walk, next: &mut usize)
 {
     *next = 0;
     walk.state = State::begin(walk.alloc);
-    walk.asked.restart();
+    walk.asked.at = 0;
 }
 
 // A turn of a body: on to a load, or to the end.

@@ -1,19 +1,18 @@
 // Values of expressions.
 ghost use Rattle.std.specs.Prelude.{[]};
-ghost use Rattle.sw_eval.specs.Going.{Goes_on};
+ghost use Rattle.sw_eval.specs.Did.{Goes_on};
 ghost use Rattle.sw_eval.specs.Expressions.{string, word, signed, linked, links, chain, items, plain_value, pairs, map, value_one};
 ghost use Rattle.sw_eval.specs.Means.{value_to};
 
 use crate::level::Level;
+use crate::stop::{Stop, fails, stopped};
 use crate::texts::TextKind;
 use crate::walk::Walk;
 use sw_literals::{
     Left, Parens, constant_value, hash_value, important_value, list_value, map_value, needs_right,
     number_value, plain_at, prefixed, string_value, word_value,
 };
-use sw_state::fails;
 use sw_syntax_tree::{Expr, ExprKind, Link, Pair, Parts, Sign};
-use sw_talk::{Stop, stopped};
 use sw_text::{FaultCode, List, Span};
 use sw_values::Value;
 use sw_world::World;

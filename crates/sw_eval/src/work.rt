@@ -1,21 +1,21 @@
 // Statements.
 ghost use Rattle.sw_literals.specs.declared.quotients.Parens.TheVariants as P;
 ghost use Rattle.sw_eval.specs.declared.texts.TextKind.TheVariants as K;
-ghost use Rattle.sw_eval.specs.Going.{Goes_on};
+ghost use Rattle.sw_eval.specs.Did.{Goes_on};
 ghost use Rattle.sw_eval.specs.Texts.{text};
 ghost use Rattle.sw_eval.specs.Expressions.{plain_value};
-ghost use Rattle.sw_eval.specs.Statements.{declaration, comment, rule, does_one};
+ghost use Rattle.sw_eval.specs.Statements.{declaration, rule, does_one};
 ghost use Rattle.sw_eval.specs.Means.{value_to, does_to};
 
 use crate::level::Level;
-use crate::places::place_of;
+use crate::output::close;
+use crate::parts::place_of;
+use crate::stop::{Stop, fails};
 use crate::texts::TextKind;
 use crate::walk::Walk;
 use sw_literals::Parens;
 use sw_scope::FrameKind;
-use sw_state::{close, fails};
 use sw_syntax_tree::{Declaration, Expr, Rule, Statement, Text};
-use sw_talk::Stop;
 use sw_text::{FaultCode, Name};
 use sw_values::Value;
 use sw_world::World;
@@ -96,20 +96,6 @@ impl Walk {
         Ok(None)
     }
 
-    // A comment, with the values in it.
-    fn comment<W: World>(
-        &mut self,
-        inner: u32,
-        it: &Text,
-        world: &mut W,
-    ) -> Result<Option<Value>, Stop>
-        ensures { Goes_on W.gives (comment (value_to inner) it.now) self.old world.old result self.new world.new }
-    {
-        let text = self.statement_text(inner, it, world)?;
-        self.state.commented(text, &it.span)?;
-        Ok(None)
-    }
-
     // A statement, at most so deep. A value that it gives ends what is around it.
     #[cycle(walk)]
     pub(crate) fn does<W: World>(
@@ -146,12 +132,7 @@ impl Walk {
                 otherwise,
                 ..
             } => self.branches(inner, branches.as_slice(), otherwise, world),
-            Statement::Each(one) => self.each_in(inner, one, world),
-            Statement::For(one) => self.count_in(inner, one, world),
             Statement::While(one) => self.repeat_in(inner, one, world),
-            Statement::Say(one) => self.saying(inner, one, world),
-            Statement::Charset(_) => Ok(None),
-            Statement::Comment(text) => self.comment(inner, text, world),
             Statement::Use(_)
             | Statement::Properties(_)
             | Statement::Custom(_)
@@ -160,12 +141,17 @@ impl Walk {
             | Statement::Include { .. }
             | Statement::Content(_)
             | Statement::Return(_)
+            | Statement::Say(_)
+            | Statement::Each(_)
+            | Statement::For(_)
             | Statement::Media(_)
             | Statement::Supports(_)
             | Statement::AtRoot(_)
+            | Statement::Charset(_)
             | Statement::Import(_)
             | Statement::Extend(_)
-            | Statement::AtRule(_) => fails(FaultCode::BadPlace, place_of(statement)),
+            | Statement::AtRule(_)
+            | Statement::Comment(_) => fails(FaultCode::BadPlace, place_of(statement)),
         }
     }
 

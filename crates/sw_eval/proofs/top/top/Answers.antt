@@ -1,8 +1,7 @@
 use Rattle.std.proofs.Common.{◌≡◌, true, false, is_some, ap, arith}
 use Rattle.sw_world.specs.Laws.{most_asked}
 use Rattle.sw_eval.specs.Means.{load_of}
-use Rattle.sw_eval.proofs.Tops.{no_load, some_load, top_memory, other_errs, other_goes, late_fails, load_stops, load_errs, load_goes, load_goes_on}
-use Rattle.sw_talk.proofs.Heard.{fails_ok, heard}
+use Rattle.sw_eval.proofs.Tops.{no_load, some_load, top_memory, other_errs, other_goes, late_fails, load_stops, load_errs, load_goes, load_goes_on, fails_ok}
 use Rattle.sw_eval.proofs.top.top.Goals as goal
 
 pub returns-in_err-_value-clause-did : goal.returns-in_err-_value-clause-did
@@ -43,10 +42,10 @@ pub returns-in_err-_answer-clause-did : goal.returns-in_err-_answer-clause-did
 returns-in_err-_answer-clause-did g c =
     let some : true ≡ is_some (load_of c.args.statement.now) = rw c.if-not-is_load.false at c.is_load.ensures in
     let load = some_load c.args.walk.now.asked.path c.args.statement.now some in
-    load_errs g.W.World.gives c.args.number c.args.statement.now c.args.walk.now.state _ _ _ _ _ _ load.0 load.1 c.if-walk.false (rw c.place_of-2.ensures at (heard _ _ c.args.walk.now.asked c.known.new.asked c.args.walk.now.state (c.in_err-_answer.ensures.did load.0 load.2.0 (load_goes_on _ _ _ _ load.1 load.2.1 _).1))) c.from_residual-in_err-_answer.ensures
+    load_errs g.W.World.gives c.args.number c.args.statement.now c.args.walk.now.state _ _ _ _ _ _ load.0 load.1 c.if-walk.false (rw c.place_of-2.ensures at (c.in_err-_answer.ensures.did load.0 load.2.0 c.args.walk.now.state (load_goes_on _ _ _ _ load.1 load.2.1 _).1)) c.from_residual-in_err-_answer.ensures
 
 pub returns-clause-did : goal.returns-clause-did
 returns-clause-did g c =
     let some : true ≡ is_some (load_of c.args.statement.now) = rw c.if-not-is_load.false at c.is_load.ensures in
     let load = some_load c.args.walk.now.asked.path c.args.statement.now some in
-    load_goes g.W.World.gives c.args.number c.args.statement.now c.args.walk.now.state _ _ _ _ _ load.0 load.1 c.if-walk.false (rw c.place_of-2.ensures at (heard _ _ c.args.walk.now.asked c.known.new.asked c.args.walk.now.state (c.in_ok-_answer.ensures.did load.0 load.2.0 (load_goes_on _ _ _ _ load.1 load.2.1 _).1)))
+    load_goes g.W.World.gives c.args.number c.args.statement.now c.args.walk.now.state _ _ _ _ _ load.0 load.1 c.if-walk.false (rw c.place_of-2.ensures at (c.in_ok-_answer.ensures.did load.0 load.2.0 c.args.walk.now.state (load_goes_on _ _ _ _ load.1 load.2.1 _).1))

@@ -1,6 +1,6 @@
 use Rattle.std.proofs.Common.{◌-◌, drop, length}
-use Rattle.sw_talk.specs.Did.{stand}
-use Rattle.sw_talk.specs.Ran.{Ran}
+use Rattle.sw_eval.specs.Did.{stand}
+use Rattle.sw_eval.specs.Ran.{Ran}
 use Rattle.sw_eval.specs.Means.{tops}
 use Rattle.sw_eval.proofs.top.walk_on.Given as goal
 

@@ -2,16 +2,16 @@ use Rattle.std.proofs.Common.{◌≡◌, ◌++◌, ◌∷◌, [], ⊎_elim, sym,
 use Rattle.sw_syntax_tree.specs.declared.expr.ExprKind as E
 use Rattle.sw_syntax_tree.specs.declared.text.Parts as T
 use Rattle.sw_syntax_tree.specs.declared.text.Piece as C
-use Rattle.sw_talk.specs.Ran.{still}
+use Rattle.sw_eval.specs.Ran.{still}
 use Rattle.sw_eval.specs.Texts.{spelled_value, piece, pieces, mixed, text}
 use Rattle.sw_eval.specs.Expressions.{string, word, signed, linked, links, chain, items, plain_value, pairs, map, value_one}
 use Rattle.sw_eval.specs.Means.{value_to}
-use Rattle.sw_talk.proofs.Steps.{no_memory, did_value, did_err, did_then, did_plain, ran_then, ran_did}
-use Rattle.sw_talk.proofs.Refusals.{did_answer, did_refused, did_stopped}
-use Rattle.sw_talk.proofs.Choices.{did_yes, did_no}
+use Rattle.sw_eval.proofs.Steps.{no_memory, did_value, did_err, did_then, did_plain, ran_then, ran_did}
+use Rattle.sw_eval.proofs.Refusals.{did_answer, did_refused, did_stopped}
+use Rattle.sw_eval.proofs.Choices.{did_yes, did_no}
 use Rattle.sw_eval.proofs.Depth.{one_level}
 use Rattle.sw_eval.proofs.ExprOpens.{out_Prefixed, out_Chain, out_List, out_Paren, out_Map, out_Mixed}
-use Rattle.sw_talk.proofs.Loops.{loop_at, loop_end}
+use Rattle.sw_eval.proofs.Loops.{loop_at, loop_end}
 use Rattle.sw_eval.proofs.walk.Walk.+value.Goals as goal
 
 pub value-returns-then-level-eq0 : goal.value-returns-then-level-eq0

@@ -1,6 +1,6 @@
 use Rattle.std.proofs.Common.{◌+◌, ◌*◌, [], drop}
-use Rattle.sw_talk.specs.Did.{stand}
-use Rattle.sw_talk.specs.Ran.{Ran}
+use Rattle.sw_eval.specs.Did.{stand}
+use Rattle.sw_eval.specs.Ran.{Ran}
 use Rattle.sw_eval.specs.Texts.{pieces}
 use Rattle.sw_eval.specs.Expressions.{links, items, pairs}
 use Rattle.sw_eval.specs.Means.{value_to}

@@ -1,18 +1,16 @@
-use Rattle.std.proofs.Common.{◌≡◌, suc, ◌+◌, ⊎_elim, arith, ◌-◌}
+use Rattle.std.proofs.Common.{◌≡◌, suc, ◌+◌, ⊎_elim, arith}
 use Rattle.sw_syntax_tree.specs.declared.statement.Statement as S
 use Rattle.sw_eval.specs.Layers.{place_of}
-use Rattle.sw_talk.specs.Ran.{still}
+use Rattle.sw_eval.specs.Ran.{still}
 use Rattle.sw_eval.specs.Flow.{block, framed, branches, repeat, repeats, repeat_in}
-use Rattle.sw_eval.specs.Loops.{each, each_over, each_in, count, counts, count_over, count_in}
 use Rattle.sw_eval.specs.Statements.{rule, does_one}
 use Rattle.sw_eval.specs.Means.{value_to, does_to}
-use Rattle.sw_talk.proofs.Steps.{no_memory_by, gives_state, did_value, did_err, did_then, did_plain, ran_then, ran_did}
+use Rattle.sw_eval.proofs.Steps.{no_memory_by, gives_state, did_value, did_err, did_then, did_plain, ran_then, ran_did}
 use Rattle.sw_eval.proofs.Depth.{one_level_does}
-use Rattle.sw_eval.proofs.Opens.{out_Rule, out_If, out_While, out_Each, out_For}
-use Rattle.sw_talk.proofs.Loops.{loop_at, loop_end}
-use Rattle.sw_talk.proofs.Choices.{did_yes, did_no}
-use Rattle.sw_talk.proofs.Counts.{turn_at, turn_end}
-use Rattle.sw_talk.proofs.Upward.{up_at, up_next, up_end, is_less, not_less}
+use Rattle.sw_eval.proofs.Opens.{out_Rule, out_If, out_While}
+use Rattle.sw_eval.proofs.Loops.{loop_at, loop_end}
+use Rattle.sw_eval.proofs.Choices.{did_yes, did_no}
+use Rattle.sw_eval.proofs.Counts.{turn_at, turn_end}
 use Rattle.sw_eval.proofs.walk.Walk.+walk.Goals as goal
 
 pub does-returns-then-depth-eq0 : goal.does-returns-then-depth-eq0
@@ -113,7 +111,12 @@ does_one-returns-in-Use g t c =
     (⊎_elim (λ p. rw p.1 (did_plain _ c.args.self.now.state _ _ _ (rw (c.place_of.ensures, p.1) at (c.fails.ensures c.args.self.now.state))))
     (⊎_elim (λ p. rw p.1 (did_plain _ c.args.self.now.state _ _ _ (rw (c.place_of.ensures, p.1) at (c.fails.ensures c.args.self.now.state))))
     (⊎_elim (λ p. rw p.1 (did_plain _ c.args.self.now.state _ _ _ (rw (c.place_of.ensures, p.1) at (c.fails.ensures c.args.self.now.state))))
-    (λ p. rw p.1 (did_plain _ c.args.self.now.state _ _ _ (rw (c.place_of.ensures, p.1) at (c.fails.ensures c.args.self.now.state))))))))))))))))) c.in-Use.is
+    (⊎_elim (λ p. rw p.1 (did_plain _ c.args.self.now.state _ _ _ (rw (c.place_of.ensures, p.1) at (c.fails.ensures c.args.self.now.state))))
+    (⊎_elim (λ p. rw p.1 (did_plain _ c.args.self.now.state _ _ _ (rw (c.place_of.ensures, p.1) at (c.fails.ensures c.args.self.now.state))))
+    (⊎_elim (λ p. rw p.1 (did_plain _ c.args.self.now.state _ _ _ (rw (c.place_of.ensures, p.1) at (c.fails.ensures c.args.self.now.state))))
+    (⊎_elim (λ p. rw p.1 (did_plain _ c.args.self.now.state _ _ _ (rw (c.place_of.ensures, p.1) at (c.fails.ensures c.args.self.now.state))))
+    (⊎_elim (λ p. rw p.1 (did_plain _ c.args.self.now.state _ _ _ (rw (c.place_of.ensures, p.1) at (c.fails.ensures c.args.self.now.state))))
+    (λ p. rw p.1 (did_plain _ c.args.self.now.state _ _ _ (rw (c.place_of.ensures, p.1) at (c.fails.ensures c.args.self.now.state)))))))))))))))))))))) c.in-Use.is
 
 pub does_one-returns-in-If : goal.does_one-returns-in-If
 unfolding does_one
@@ -191,130 +194,3 @@ pub repeat_in-returns : goal.repeat_in-returns
 unfolding repeat_in
 repeat_in-returns g t c =
     rw (gives_state c.in_ok-enter.ensures) (did_then _ c.in_ok-value.ensures (rw c.leave.ensures (did_value _ _ _ _)))
-
-pub does_one-returns-in-Say : goal.does_one-returns-in-Say
-unfolding does_one S.out-Statement denote.Hole.Carrier.out
-does_one-returns-in-Say g t c = rw c.in-Say.is c.saying.ensures
-
-pub does_one-returns-in-Charset : goal.does_one-returns-in-Charset
-unfolding does_one S.out-Statement denote.Hole.Carrier.out
-does_one-returns-in-Charset g t c = rw c.in-Charset.is (did_value _ c.args.self.now.state _ _)
-
-pub does_one-returns-in-Comment : goal.does_one-returns-in-Comment
-unfolding does_one S.out-Statement denote.Hole.Carrier.out
-does_one-returns-in-Comment g t c = rw c.in-Comment.is c.comment.ensures
-
-pub does_one-returns-in-Each : goal.does_one-returns-in-Each
-unfolding does_one
-does_one-returns-in-Each g t c = rw (c.in-Each.is, out_Each) c.each_in.ensures
-
-pub does_one-returns-in-For : goal.does_one-returns-in-For
-unfolding does_one
-does_one-returns-in-For g t c = rw (c.in-For.is, out_For) c.count_in.ensures
-
-pub each-loop-one-init : goal.each-loop-one-init
-each-loop-one-init g t c = still _ _ _
-
-pub each-returns-in_err-spend : goal.each-returns-in_err-spend
-each-returns-in_err-spend g t c =
-    ran_did (loop_at (λ l s. each (does_to c.args.inner) c.args.statement.now l s) c.args.elements.now c.loop-one.one-index c.one-item.result c.loop-one.self.state c.loop-one-test.true c.one-item.is c.loop-one.invariant) (did_err _ (did_plain _ _ _ _ _ c.in_err-spend.ensures) c.from_residual.ensures)
-
-pub each-returns-in_err-take_apart : goal.each-returns-in_err-take_apart
-each-returns-in_err-take_apart g t c =
-    ran_did (loop_at (λ l s. each (does_to c.args.inner) c.args.statement.now l s) c.args.elements.now c.loop-one.one-index c.one-item.result c.loop-one.self.state c.loop-one-test.true c.one-item.is c.loop-one.invariant) (did_then _ (did_plain _ _ _ _ _ c.in_ok-spend.ensures) (did_err _ (did_plain _ _ _ _ _ (rw c.as_slice.ensures at c.in_err-take_apart.ensures)) c.from_residual-in_err-take_apart.ensures))
-
-pub each-returns-in_err-value : goal.each-returns-in_err-value
-each-returns-in_err-value g t c =
-    ran_did (loop_at (λ l s. each (does_to c.args.inner) c.args.statement.now l s) c.args.elements.now c.loop-one.one-index c.one-item.result c.loop-one.self.state c.loop-one-test.true c.one-item.is c.loop-one.invariant) (did_then _ (did_plain _ _ _ _ _ c.in_ok-spend.ensures) (did_then _ (did_plain _ _ _ _ _ (rw c.as_slice.ensures at c.in_ok-take_apart.ensures)) (did_err _ (rw c.as_slice-in-loop-one.ensures at c.in_err-value.ensures) c.from_residual-in_err-value.ensures)))
-
-pub each-returns-in-Some : goal.each-returns-in-Some
-each-returns-in-Some g t c =
-    ran_did (loop_at (λ l s. each (does_to c.args.inner) c.args.statement.now l s) c.args.elements.now c.loop-one.one-index c.one-item.result c.loop-one.self.state c.loop-one-test.true c.one-item.is c.loop-one.invariant) (did_then _ (did_plain _ _ _ _ _ c.in_ok-spend.ensures) (did_then _ (did_plain _ _ _ _ _ (rw c.as_slice.ensures at c.in_ok-take_apart.ensures)) (did_then _ (rw (c.as_slice-in-loop-one.ensures, c.in-Some.is) at c.in_ok-value.ensures) (did_value _ _ _ _))))
-
-pub each-loop-one-preserved : goal.each-loop-one-preserved
-each-loop-one-preserved g t c =
-    ran_then _ (ran_then _ (ran_then _ (loop_at (λ l s. each (does_to c.args.inner) c.args.statement.now l s) c.args.elements.now c.loop-one.one-index c.one-item.result c.loop-one.self.state c.loop-one-test.true c.one-item.is c.loop-one.invariant) (did_plain _ _ _ _ _ c.in_ok-spend.ensures)) (did_plain _ _ _ _ _ (rw c.as_slice.ensures at c.in_ok-take_apart.ensures))) (rw (c.as_slice-in-loop-one.ensures, c.in_default.is) at c.in_ok-value.ensures)
-
-pub each-returns : goal.each-returns
-each-returns g t c =
-    ran_did (loop_end (λ l s. each (does_to c.args.inner) c.args.statement.now l s) c.args.elements.now c.loop-one.one-index c.loop-one.self.state (omega arith) c.loop-one.invariant) (did_value _ _ _ _)
-
-pub each_over-returns-in_err-enter : goal.each_over-returns-in_err-enter
-each_over-returns-in_err-enter g t c = no_memory_by _ _ _ _ _ _ _ _ c.in_err-enter.ensures c.from_residual.ensures
-
-pub each_over-returns-in_err-declare_nulls : goal.each_over-returns-in_err-declare_nulls
-each_over-returns-in_err-declare_nulls g t c = no_memory_by _ _ _ _ _ _ _ _ c.in_err-declare_nulls.ensures c.from_residual-in_err-declare_nulls.ensures
-
-pub each_over-returns-in_err-value : goal.each_over-returns-in_err-value
-unfolding each_over
-each_over-returns-in_err-value g t c =
-    rw (gives_state c.in_ok-enter.ensures, rw c.as_slice.ensures at (gives_state c.in_ok-declare_nulls.ensures)) (did_err _ c.in_err-value.ensures c.from_residual-in_err-value.ensures)
-
-pub each_over-returns : goal.each_over-returns
-unfolding each_over
-each_over-returns g t c =
-    rw (gives_state c.in_ok-enter.ensures, rw c.as_slice.ensures at (gives_state c.in_ok-declare_nulls.ensures)) (did_then _ c.in_ok-value.ensures (rw c.leave.ensures (did_value _ _ _ _)))
-
-pub each_in-returns-in_err-elements : goal.each_in-returns-in_err-elements
-unfolding each_in
-each_in-returns-in_err-elements g t c = did_err _ c.in_err-elements.ensures c.from_residual.ensures
-
-pub each_in-returns : goal.each_in-returns
-unfolding each_in
-each_in-returns g t c = did_then _ c.in_ok-elements.ensures (rw c.as_slice.ensures at c.each_over.ensures)
-
-pub count_over-returns-in_err-enter : goal.count_over-returns-in_err-enter
-count_over-returns-in_err-enter g t c = no_memory_by _ _ _ _ _ _ _ _ c.in_err-enter.ensures c.from_residual.ensures
-
-pub count_over-returns-in_err-declare_null : goal.count_over-returns-in_err-declare_null
-count_over-returns-in_err-declare_null g t c = no_memory_by _ _ _ _ _ _ _ _ c.in_err-declare_null.ensures c.from_residual-in_err-declare_null.ensures
-
-pub count_over-returns-in_err-value : goal.count_over-returns-in_err-value
-unfolding count_over
-count_over-returns-in_err-value g t c =
-    rw (gives_state c.in_ok-enter.ensures, gives_state c.in_ok-declare_null.ensures) (did_err _ c.in_err-value.ensures c.from_residual-in_err-value.ensures)
-
-pub count_over-returns : goal.count_over-returns
-unfolding count_over
-count_over-returns g t c =
-    rw (gives_state c.in_ok-enter.ensures, gives_state c.in_ok-declare_null.ensures) (did_then _ c.in_ok-value.ensures (rw c.leave.ensures (did_value _ _ _ _)))
-
-pub count_in-returns-in_err-numbers : goal.count_in-returns-in_err-numbers
-unfolding count_in
-count_in-returns-in_err-numbers g t c = did_err _ c.in_err-numbers.ensures c.from_residual.ensures
-
-pub count_in-returns : goal.count_in-returns
-unfolding count_in
-count_in-returns g t c = did_then _ c.in_ok-numbers.ensures c.count_over.ensures
-
-pub counts-loop-turn-init : goal.counts-loop-turn-init
-unfolding counts
-counts-loop-turn-init g t c = let tests : (c.from-tests.result + 1) - 0 ≡ suc c.args.self.now.state.turns = omega (arith, c.from-tests.ensures) in rw tests (still _ _ _)
-
-pub counts-returns-then-from-turns : goal.counts-returns-then-from-turns
-counts-returns-then-from-turns g t c =
-    ran_did (up_at (λ m n s. count (does_to c.args.inner) c.args.statement.now c.args.numbers.now m n s) c.loop-turn.turn (c.from-tests.result + 1) c.loop-turn.self.state c.loop-turn-test.true c.loop-turn.invariant) (did_no _ _ _ (not_less _ _ (rw (c.turns.ensures, c.from.ensures) at c.if-from-turns.true)) (did_value _ _ _ _))
-
-pub counts-returns-in_err-spend : goal.counts-returns-in_err-spend
-counts-returns-in_err-spend g t c =
-    ran_did (up_at (λ m n s. count (does_to c.args.inner) c.args.statement.now c.args.numbers.now m n s) c.loop-turn.turn (c.from-tests.result + 1) c.loop-turn.self.state c.loop-turn-test.true c.loop-turn.invariant) (did_yes _ _ _ (is_less _ _ (rw (c.turns.ensures, c.from.ensures) at c.if-from-turns.false)) (did_err _ (did_plain _ _ _ _ _ c.in_err-spend.ensures) c.from_residual.ensures))
-
-pub counts-returns-in_err-count_to : goal.counts-returns-in_err-count_to
-counts-returns-in_err-count_to g t c =
-    ran_did (up_at (λ m n s. count (does_to c.args.inner) c.args.statement.now c.args.numbers.now m n s) c.loop-turn.turn (c.from-tests.result + 1) c.loop-turn.self.state c.loop-turn-test.true c.loop-turn.invariant) (did_yes _ _ _ (is_less _ _ (rw (c.turns.ensures, c.from.ensures) at c.if-from-turns.false)) (did_then _ (did_plain _ _ _ _ _ c.in_ok-spend.ensures) (no_memory_by _ _ _ _ _ _ _ _ c.in_err-count_to.ensures c.from_residual-in_err-count_to.ensures)))
-
-pub counts-returns-in_err-value : goal.counts-returns-in_err-value
-counts-returns-in_err-value g t c =
-    ran_did (up_at (λ m n s. count (does_to c.args.inner) c.args.statement.now c.args.numbers.now m n s) c.loop-turn.turn (c.from-tests.result + 1) c.loop-turn.self.state c.loop-turn-test.true c.loop-turn.invariant) (did_yes _ _ _ (is_less _ _ (rw (c.turns.ensures, c.from.ensures) at c.if-from-turns.false)) (did_then _ (did_plain _ _ _ _ _ c.in_ok-spend.ensures) (rw (gives_state c.in_ok-count_to.ensures) (did_err _ (rw c.as_slice.ensures at c.in_err-value.ensures) c.from_residual-in_err-value.ensures))))
-
-pub counts-returns-in-Some : goal.counts-returns-in-Some
-counts-returns-in-Some g t c =
-    ran_did (up_at (λ m n s. count (does_to c.args.inner) c.args.statement.now c.args.numbers.now m n s) c.loop-turn.turn (c.from-tests.result + 1) c.loop-turn.self.state c.loop-turn-test.true c.loop-turn.invariant) (did_yes _ _ _ (is_less _ _ (rw (c.turns.ensures, c.from.ensures) at c.if-from-turns.false)) (did_then _ (did_plain _ _ _ _ _ c.in_ok-spend.ensures) (rw (gives_state c.in_ok-count_to.ensures) (did_then _ (rw (c.as_slice.ensures, c.in-Some.is) at c.in_ok-value.ensures) (did_value _ _ _ _)))))
-
-pub counts-loop-turn-preserved : goal.counts-loop-turn-preserved
-counts-loop-turn-preserved g t c =
-    up_next (λ m n s. count (does_to c.args.inner) c.args.statement.now c.args.numbers.now m n s) _ _ _ (ran_then _ (rw (gives_state c.in_ok-count_to.ensures) at (ran_then _ (rw (is_less _ _ (rw (c.turns.ensures, c.from.ensures) at c.if-from-turns.false)) at (up_at (λ m n s. count (does_to c.args.inner) c.args.statement.now c.args.numbers.now m n s) c.loop-turn.turn (c.from-tests.result + 1) c.loop-turn.self.state c.loop-turn-test.true c.loop-turn.invariant)) (did_plain _ _ _ _ _ c.in_ok-spend.ensures))) (rw (c.as_slice.ensures, c.in_default.is) at c.in_ok-value.ensures))
-
-pub counts-returns : goal.counts-returns
-counts-returns g t c =
-    ran_did (up_end (λ m n s. count (does_to c.args.inner) c.args.statement.now c.args.numbers.now m n s) c.loop-turn.turn (c.from-tests.result + 1) c.loop-turn.self.state (omega arith) c.loop-turn.invariant) (did_plain _ c.loop-turn.self.state _ _ _ (c.fails.ensures c.loop-turn.self.state))

@@ -1,5 +1,5 @@
 use Rattle.sw_eval.specs.Statements.{assigned}
-use Rattle.sw_talk.proofs.Choices.{did_yes, did_no}
+use Rattle.sw_eval.proofs.Choices.{did_yes, did_no}
 use Rattle.sw_eval.proofs.walk.Walk.assigned.Goals as goal
 
 pub returns-then-statement : goal.returns-then-statement

@@ -1,5 +1,5 @@
 use Rattle.sw_eval.specs.Statements.{assigned_default}
-use Rattle.sw_talk.proofs.Steps.{did_value, did_err, did_then}
+use Rattle.sw_eval.proofs.Steps.{did_value, did_err, did_then}
 use Rattle.sw_eval.proofs.walk.Walk.assigned_default.Goals as goal
 
 pub returns-in_err-owner : goal.returns-in_err-owner

@@ -1,5 +1,5 @@
 use Rattle.sw_eval.specs.Variables.{before_by}
-use Rattle.sw_talk.proofs.Steps.{no_memory, did_value}
+use Rattle.sw_eval.proofs.Steps.{no_memory, did_value}
 use Rattle.sw_eval.proofs.walk.Walk.before_by.Goals as goal
 
 pub returns-then-global : goal.returns-then-global

@@ -1,5 +1,5 @@
 use Rattle.sw_eval.specs.Variables.{before_default}
-use Rattle.sw_talk.proofs.Steps.{no_memory, did_value}
+use Rattle.sw_eval.proofs.Steps.{no_memory, did_value}
 use Rattle.sw_eval.proofs.walk.Walk.before_default.Goals as goal
 
 pub returns-in_err-or_null : goal.returns-in_err-or_null

@@ -1,5 +1,5 @@
 use Rattle.sw_eval.specs.Statements.{declaration}
-use Rattle.sw_talk.proofs.Steps.{did_value, did_err, did_then, did_plain}
+use Rattle.sw_eval.proofs.Steps.{did_value, did_err, did_then, did_plain}
 use Rattle.sw_eval.proofs.walk.Walk.declaration.Goals as goal
 
 pub returns-then-not-is_open : goal.returns-then-not-is_open

@@ -1,4 +1,4 @@
-use Rattle.sw_talk.proofs.Steps.{did_value}
+use Rattle.sw_eval.proofs.Steps.{did_value}
 use Rattle.sw_eval.proofs.walk.Walk.got_or_null.Goals as goal
 
 pub returns-in-Some : goal.returns-in-Some

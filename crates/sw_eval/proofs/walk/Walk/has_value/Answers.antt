@@ -1,5 +1,5 @@
 use Rattle.sw_eval.specs.Variables.{has_value}
-use Rattle.sw_talk.proofs.Steps.{did_value, did_err, did_then}
+use Rattle.sw_eval.proofs.Steps.{did_value, did_err, did_then}
 use Rattle.sw_eval.proofs.walk.Walk.has_value.Goals as goal
 
 pub returns-in_err-old : goal.returns-in_err-old

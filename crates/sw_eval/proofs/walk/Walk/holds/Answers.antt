@@ -1,5 +1,5 @@
 use Rattle.sw_eval.specs.Flow.{holds}
-use Rattle.sw_talk.proofs.Steps.{did_value, did_err, did_then}
+use Rattle.sw_eval.proofs.Steps.{did_value, did_err, did_then}
 use Rattle.sw_eval.proofs.walk.Walk.holds.Goals as goal
 
 pub returns-in_err-test : goal.returns-in_err-test

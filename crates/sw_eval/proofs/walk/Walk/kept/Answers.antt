@@ -1,5 +1,5 @@
 use Rattle.sw_eval.specs.Variables.{kept}
-use Rattle.sw_talk.proofs.Steps.{did_value}
+use Rattle.sw_eval.proofs.Steps.{did_value}
 use Rattle.sw_eval.proofs.walk.Walk.kept.Goals as goal
 
 pub returns-then-flags : goal.returns-then-flags

@@ -1,5 +1,5 @@
 use Rattle.sw_eval.specs.Variables.{owner_of}
-use Rattle.sw_talk.proofs.Steps.{did_err, did_then, did_plain}
+use Rattle.sw_eval.proofs.Steps.{did_err, did_then, did_plain}
 use Rattle.sw_eval.proofs.walk.Walk.owner_of.Goals as goal
 
 pub returns-in_err-a : goal.returns-in_err-a

@@ -1,5 +1,5 @@
 use Rattle.sw_eval.specs.Variables.{put_global}
-use Rattle.sw_talk.proofs.Steps.{did_err, did_then}
+use Rattle.sw_eval.proofs.Steps.{did_err, did_then}
 use Rattle.sw_eval.proofs.walk.Walk.put_global.Goals as goal
 
 pub returns-in_err-number : goal.returns-in_err-number

@@ -1,5 +1,5 @@
 use Rattle.sw_eval.specs.Variables.{set_global}
-use Rattle.sw_talk.proofs.Steps.{did_plain}
+use Rattle.sw_eval.proofs.Steps.{did_plain}
 use Rattle.sw_eval.proofs.walk.Walk.set_global.Goals as goal
 
 pub returns-then-is_home : goal.returns-then-is_home

@@ -1,5 +1,5 @@
 use Rattle.sw_eval.specs.Variables.{stored}
-use Rattle.sw_talk.proofs.Steps.{no_memory, did_plain}
+use Rattle.sw_eval.proofs.Steps.{no_memory, did_plain}
 use Rattle.sw_eval.proofs.walk.Walk.stored.Goals as goal
 
 pub returns-then-global : goal.returns-then-global

@@ -1,5 +1,5 @@
 use Rattle.sw_eval.specs.Statements.{variable_set}
-use Rattle.sw_talk.proofs.Steps.{did_value, did_err, did_then}
+use Rattle.sw_eval.proofs.Steps.{did_value, did_err, did_then}
 use Rattle.sw_eval.proofs.walk.Walk.variable_set.Goals as goal
 
 pub returns-in_err-kept : goal.returns-in_err-kept

@@ -1,0 +1,15 @@
+-- Loops that count, a step at a time.
+use Rattle.std.proofs.Common.{◌≡◌, ℕ, zero, suc, ◌-◌, ◌<◌, ◌≤◌, subst, arith}
+use Rattle.sw_world.specs.declared.op.Op.{Op}
+use Rattle.sw_world.specs.declared.answer.Answer.{Answer}
+use Rattle.sw_eval.specs.Talk.{Talk}
+use Rattle.sw_eval.specs.Ran.{Stand, Ran}
+use Rattle.sw_eval.specs.declared.state.State.{State}
+
+-- down, where the talk is `go` of how many turns are left: at a turn, and where none is left
+module _ {W A : Type 0} {gives : W → Op → Answer → W → Type 0} (go : ℕ → State → Talk (A × State)) where
+  pub turn_at : {T : Talk (A × State)} {z a : Stand} {q w : W} (n : ℕ) (s : State) → 0 < n → Ran gives T z q (go n s) a w → Ran gives T z q (go (suc (n - 1)) s) a w
+  turn_at {T = T} {z = z} {a = a} {q = q} {w = w} n s some on = let k : n ≡ suc (n - 1) = omega arith in subst (λ (m : ℕ). Ran gives T z q (go m s) a w) k on
+
+  pub turn_end : {T : Talk (A × State)} {z a : Stand} {q w : W} (n : ℕ) (s : State) → n ≤ 0 → Ran gives T z q (go n s) a w → Ran gives T z q (go zero s) a w
+  turn_end {T = T} {z = z} {a = a} {q = q} {w = w} n s none on = let k : n ≡ zero = omega arith in subst (λ (m : ℕ). Ran gives T z q (go m s) a w) k on

@@ -1,0 +1,138 @@
+// What an evaluation has made so far.
+ghost use Rattle.std.specs.Prelude.{◌≡◌, option_copied};
+ghost use Rattle.sw_eval.specs.Did.{IsReturn};
+ghost use Rattle.sw_eval.specs.Means.{begin};
+ghost use Rattle.sw_eval.specs.Scope.{origin, is_home, own, is_mine, set_by, set_own, entered, left};
+ghost use Rattle.sw_eval.specs.Expressions.{parent};
+ghost use Rattle.sw_eval.specs.Flow.{spent};
+ghost use Rattle.sw_eval.specs.Talk.{Gives};
+
+use crate::here::Here;
+use crate::stop::{Stop, fails};
+use std::alloc::Global;
+use sw_css_tree::CssTree;
+use sw_scope::{FrameKind, Origin, Scopes};
+use sw_text::{FaultCode, Name, Span};
+use sw_values::Value;
+
+/// What an evaluation has made so far.
+#[derive(Drop)]
+pub(crate) struct State {
+    /// The module's own variables, and the local ones.
+    pub scopes: Scopes,
+    pub here: Here,
+    pub css: CssTree,
+    /// No load may follow.
+    pub late: bool,
+    /// How many turns of loops and calls are left.
+    pub turns: u32,
+}
+
+impl State {
+    // What a body begins with. Takes no memory.
+    pub(crate) fn begin(alloc: Global) -> State
+        ensures { result ≡ begin }
+    {
+        State {
+            scopes: Scopes::new(alloc),
+            here: Here { site: 0 },
+            css: CssTree::new(alloc),
+            late: false,
+            turns: 1_000_000,
+        }
+    }
+
+    // Whether the running code is the body's own.
+    pub(crate) fn is_home(&self) -> bool
+        ensures { result ≡ is_home self.now }
+    {
+        self.here.site == 0
+    }
+
+    // Whose the running code is.
+    fn origin(&self) -> Origin
+        ensures { result ≡ origin self.now }
+    {
+        if self.here.site == 0 {
+            Origin::Own
+        } else {
+            Origin::Other
+        }
+    }
+
+    // A variable that is seen without asking.
+    #[tactic(auto, unfolding(crate::specs::Scope::own))]
+    pub(crate) fn own(&self, name: &Name) -> Option<&Value>
+        ensures { option_copied result ≡ own self.now name.now }
+    {
+        self.scopes.look(self.origin(), name)
+    }
+
+    // Sets a variable that is seen, or a new one.
+    #[tactic(auto, unfolding(crate::specs::Scope::set_by))]
+    pub(crate) fn set_by(&mut self, name: Name, value: Value) -> Result<(), Stop>
+        ensures { IsReturn result self.new (Gives (tt, set_by self.old (name, value))) }
+    {
+        let origin = self.origin();
+        self.scopes.set(origin, name, value)?;
+        Ok(())
+    }
+
+    // Whether what a name has before its default is sought among the module's own variables alone.
+    #[tactic(auto, unfolding(crate::specs::Scope::is_mine))]
+    pub(crate) fn is_mine(&self, global: bool) -> bool
+        ensures { result ≡ is_mine self.now global }
+    {
+        self.scopes.top_alone(self.origin(), global)
+    }
+
+    // Gives the module's own variable a value.
+    #[tactic(auto, unfolding(crate::specs::Scope::set_own))]
+    pub(crate) fn set_own(&mut self, name: &Name, value: Value) -> Result<(), Stop>
+        ensures { IsReturn result self.new (Gives (tt, set_own self.old (name.now, value))) }
+    {
+        let name = name.share()?;
+        self.scopes.set_top(name, value)?;
+        Ok(())
+    }
+
+    // What `&` is.
+    #[tactic(auto, unfolding(crate::specs::Expressions::parent))]
+    pub(crate) fn parent(&self, at: &Span) -> Result<Value, Stop>
+        ensures { IsReturn result self.now (parent at.now self.now) }
+    {
+        if self.css.is_open() {
+            return fails(FaultCode::BadPlace, at);
+        }
+        Ok(Value::null())
+    }
+
+    // Opens a frame.
+    #[tactic(auto, unfolding(crate::specs::Scope::entered))]
+    pub(crate) fn enter(&mut self, kind: FrameKind) -> Result<(), Stop>
+        ensures { IsReturn result self.new (Gives (tt, entered kind self.old)) }
+    {
+        self.scopes.push(kind)?;
+        Ok(())
+    }
+
+    // Closes a frame.
+    #[tactic(auto, unfolding(crate::specs::Scope::left))]
+    pub(crate) fn leave(&mut self)
+        ensures { self.new ≡ left self.old }
+    {
+        self.scopes.pop();
+    }
+
+    // Takes one of the turns that are left.
+    #[tactic(auto, unfolding(crate::specs::Flow::spent))]
+    pub(crate) fn spend(&mut self, at: &Span) -> Result<(), Stop>
+        ensures { IsReturn result self.new (spent at.now self.old) }
+    {
+        if self.turns == 0 {
+            return fails(FaultCode::Turns, at);
+        }
+        self.turns -= 1;
+        Ok(())
+    }
+}

@@ -1,9 +1,0 @@
-pub mod Steps
-pub mod Refusals
-pub mod Loops
-pub mod Counts
-pub mod Upward
-pub mod Choices
-pub mod Engines
-pub mod Names
-pub mod Heard

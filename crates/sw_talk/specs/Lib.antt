@@ -1,9 +1,0 @@
-pub mod Talk
-pub mod Laws
-pub mod Ran
-pub mod Did
-pub mod Refusals
-pub mod Told
-pub mod Asking
-pub mod Loaded
-pub mod Turns
