@@ -12,6 +12,7 @@ mod look;
 mod loops;
 mod messages;
 mod places;
+mod styles;
 mod texts;
 mod top;
 mod turn;

@@ -54,7 +54,7 @@ impl Walk {
             ExprKind::Url(parts) => self.string(level, parts, false, &e.span, world),
             ExprKind::Variable(name) => self.variable(name, &e.span, world),
             ExprKind::Qualified(q) => self.qualified(q.get(), &e.span, world),
-            ExprKind::Parent => self.state.parent(&e.span),
+            ExprKind::Parent => self.state.parent(self.alloc, &e.span),
             ExprKind::Important => Ok(important_value(self.alloc)?),
             ExprKind::Prefixed { signs, operand } => {
                 self.signed(level, signs.as_slice(), operand.get(), &e.span, world)

@@ -4,7 +4,7 @@ ghost use Rattle.sw_eval.specs.declared.texts.TextKind.TheVariants as K;
 ghost use Rattle.sw_eval.specs.Going.{Goes_on};
 ghost use Rattle.sw_eval.specs.Texts.{text};
 ghost use Rattle.sw_eval.specs.Expressions.{plain_value};
-ghost use Rattle.sw_eval.specs.Statements.{declaration, comment, rule, does_one};
+ghost use Rattle.sw_eval.specs.Statements.{comment, does_one};
 ghost use Rattle.sw_eval.specs.Means.{value_to, does_to};
 
 use crate::level::Level;
@@ -12,9 +12,8 @@ use crate::places::place_of;
 use crate::texts::TextKind;
 use crate::walk::Walk;
 use sw_literals::Parens;
-use sw_scope::FrameKind;
-use sw_state::{close, fails};
-use sw_syntax_tree::{Declaration, Expr, Rule, Statement, Text};
+use sw_state::fails;
+use sw_syntax_tree::{Expr, Statement, Text};
 use sw_talk::Stop;
 use sw_text::{FaultCode, Name};
 use sw_values::Value;
@@ -71,31 +70,6 @@ impl Walk {
         self.text(level, TextKind::Sheet, &it.parts, &it.span, world)
     }
 
-    // A declaration, which stands in a rule.
-    fn declaration<W: World>(
-        &mut self,
-        inner: u32,
-        statement: &Declaration,
-        world: &mut W,
-    ) -> Result<Option<Value>, Stop>
-        ensures { Goes_on W.gives (declaration (value_to inner) statement.now) self.old world.old result
-            self.new world.new }
-    {
-        if !self.state.css.is_open() {
-            return fails(FaultCode::BadPlace, &statement.span);
-        }
-        let property = self.statement_text(inner, &statement.property, world)?;
-        let value = self.statement_value(inner, &statement.value, world)?;
-        self.state.written(
-            self.alloc,
-            property,
-            &value,
-            &statement.value.span,
-            &statement.span,
-        )?;
-        Ok(None)
-    }
-
     // A comment, with the values in it.
     fn comment<W: World>(
         &mut self,
@@ -140,6 +114,8 @@ impl Walk {
             Statement::Variable(one) => self.variable_set(inner, one, world),
             Statement::Assignment(one) => self.assigned(inner, one, world),
             Statement::Declaration(one) => self.declaration(inner, one, world),
+            Statement::Properties(one) => self.properties(inner, one, world),
+            Statement::Custom(one) => self.custom(inner, one, world),
             Statement::Rule(one) => self.rule(inner, one, world),
             Statement::If {
                 branches,
@@ -153,8 +129,6 @@ impl Walk {
             Statement::Charset(_) => Ok(None),
             Statement::Comment(text) => self.comment(inner, text, world),
             Statement::Use(_)
-            | Statement::Properties(_)
-            | Statement::Custom(_)
             | Statement::Forward(_)
             | Statement::Callable(_)
             | Statement::Include { .. }
@@ -167,30 +141,5 @@ impl Walk {
             | Statement::Extend(_)
             | Statement::AtRule(_) => fails(FaultCode::BadPlace, place_of(statement)),
         }
-    }
-
-    #[cycle(walk)]
-    fn rule<W: World>(
-        &mut self,
-        inner: u32,
-        statement: &Rule,
-        world: &mut W,
-    ) -> Result<Option<Value>, Stop>
-        ensures { Goes_on W.gives (rule (value_to inner) (does_to inner) statement.now) self.old world.old result
-            self.new world.new }
-    {
-        if self.state.css.is_open() {
-            return fails(FaultCode::BadPlace, &statement.span);
-        }
-        let selectors = self.statement_text(inner, &statement.selector, world)?;
-        self.state.opening(
-            self.alloc,
-            &selectors,
-            &statement.selector.span,
-            &statement.span,
-        )?;
-        let value = self.framed(inner, FrameKind::Block, statement.block.as_slice(), world)?;
-        close(&mut self.state.css);
-        Ok(value)
     }
 }

@@ -4,5 +4,6 @@ pub mod Scope
 pub mod Owners
 pub mod Selecting
 pub mod Output
+pub mod Rules
 pub mod Loop_variables
 pub mod Left

@@ -9,6 +9,7 @@ mod loop_variables;
 mod nesting;
 mod output;
 mod owners;
+mod rules;
 mod selecting;
 mod state;
 
@@ -16,7 +17,6 @@ pub use faults::fails;
 pub use here::Here;
 pub use left::{finish, or_null};
 pub use nesting::Nesting;
-pub use output::{close, numbered};
+pub use output::numbered;
 pub use owners::{got, is_null, owner, sought_owner, target};
-pub use selecting::selected;
 pub use state::State;

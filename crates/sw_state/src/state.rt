@@ -3,7 +3,6 @@ ghost use Rattle.std.specs.Prelude.{◌≡◌, option_copied};
 ghost use Rattle.sw_talk.specs.Did.{IsReturn};
 ghost use Rattle.sw_state.specs.Begin.{begin};
 ghost use Rattle.sw_state.specs.Scope.{origin, is_home, own, is_mine, set_by, set_own, entered, left};
-ghost use Rattle.sw_state.specs.Selecting.{parent};
 ghost use Rattle.sw_state.specs.Begin.{spent};
 ghost use Rattle.sw_talk.specs.Talk.{Gives};
 
@@ -105,17 +104,6 @@ impl State {
         let name = name.share()?;
         self.scopes.set_top(name, value)?;
         Ok(())
-    }
-
-    /// What `&` is.
-    #[tactic(auto, unfolding(crate::specs::Selecting::parent))]
-    pub fn parent(&self, at: &Span) -> Result<Value, Stop>
-        ensures { IsReturn result self.now (parent at.now self.now) }
-    {
-        if self.css.is_open() {
-            return fails(FaultCode::BadPlace, at);
-        }
-        Ok(Value::null())
     }
 
     /// Opens a frame.

@@ -43,10 +43,10 @@ pub returns-in_err-_answer-clause-did : goal.returns-in_err-_answer-clause-did
 returns-in_err-_answer-clause-did g c =
     let some : true ≡ is_some (load_of c.args.statement.now) = rw c.if-not-is_load.false at c.is_load.ensures in
     let load = some_load c.args.walk.now.asked.path c.args.statement.now some in
-    load_errs g.W.World.gives c.args.number c.args.statement.now c.args.walk.now.state _ _ _ _ _ _ load.0 load.1 c.if-walk.false (rw c.place_of-2.ensures at (heard _ _ c.args.walk.now.asked c.known.new.asked c.args.walk.now.state (c.in_err-_answer.ensures.did load.0 load.2.0 (load_goes_on _ _ _ _ load.1 load.2.1 _).1))) c.from_residual-in_err-_answer.ensures
+    load_errs g.W.World.gives c.args.number c.args.statement.now c.args.walk.now.state _ _ _ _ _ _ load.0 load.1 c.if-walk.false (rw c.place_of-2.ensures at (heard _ _ _ _ c.args.walk.now.state (c.in_err-_answer.ensures.did load.0 load.2.0 (load_goes_on _ _ _ _ load.1 load.2.1 _).1))) c.from_residual-in_err-_answer.ensures
 
 pub returns-clause-did : goal.returns-clause-did
 returns-clause-did g c =
     let some : true ≡ is_some (load_of c.args.statement.now) = rw c.if-not-is_load.false at c.is_load.ensures in
     let load = some_load c.args.walk.now.asked.path c.args.statement.now some in
-    load_goes g.W.World.gives c.args.number c.args.statement.now c.args.walk.now.state _ _ _ _ _ load.0 load.1 c.if-walk.false (rw c.place_of-2.ensures at (heard _ _ c.args.walk.now.asked c.known.new.asked c.args.walk.now.state (c.in_ok-_answer.ensures.did load.0 load.2.0 (load_goes_on _ _ _ _ load.1 load.2.1 _).1)))
+    load_goes g.W.World.gives c.args.number c.args.statement.now c.args.walk.now.state _ _ _ _ _ load.0 load.1 c.if-walk.false (rw c.place_of-2.ensures at (heard _ _ _ _ c.args.walk.now.state (c.in_ok-_answer.ensures.did load.0 load.2.0 (load_goes_on _ _ _ _ load.1 load.2.1 _).1)))

@@ -1,14 +1,14 @@
-use Rattle.std.proofs.Common.{◌≡◌, suc, ◌+◌, ⊎_elim, arith, ◌-◌}
+use Rattle.std.proofs.Common.{◌≡◌, suc, ◌+◌, ⊎_elim, arith}
 use Rattle.sw_syntax_tree.specs.declared.statement.Statement as S
 use Rattle.sw_eval.specs.Layers.{place_of}
 use Rattle.sw_talk.specs.Ran.{still}
 use Rattle.sw_eval.specs.Flow.{block, framed, branches, repeat, repeats, repeat_in}
 use Rattle.sw_eval.specs.Loops.{each, each_over, each_in, count, counts, count_over, count_in}
-use Rattle.sw_eval.specs.Statements.{rule, does_one}
+use Rattle.sw_eval.specs.Statements.{rule, properties, does_one}
 use Rattle.sw_eval.specs.Means.{value_to, does_to}
 use Rattle.sw_talk.proofs.Steps.{no_memory_by, gives_state, did_value, did_err, did_then, did_plain, ran_then, ran_did}
 use Rattle.sw_eval.proofs.Depth.{one_level_does}
-use Rattle.sw_eval.proofs.Opens.{out_Rule, out_If, out_While, out_Each, out_For}
+use Rattle.sw_eval.proofs.Opens.{out_Rule, out_Properties, out_If, out_While, out_Each, out_For}
 use Rattle.sw_talk.proofs.Loops.{loop_at, loop_end}
 use Rattle.sw_talk.proofs.Choices.{did_yes, did_no}
 use Rattle.sw_talk.proofs.Counts.{turn_at, turn_end}
@@ -36,34 +36,72 @@ pub does_one-returns-in-Declaration : goal.does_one-returns-in-Declaration
 unfolding does_one S.out-Statement denote.Hole.Carrier.out
 does_one-returns-in-Declaration g t c = rw c.in-Declaration.is c.declaration.ensures
 
+pub does_one-returns-in-Properties : goal.does_one-returns-in-Properties
+unfolding does_one
+does_one-returns-in-Properties g t c = rw (c.in-Properties.is, out_Properties) c.properties.ensures
+
+pub does_one-returns-in-Custom : goal.does_one-returns-in-Custom
+unfolding does_one S.out-Statement denote.Hole.Carrier.out
+does_one-returns-in-Custom g t c = rw c.in-Custom.is c.custom.ensures
+
 pub does_one-returns-in-Rule : goal.does_one-returns-in-Rule
 unfolding does_one
 does_one-returns-in-Rule g t c = rw (c.in-Rule.is, out_Rule) c.rule.ensures
 
-pub rule-returns-then-is_open : goal.rule-returns-then-is_open
+pub rule-returns-then-is_some : goal.rule-returns-then-is_some
 unfolding rule
-rule-returns-then-is_open g t c =
-    rw (← c.is_open.ensures, c.if-is_open.true) (did_plain _ c.args.self.now.state _ _ _ (c.fails.ensures c.args.self.now.state))
+rule-returns-then-is_some g t c =
+    rw (← c.is_some.ensures, c.if-is_some.true) (did_plain _ c.args.self.now.state _ _ _ (c.fails.ensures c.args.self.now.state))
 
-pub rule-returns-in_err-selectors : goal.rule-returns-in_err-selectors
+pub rule-returns-in_err-text : goal.rule-returns-in_err-text
 unfolding rule
-rule-returns-in_err-selectors g t c =
-    rw (← c.is_open.ensures, c.if-is_open.false) (did_err _ c.in_err-selectors.ensures c.from_residual.ensures)
+rule-returns-in_err-text g t c =
+    rw (← c.is_some.ensures, c.if-is_some.false) (did_err _ c.in_err-text.ensures c.from_residual.ensures)
 
-pub rule-returns-in_err-opening : goal.rule-returns-in_err-opening
+pub rule-returns-in_err-enter_rule : goal.rule-returns-in_err-enter_rule
 unfolding rule
-rule-returns-in_err-opening g t c =
-    rw (← c.is_open.ensures, c.if-is_open.false) (did_then _ c.in_ok-selectors.ensures (did_err _ (did_plain _ _ _ _ _ c.in_err-opening.ensures) c.from_residual-in_err-opening.ensures))
+rule-returns-in_err-enter_rule g t c =
+    rw (← c.is_some.ensures, c.if-is_some.false) (did_then _ c.in_ok-text.ensures (did_err _ (did_plain _ _ _ _ _ c.in_err-enter_rule.ensures) c.from_residual-in_err-enter_rule.ensures))
 
 pub rule-returns-in_err-value : goal.rule-returns-in_err-value
 unfolding rule
 rule-returns-in_err-value g t c =
-    rw (← c.is_open.ensures, c.if-is_open.false) (did_then _ c.in_ok-selectors.ensures (did_then _ (did_plain _ _ _ _ _ c.in_ok-opening.ensures) (did_err _ (rw c.as_slice.ensures at c.in_err-value.ensures) c.from_residual-in_err-value.ensures)))
+    rw (← c.is_some.ensures, c.if-is_some.false) (did_then _ c.in_ok-text.ensures (did_then _ (did_plain _ _ _ _ _ c.in_ok-enter_rule.ensures) (did_err _ (rw c.as_slice.ensures at c.in_err-value.ensures) c.from_residual-in_err-value.ensures)))
 
 pub rule-returns : goal.rule-returns
 unfolding rule
 rule-returns g t c =
-    rw (← c.is_open.ensures, c.if-is_open.false, c.close.ensures) (did_then _ c.in_ok-selectors.ensures (did_then _ (did_plain _ _ _ _ _ c.in_ok-opening.ensures) (did_then _ (rw c.as_slice.ensures at c.in_ok-value.ensures) (did_value _ _ _ _))))
+    rw (← c.is_some.ensures, c.if-is_some.false) (did_then _ c.in_ok-text.ensures (did_then _ (did_plain _ _ _ _ _ c.in_ok-enter_rule.ensures) (did_then _ (rw c.as_slice.ensures at c.in_ok-value.ensures) (rw c.leave_rule.ensures (did_value _ _ _ _)))))
+
+pub properties-returns-then-not-is_open : goal.properties-returns-then-not-is_open
+unfolding properties
+properties-returns-then-not-is_open g t c =
+    rw (← c.is_open.ensures, c.if-not-is_open.true) (did_plain _ c.args.self.now.state _ _ _ (c.fails.ensures c.args.self.now.state))
+
+pub properties-returns-in_err-name : goal.properties-returns-in_err-name
+unfolding properties
+properties-returns-in_err-name g t c =
+    rw (← c.is_open.ensures, c.if-not-is_open.false) (did_err _ c.in_err-name.ensures c.from_residual.ensures)
+
+pub properties-returns-in_err-maybe_valued : goal.properties-returns-in_err-maybe_valued
+unfolding properties
+properties-returns-in_err-maybe_valued g t c =
+    rw (← c.is_open.ensures, c.if-not-is_open.false) (did_then _ c.in_ok-name.ensures (did_err _ c.in_err-maybe_valued.ensures c.from_residual-in_err-maybe_valued.ensures))
+
+pub properties-returns-in_err-enter_properties : goal.properties-returns-in_err-enter_properties
+unfolding properties
+properties-returns-in_err-enter_properties g t c =
+    rw (← c.is_open.ensures, c.if-not-is_open.false) (did_then _ c.in_ok-name.ensures (did_then _ c.in_ok-maybe_valued.ensures (no_memory_by _ _ _ _ _ _ _ _ c.in_err-enter_properties.ensures c.from_residual-in_err-enter_properties.ensures)))
+
+pub properties-returns-in_err-value : goal.properties-returns-in_err-value
+unfolding properties
+properties-returns-in_err-value g t c =
+    rw (← c.is_open.ensures, c.if-not-is_open.false) (did_then _ c.in_ok-name.ensures (did_then _ c.in_ok-maybe_valued.ensures (rw (gives_state c.in_ok-enter_properties.ensures) (did_err _ (rw c.as_slice.ensures at c.in_err-value.ensures) c.from_residual-in_err-value.ensures))))
+
+pub properties-returns : goal.properties-returns
+unfolding properties
+properties-returns g t c =
+    rw (← c.is_open.ensures, c.if-not-is_open.false) (did_then _ c.in_ok-name.ensures (did_then _ c.in_ok-maybe_valued.ensures (rw (gives_state c.in_ok-enter_properties.ensures) (did_then _ (rw c.as_slice.ensures at c.in_ok-value.ensures) (rw c.unnest.ensures (did_value _ _ _ _))))))
 
 pub framed-returns-in_err-enter : goal.framed-returns-in_err-enter
 framed-returns-in_err-enter g t c = no_memory_by _ _ _ _ _ _ _ _ c.in_err-enter.ensures c.from_residual.ensures
@@ -103,8 +141,6 @@ does_one-returns-in-Use g t c =
     (⊎_elim (λ p. rw p.1 (did_plain _ c.args.self.now.state _ _ _ (rw (c.place_of.ensures, p.1) at (c.fails.ensures c.args.self.now.state))))
     (⊎_elim (λ p. rw p.1 (did_plain _ c.args.self.now.state _ _ _ (rw (c.place_of.ensures, p.1) at (c.fails.ensures c.args.self.now.state))))
     (⊎_elim (λ p. rw p.1 (did_plain _ c.args.self.now.state _ _ _ (rw (c.place_of.ensures, p.1) at (c.fails.ensures c.args.self.now.state))))
-    (⊎_elim (λ p. rw p.1 (did_plain _ c.args.self.now.state _ _ _ (rw (c.place_of.ensures, p.1) at (c.fails.ensures c.args.self.now.state))))
-    (⊎_elim (λ p. rw p.1 (did_plain _ c.args.self.now.state _ _ _ (rw (c.place_of.ensures, p.1) at (c.fails.ensures c.args.self.now.state))))
     (⊎_elim (λ p. rw p.3 (did_plain _ c.args.self.now.state _ _ _ (rw (c.place_of.ensures, p.3) at (c.fails.ensures c.args.self.now.state))))
     (⊎_elim (λ p. rw p.1 (did_plain _ c.args.self.now.state _ _ _ (rw (c.place_of.ensures, p.1) at (c.fails.ensures c.args.self.now.state))))
     (⊎_elim (λ p. rw p.1 (did_plain _ c.args.self.now.state _ _ _ (rw (c.place_of.ensures, p.1) at (c.fails.ensures c.args.self.now.state))))
@@ -113,7 +149,7 @@ does_one-returns-in-Use g t c =
     (⊎_elim (λ p. rw p.1 (did_plain _ c.args.self.now.state _ _ _ (rw (c.place_of.ensures, p.1) at (c.fails.ensures c.args.self.now.state))))
     (⊎_elim (λ p. rw p.1 (did_plain _ c.args.self.now.state _ _ _ (rw (c.place_of.ensures, p.1) at (c.fails.ensures c.args.self.now.state))))
     (⊎_elim (λ p. rw p.1 (did_plain _ c.args.self.now.state _ _ _ (rw (c.place_of.ensures, p.1) at (c.fails.ensures c.args.self.now.state))))
-    (λ p. rw p.1 (did_plain _ c.args.self.now.state _ _ _ (rw (c.place_of.ensures, p.1) at (c.fails.ensures c.args.self.now.state))))))))))))))))) c.in-Use.is
+    (λ p. rw p.1 (did_plain _ c.args.self.now.state _ _ _ (rw (c.place_of.ensures, p.1) at (c.fails.ensures c.args.self.now.state))))))))))))))) c.in-Use.is
 
 pub does_one-returns-in-If : goal.does_one-returns-in-If
 unfolding does_one
@@ -225,15 +261,15 @@ each-returns-in_err-take_apart g t c =
 
 pub each-returns-in_err-value : goal.each-returns-in_err-value
 each-returns-in_err-value g t c =
-    ran_did (loop_at (λ l s. each (does_to c.args.inner) c.args.statement.now l s) c.args.elements.now c.loop-one.one-index c.one-item.result c.loop-one.self.state c.loop-one-test.true c.one-item.is c.loop-one.invariant) (did_then _ (did_plain _ _ _ _ _ c.in_ok-spend.ensures) (did_then _ (did_plain _ _ _ _ _ (rw c.as_slice.ensures at c.in_ok-take_apart.ensures)) (did_err _ (rw c.as_slice-in-loop-one.ensures at c.in_err-value.ensures) c.from_residual-in_err-value.ensures)))
+    ran_did (loop_at (λ l s. each (does_to c.args.inner) c.args.statement.now l s) c.args.elements.now c.loop-one.one-index c.one-item.result c.loop-one.self.state c.loop-one-test.true c.one-item.is c.loop-one.invariant) (did_then _ (did_plain _ _ _ _ _ c.in_ok-spend.ensures) (did_then _ (did_plain _ _ _ _ _ (rw c.as_slice.ensures at c.in_ok-take_apart.ensures)) (did_err _ (rw c.as_slice-2.ensures at c.in_err-value.ensures) c.from_residual-in_err-value.ensures)))
 
 pub each-returns-in-Some : goal.each-returns-in-Some
 each-returns-in-Some g t c =
-    ran_did (loop_at (λ l s. each (does_to c.args.inner) c.args.statement.now l s) c.args.elements.now c.loop-one.one-index c.one-item.result c.loop-one.self.state c.loop-one-test.true c.one-item.is c.loop-one.invariant) (did_then _ (did_plain _ _ _ _ _ c.in_ok-spend.ensures) (did_then _ (did_plain _ _ _ _ _ (rw c.as_slice.ensures at c.in_ok-take_apart.ensures)) (did_then _ (rw (c.as_slice-in-loop-one.ensures, c.in-Some.is) at c.in_ok-value.ensures) (did_value _ _ _ _))))
+    ran_did (loop_at (λ l s. each (does_to c.args.inner) c.args.statement.now l s) c.args.elements.now c.loop-one.one-index c.one-item.result c.loop-one.self.state c.loop-one-test.true c.one-item.is c.loop-one.invariant) (did_then _ (did_plain _ _ _ _ _ c.in_ok-spend.ensures) (did_then _ (did_plain _ _ _ _ _ (rw c.as_slice.ensures at c.in_ok-take_apart.ensures)) (did_then _ (rw (c.as_slice-2.ensures, c.in-Some.is) at c.in_ok-value.ensures) (did_value _ _ _ _))))
 
 pub each-loop-one-preserved : goal.each-loop-one-preserved
 each-loop-one-preserved g t c =
-    ran_then _ (ran_then _ (ran_then _ (loop_at (λ l s. each (does_to c.args.inner) c.args.statement.now l s) c.args.elements.now c.loop-one.one-index c.one-item.result c.loop-one.self.state c.loop-one-test.true c.one-item.is c.loop-one.invariant) (did_plain _ _ _ _ _ c.in_ok-spend.ensures)) (did_plain _ _ _ _ _ (rw c.as_slice.ensures at c.in_ok-take_apart.ensures))) (rw (c.as_slice-in-loop-one.ensures, c.in_default.is) at c.in_ok-value.ensures)
+    ran_then _ (ran_then _ (ran_then _ (loop_at (λ l s. each (does_to c.args.inner) c.args.statement.now l s) c.args.elements.now c.loop-one.one-index c.one-item.result c.loop-one.self.state c.loop-one-test.true c.one-item.is c.loop-one.invariant) (did_plain _ _ _ _ _ c.in_ok-spend.ensures)) (did_plain _ _ _ _ _ (rw c.as_slice.ensures at c.in_ok-take_apart.ensures))) (rw (c.as_slice-2.ensures, c.in_default.is) at c.in_ok-value.ensures)
 
 pub each-returns : goal.each-returns
 each-returns g t c =
@@ -289,32 +325,32 @@ count_in-returns g t c = did_then _ c.in_ok-numbers.ensures c.count_over.ensures
 
 pub counts-loop-turn-init : goal.counts-loop-turn-init
 unfolding counts
-counts-loop-turn-init g t c = let tests : (c.from-tests.result + 1) - 0 ≡ suc c.args.self.now.state.turns = omega (arith, c.from-tests.ensures) in rw tests (still _ _ _)
+counts-loop-turn-init g t c = let tests : c.from-tests.result + 1 ≡ suc c.args.self.now.state.turns = omega (arith, c.from-tests.ensures) in rw tests (still _ _ _)
 
 pub counts-returns-then-from-turns : goal.counts-returns-then-from-turns
 counts-returns-then-from-turns g t c =
-    ran_did (up_at (λ m n s. count (does_to c.args.inner) c.args.statement.now c.args.numbers.now m n s) c.loop-turn.turn (c.from-tests.result + 1) c.loop-turn.self.state c.loop-turn-test.true c.loop-turn.invariant) (did_no _ _ _ (not_less _ _ (rw (c.turns.ensures, c.from.ensures) at c.if-from-turns.true)) (did_value _ _ _ _))
+    ran_did (up_at (λ m n s. count (does_to c.args.inner) c.args.statement.now c.args.numbers.now m n s) c.loop-turn.turn c.tests c.loop-turn.self.state c.loop-turn-test.true c.loop-turn.invariant) (did_no _ _ _ (not_less _ _ (rw (c.turns.ensures, c.from-turn.ensures) at c.if-from-turns.true)) (did_value _ _ _ _))
 
 pub counts-returns-in_err-spend : goal.counts-returns-in_err-spend
 counts-returns-in_err-spend g t c =
-    ran_did (up_at (λ m n s. count (does_to c.args.inner) c.args.statement.now c.args.numbers.now m n s) c.loop-turn.turn (c.from-tests.result + 1) c.loop-turn.self.state c.loop-turn-test.true c.loop-turn.invariant) (did_yes _ _ _ (is_less _ _ (rw (c.turns.ensures, c.from.ensures) at c.if-from-turns.false)) (did_err _ (did_plain _ _ _ _ _ c.in_err-spend.ensures) c.from_residual.ensures))
+    ran_did (up_at (λ m n s. count (does_to c.args.inner) c.args.statement.now c.args.numbers.now m n s) c.loop-turn.turn c.tests c.loop-turn.self.state c.loop-turn-test.true c.loop-turn.invariant) (did_yes _ _ _ (is_less _ _ (rw (c.turns.ensures, c.from-turn.ensures) at c.if-from-turns.false)) (did_err _ (did_plain _ _ _ _ _ c.in_err-spend.ensures) c.from_residual.ensures))
 
 pub counts-returns-in_err-count_to : goal.counts-returns-in_err-count_to
 counts-returns-in_err-count_to g t c =
-    ran_did (up_at (λ m n s. count (does_to c.args.inner) c.args.statement.now c.args.numbers.now m n s) c.loop-turn.turn (c.from-tests.result + 1) c.loop-turn.self.state c.loop-turn-test.true c.loop-turn.invariant) (did_yes _ _ _ (is_less _ _ (rw (c.turns.ensures, c.from.ensures) at c.if-from-turns.false)) (did_then _ (did_plain _ _ _ _ _ c.in_ok-spend.ensures) (no_memory_by _ _ _ _ _ _ _ _ c.in_err-count_to.ensures c.from_residual-in_err-count_to.ensures)))
+    ran_did (up_at (λ m n s. count (does_to c.args.inner) c.args.statement.now c.args.numbers.now m n s) c.loop-turn.turn c.tests c.loop-turn.self.state c.loop-turn-test.true c.loop-turn.invariant) (did_yes _ _ _ (is_less _ _ (rw (c.turns.ensures, c.from-turn.ensures) at c.if-from-turns.false)) (did_then _ (did_plain _ _ _ _ _ c.in_ok-spend.ensures) (no_memory_by _ _ _ _ _ _ _ _ c.in_err-count_to.ensures c.from_residual-in_err-count_to.ensures)))
 
 pub counts-returns-in_err-value : goal.counts-returns-in_err-value
 counts-returns-in_err-value g t c =
-    ran_did (up_at (λ m n s. count (does_to c.args.inner) c.args.statement.now c.args.numbers.now m n s) c.loop-turn.turn (c.from-tests.result + 1) c.loop-turn.self.state c.loop-turn-test.true c.loop-turn.invariant) (did_yes _ _ _ (is_less _ _ (rw (c.turns.ensures, c.from.ensures) at c.if-from-turns.false)) (did_then _ (did_plain _ _ _ _ _ c.in_ok-spend.ensures) (rw (gives_state c.in_ok-count_to.ensures) (did_err _ (rw c.as_slice.ensures at c.in_err-value.ensures) c.from_residual-in_err-value.ensures))))
+    ran_did (up_at (λ m n s. count (does_to c.args.inner) c.args.statement.now c.args.numbers.now m n s) c.loop-turn.turn c.tests c.loop-turn.self.state c.loop-turn-test.true c.loop-turn.invariant) (did_yes _ _ _ (is_less _ _ (rw (c.turns.ensures, c.from-turn.ensures) at c.if-from-turns.false)) (did_then _ (did_plain _ _ _ _ _ c.in_ok-spend.ensures) (rw (gives_state c.in_ok-count_to.ensures) (did_err _ (rw c.as_slice.ensures at c.in_err-value.ensures) c.from_residual-in_err-value.ensures))))
 
 pub counts-returns-in-Some : goal.counts-returns-in-Some
 counts-returns-in-Some g t c =
-    ran_did (up_at (λ m n s. count (does_to c.args.inner) c.args.statement.now c.args.numbers.now m n s) c.loop-turn.turn (c.from-tests.result + 1) c.loop-turn.self.state c.loop-turn-test.true c.loop-turn.invariant) (did_yes _ _ _ (is_less _ _ (rw (c.turns.ensures, c.from.ensures) at c.if-from-turns.false)) (did_then _ (did_plain _ _ _ _ _ c.in_ok-spend.ensures) (rw (gives_state c.in_ok-count_to.ensures) (did_then _ (rw (c.as_slice.ensures, c.in-Some.is) at c.in_ok-value.ensures) (did_value _ _ _ _)))))
+    ran_did (up_at (λ m n s. count (does_to c.args.inner) c.args.statement.now c.args.numbers.now m n s) c.loop-turn.turn c.tests c.loop-turn.self.state c.loop-turn-test.true c.loop-turn.invariant) (did_yes _ _ _ (is_less _ _ (rw (c.turns.ensures, c.from-turn.ensures) at c.if-from-turns.false)) (did_then _ (did_plain _ _ _ _ _ c.in_ok-spend.ensures) (rw (gives_state c.in_ok-count_to.ensures) (did_then _ (rw (c.as_slice.ensures, c.in-Some.is) at c.in_ok-value.ensures) (did_value _ _ _ _)))))
 
 pub counts-loop-turn-preserved : goal.counts-loop-turn-preserved
 counts-loop-turn-preserved g t c =
-    up_next (λ m n s. count (does_to c.args.inner) c.args.statement.now c.args.numbers.now m n s) _ _ _ (ran_then _ (rw (gives_state c.in_ok-count_to.ensures) at (ran_then _ (rw (is_less _ _ (rw (c.turns.ensures, c.from.ensures) at c.if-from-turns.false)) at (up_at (λ m n s. count (does_to c.args.inner) c.args.statement.now c.args.numbers.now m n s) c.loop-turn.turn (c.from-tests.result + 1) c.loop-turn.self.state c.loop-turn-test.true c.loop-turn.invariant)) (did_plain _ _ _ _ _ c.in_ok-spend.ensures))) (rw (c.as_slice.ensures, c.in_default.is) at c.in_ok-value.ensures))
+    up_next (λ m n s. count (does_to c.args.inner) c.args.statement.now c.args.numbers.now m n s) _ _ _ (ran_then _ (rw (gives_state c.in_ok-count_to.ensures) at (ran_then _ (rw (is_less _ _ (rw (c.turns.ensures, c.from-turn.ensures) at c.if-from-turns.false)) at (up_at (λ m n s. count (does_to c.args.inner) c.args.statement.now c.args.numbers.now m n s) c.loop-turn.turn c.tests c.loop-turn.self.state c.loop-turn-test.true c.loop-turn.invariant)) (did_plain _ _ _ _ _ c.in_ok-spend.ensures))) (rw (c.as_slice.ensures, c.in_default.is) at c.in_ok-value.ensures))
 
 pub counts-returns : goal.counts-returns
 counts-returns g t c =
-    ran_did (up_end (λ m n s. count (does_to c.args.inner) c.args.statement.now c.args.numbers.now m n s) c.loop-turn.turn (c.from-tests.result + 1) c.loop-turn.self.state (omega arith) c.loop-turn.invariant) (did_plain _ c.loop-turn.self.state _ _ _ (c.fails.ensures c.loop-turn.self.state))
+    ran_did (up_end (λ m n s. count (does_to c.args.inner) c.args.statement.now c.args.numbers.now m n s) c.loop-turn.turn c.tests c.loop-turn.self.state (omega arith) c.loop-turn.invariant) (did_plain _ c.loop-turn.self.state _ _ _ (c.fails.ensures c.loop-turn.self.state))

@@ -15,6 +15,9 @@ decreases-does_one g l = 8 * l.inner + 7
 abbrev pub decreases-rule : goal.decreases-rule
 decreases-rule g l = 8 * l.inner + 6
 
+abbrev pub decreases-properties : goal.decreases-properties
+decreases-properties g l = 8 * l.inner + 6
+
 abbrev pub decreases-framed : goal.decreases-framed
 decreases-framed g l = 8 * l.inner + 2
 

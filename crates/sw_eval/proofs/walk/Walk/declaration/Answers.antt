@@ -6,22 +6,17 @@ pub returns-then-not-is_open : goal.returns-then-not-is_open
 unfolding declaration
 returns-then-not-is_open g c = rw (← c.is_open.ensures, c.if-not-is_open.true) (did_plain _ c.args.self.now.state _ _ _ (c.fails.ensures c.args.self.now.state))
 
-pub returns-in_err-property : goal.returns-in_err-property
+pub returns-in_err-name : goal.returns-in_err-name
 unfolding declaration
-returns-in_err-property g c =
-    rw (← c.is_open.ensures, c.if-not-is_open.false) (did_err _ c.in_err-property.ensures c.from_residual.ensures)
+returns-in_err-name g c =
+    rw (← c.is_open.ensures, c.if-not-is_open.false) (did_err _ c.in_err-name.ensures c.from_residual.ensures)
 
-pub returns-in_err-value : goal.returns-in_err-value
+pub returns-in_err-valued : goal.returns-in_err-valued
 unfolding declaration
-returns-in_err-value g c =
-    rw (← c.is_open.ensures, c.if-not-is_open.false) (did_then _ c.in_ok-property.ensures (did_err _ c.in_err-value.ensures c.from_residual-in_err-value.ensures))
-
-pub returns-in_err-written : goal.returns-in_err-written
-unfolding declaration
-returns-in_err-written g c =
-    rw (← c.is_open.ensures, c.if-not-is_open.false) (did_then _ c.in_ok-property.ensures (did_then _ c.in_ok-value.ensures (did_err _ (did_plain _ _ _ _ _ c.in_err-written.ensures) c.from_residual-in_err-written.ensures)))
+returns-in_err-valued g c =
+    rw (← c.is_open.ensures, c.if-not-is_open.false) (did_then _ c.in_ok-name.ensures (did_err _ c.in_err-valued.ensures c.from_residual-in_err-valued.ensures))
 
 pub returns : goal.returns
 unfolding declaration
 returns g c =
-    rw (← c.is_open.ensures, c.if-not-is_open.false) (did_then _ c.in_ok-property.ensures (did_then _ c.in_ok-value.ensures (did_then _ (did_plain _ _ _ _ _ c.in_ok-written.ensures) (did_value _ _ _ _))))
+    rw (← c.is_open.ensures, c.if-not-is_open.false) (did_then _ c.in_ok-name.ensures (did_then _ c.in_ok-valued.ensures (did_value _ _ _ _)))
