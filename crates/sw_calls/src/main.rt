@@ -6,7 +6,6 @@
 mod colours;
 mod decimals;
 mod disks;
-mod layouts;
 mod lexemes;
 mod numbers;
 mod output;
@@ -39,7 +38,6 @@ impl Libraries for Below {
             "colours" => colours::answer(alloc, name, text),
             "decimals" => decimals::answer(alloc, name, text),
             "disks" => disks::answer(alloc, name, text),
-            "layouts" => layouts::answer(alloc, name, unescaped(alloc, text)?.as_str()),
             "lexemes" => lexemes::answer(alloc, name, unescaped(alloc, text)?.as_str()),
             "numbers" => numbers::answer(alloc, name, text),
             "output" => output::answer(alloc, name, text),

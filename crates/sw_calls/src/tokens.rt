@@ -16,20 +16,15 @@ pub fn answer(alloc: Global, name: &str, text: &str) -> Result<String, Refusal> 
     }
 }
 
-/// A text as that of a sheet.
-pub fn shared(alloc: Global, text: &str) -> Result<Shared<SheetText>, Refusal> {
+fn shared(alloc: Global, text: &str) -> Result<Shared<SheetText>, Refusal> {
     let sheet = sheet(alloc, text)?;
     Ok(Shared::new(alloc, sheet)?)
 }
 
+// The tokens, or where the fault stands.
 fn all(alloc: Global, text: &str, syntax: Syntax) -> Result<String, Refusal> {
     let sheet = shared(alloc, text)?;
-    told(alloc, Tokens::of_syntax(alloc, &sheet, syntax))
-}
-
-/// The tokens, or where the fault stands.
-pub fn told(alloc: Global, tokens: Result<Tokens, Fault10>) -> Result<String, Refusal> {
-    match tokens {
+    match Tokens::of_syntax(alloc, &sheet, syntax) {
         Ok(tokens) => Ok(listed(alloc, &tokens)?),
         Err(Fault10::Memory) => Err(Refusal::Memory),
         Err(Fault10::Fault(fault)) => {

@@ -10,7 +10,8 @@ use Rattle.sw_eval.specs.Means.{body, tops}
 
 -- the rest of the body, from where its evaluation stands
 pub record IsResume (job : Job) (pairs : List Pair) (at next : ℕ) (s : State) : Type 0 where
-  pub rest : IsRest (end_of job.sheet) job.path (body job) pairs at (tops next (drop next job.sheet.statements) s)
+  pub rest : IsRest (end_of job.sheet) job.path (body job) pairs at
+      (tops job.config next (drop next job.sheet.statements) s)
   pub within : at ≤ length pairs
 
 -- what holds of the fields of a body

@@ -9,27 +9,11 @@ use Rattle.sw_world.specs.Laws.{most_asked}
 use Rattle.sw_talk.specs.Talk.{Question, Talk, Gives, Fails, Asking, op_of}
 use Rattle.sw_talk.specs.Ran.{Stand, Ran, op_at}
 use Rattle.sw_talk.specs.Did.{Did}
-use Rattle.sw_eval.specs.Means.{top, load_of, tops}
+use Rattle.sw_scope.specs.Frames.{Variable}
+use Rattle.sw_eval.specs.Means.{top, tops}
 use Rattle.sw_state.specs.declared.state.State.{State}
 use Rattle.sw_talk.specs.declared.stop.Stop.{Stop}
 use Rattle.sw_talk.specs.declared.stop.Stop.TheVariants.{Memory, Fault}
-
--- nothing was done, and the statement is a load whose answer isn't known
-pub record StopsAt (x : Statement) (s : State) (a : Stand) (op : Op) (u : State) (b : Stand) : Type 0 where
-  pub question : Question
-  pub is_load : load_of x ≡ Some question
-  pub op_is : op_of a.path [] question ≡ Some op
-  pub early : s.late ≡ false
-  pub same : u ≡ s
-  pub stood : b ≡ a
-  pub few : a.at < most_asked
-  pub at_end : length a.pairs ≤ a.at
-
-abbrev pub TopDid : {W : Type 0} → (W → Op → Answer → W → Type 0) → ℕ → Statement → State → Stand → W
-    → Result (Option Op) Stop → State → Stand → W → Type 0
-TopDid gives number x s a w (Ok None) u b y = Did gives (top number x s) a w (Ok tt) u b y
-TopDid gives number x s a w (Ok (Some op)) u b y = StopsAt x s a op u b × (y ≡ w)
-TopDid gives number x s a w (Err e) u b y = Did gives (top number x s) a w (Err e) u b y
 
 -- where a walk stops at a load
 pub record WaitsAt {W : Type 0} (gives : W → Op → Answer → W → Type 0) (t : Talk (Unit {0} × State)) (a : Stand)
@@ -44,11 +28,20 @@ pub record WaitsAt {W : Type 0} (gives : W → Op → Answer → W → Type 0) (
   pub few : b.at < most_asked
   pub at_end : length b.pairs ≤ b.at
 
-abbrev pub Walked : {W : Type 0} → (W → Op → Answer → W → Type 0) → List Statement → ℕ → State → Stand → W
-    → Result (Option Op) Stop → ℕ → State → Stand → W → Type 0
-Walked gives all i s a w (Ok None) j u b y = Ran gives (tops i (drop i all) s) a w (Gives (tt, u)) b y
-Walked gives all i s a w (Ok (Some op)) j u b y =
-    WaitsAt gives (tops i (drop i all) s) a w op (tops j (drop j all) u) b y
-Walked gives all i s a w (Err (Fault fault)) j u b y = Ran gives (tops i (drop i all) s) a w (Fails fault) b y
-Walked gives all i s a w (Err Memory) j u b y =
-    (t : Talk (Unit {0} × State)) × Ran gives (tops i (drop i all) s) a w t b y
+-- a statement that loads a module stops where the load's answer isn't known; it goes on there with what was made by then
+abbrev pub TopDid : {W : Type 0} → (W → Op → Answer → W → Type 0) → List Variable → ℕ → Statement → State → Stand → W
+    → Result (Option Op) Stop → State → Stand → W → Type 0
+TopDid gives config number x s a w (Ok None) u b y = Did gives (top config number x s) a w (Ok tt) u b y
+TopDid gives config number x s a w (Ok (Some op)) u b y =
+    WaitsAt gives (top config number x s) a w op (top config number x u) b y
+TopDid gives config number x s a w (Err e) u b y = Did gives (top config number x s) a w (Err e) u b y
+
+abbrev pub Walked : {W : Type 0} → (W → Op → Answer → W → Type 0) → List Variable → List Statement → ℕ → State → Stand
+    → W → Result (Option Op) Stop → ℕ → State → Stand → W → Type 0
+Walked gives config all i s a w (Ok None) j u b y = Ran gives (tops config i (drop i all) s) a w (Gives (tt, u)) b y
+Walked gives config all i s a w (Ok (Some op)) j u b y =
+    WaitsAt gives (tops config i (drop i all) s) a w op (tops config j (drop j all) u) b y
+Walked gives config all i s a w (Err (Fault fault)) j u b y =
+    Ran gives (tops config i (drop i all) s) a w (Fails fault) b y
+Walked gives config all i s a w (Err Memory) j u b y =
+    (t : Talk (Unit {0} × State)) × Ran gives (tops config i (drop i all) s) a w t b y

@@ -4,14 +4,23 @@
 
 mod ask;
 mod assignments;
+mod at_rules;
+mod callees;
+mod calls;
+mod choosing;
 mod engine;
+mod existence;
 mod flow;
+mod functions;
 mod laws;
 mod level;
+mod loads;
 mod look;
 mod loops;
 mod messages;
 mod places;
+mod special;
+mod styles;
 mod texts;
 mod top;
 mod turn;

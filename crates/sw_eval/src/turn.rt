@@ -47,7 +47,13 @@ pub(crate) fn turn<W: World>(
         walk.new.asked.pairs.items t) }
     ensures room { IfOk result (λ t. HasRoomAt t (vec_len walk.new.asked.pairs) (vec_capacity walk.new.asked.pairs)) }
 {
-    match walk_on(walk, sheet.statements.as_slice(), next, world) {
+    match walk_on(
+        walk,
+        config.get().as_slice(),
+        sheet.statements.as_slice(),
+        next,
+        world,
+    ) {
         Ok(Some(op)) => Ok(Turn::Load(op)),
         Ok(None) => {
             let end = finish(walk.alloc, sheet, &mut walk.state);

@@ -9,7 +9,7 @@ use Rattle.sw_scan.specs.declared.runs.Class.TheVariants as classes
 use Rattle.sw_scan.specs.Bytes.{sign, byte, is_digit}
 use Rattle.sw_scan.specs.Runs.{next, run_end}
 use Rattle.sw_scan.specs.Words.{fraction_end, is_exponent, is_plus_or_minus, exponent_end, unit_start}
-use Rattle.sw_scan.proofs.Bounds.{in_text, and_left, and_right}
+use Rattle.sw_scan.proofs.Bounds.{in_text, and_left, and_right, run_onward, fraction_onward}
 use Rattle.sw_scan.proofs.Progress.{either}
 use Rattle.sw_syntax.specs.Numerals.{sign_length}
 use Rattle.sw_tokens.proofs.Cuts.{IsText, cut_after, cut_at, run_cut}

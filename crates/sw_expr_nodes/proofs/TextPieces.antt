@@ -1,5 +1,5 @@
 -- Pieces of a text, the last one first.
-use Rattle.std.proofs.Common.{◌≡◌, ℕ, suc, ◌+◌, ◌-◌, ◌<◌, Bool, true, false, List, [], ◌∷◌, ◌++◌, map, reverse, refl, sym, ◌∙◌, ap, arith, append_assoc}
+use Rattle.std.proofs.Common.{◌≡◌, ℕ, Bool, true, false, List, [], ◌∷◌, ◌++◌, map, reverse, refl, sym, ◌∙◌, ap, append_assoc}
 use Rattle.std.proofs.lemmas.List.{reverse-append}
 use Rattle.sw_syntax_tree.specs.declared.expr.Expr.{Expr}
 use Rattle.sw_syntax_tree.specs.declared.text.Piece.{Piece}
@@ -8,7 +8,6 @@ use Rattle.sw_syntax.specs.declared.source.Source.{Source}
 use Rattle.sw_syntax.specs.declared.gap.Stretch.{Stretch}
 use Rattle.sw_syntax.specs.Parts.{Part, Inserts, Stands}
 use Rattle.sw_syntax.specs.Sources.{said, up_to, behind, text_piece, pieces_from}
-use Rattle.sw_syntax.specs.Lined.{line_part, lines_from, lines, lined_pieces}
 use Rattle.sw_expr_nodes.specs.declared.build.Inserted.{Inserted}
 use Rattle.sw_expr_nodes.specs.Views.{insert_of, inserted_piece}
 
@@ -45,37 +44,3 @@ module _ (source : Source) where
       x.from) (map insert_of ys)) (tail stretch x))
       ∙ ap (λ (z : List Piece). z ++ tail stretch x) (sym (one_more y.stands (up_to source stretch x.from) y.from y.to
       y.value (map insert_of ys)))
-
-  lined_more : (b : Bool) (at from to i j : ℕ) (value : Expr) (rest : List Part)
-      → lined_pieces source at from to (part b i j value ∷ rest)
-      ≡ text_piece (lines source at from i) ++ piece b value ∷ lined_pieces source at j to rest
-  lined_more true at from to i j value rest = refl
-  lined_more false at from to i j value rest = refl
-
-  -- the last value in a comment's text, with the text behind it
-  abbrev pub lined_tail : ℕ → ℕ → Inserted → List Piece
-  lined_tail at to x = inserted_piece x ∷ text_piece (lines source at x.to to)
-
-  pub lined_pieces_more : (xs : List Inserted) (x : Inserted) (at from to : ℕ)
-      → lined_pieces source at from to (map insert_of (xs ++ x ∷ []))
-      ≡ lined_pieces source at from x.from (map insert_of xs) ++ lined_tail at to x
-  lined_pieces_more [] x at from to = lined_more x.stands at from to x.from x.to x.value []
-  lined_pieces_more (y ∷ ys) x at from to =
-      let start = text_piece (lines source at from y.from) in
-      lined_more y.stands at from to y.from y.to y.value (map insert_of (ys ++ x ∷ []))
-      ∙ ap (λ (z : List Piece). start ++ inserted_piece y ∷ z) (lined_pieces_more ys x at y.to to)
-      ∙ sym (append_assoc start (inserted_piece y ∷ lined_pieces source at y.to x.from (map insert_of ys)) (lined_tail
-      at to x))
-      ∙ ap (λ (z : List Piece). z ++ lined_tail at to x) (sym (lined_more y.stands at from x.from y.from y.to y.value
-      (map insert_of ys)))
-
-  less_one : (i n : ℕ) → i < n → n - i ≡ suc (n - (i + 1))
-  less_one i n l = omega arith
-
-  -- one more token of a comment
-  pub lines_more : (text whole : List ℕ) (at from to : ℕ) → from < to
-      → text ++ lines_from source at from (to - from) ≡ whole
-      → (text ++ line_part source at from) ++ lines_from source at (from + 1) (to - (from + 1)) ≡ whole
-  lines_more text whole at from to l e =
-      append_assoc text (line_part source at from) (lines_from source at (from + 1) (to - (from + 1)))
-      ∙ ap (λ (n : ℕ). text ++ lines_from source at from n) (sym (less_one from to l)) ∙ e

@@ -5,7 +5,6 @@
 mod at;
 mod build;
 mod leaf;
-mod lined;
 mod numeral;
 mod text;
 
@@ -18,5 +17,4 @@ pub use leaf::{
     constant_value_at, hash_at, important_at, number_at, parent_at, quoted_at, range_at, url_at,
     variable_at,
 };
-pub use lined::comment_text_of;
 pub use text::{appended, grown, joined, parts_of, text_of};

@@ -30,7 +30,7 @@ fn push_text(
     Ok(())
 }
 
-pub(crate) fn piece_of(inserted: Inserted) -> Piece
+fn piece_of(inserted: Inserted) -> Piece
     ensures { result ≡ inserted_piece inserted }
 {
     if inserted.stands {

@@ -7,20 +7,20 @@ use Rattle.sw_terminals.specs.Numbers.{these}
 use Rattle.sw_lexemes.specs.declared.sort.Sort.{Sort}
 use Rattle.sw_lexemes.specs.declared.sort.Sort.TheVariants as sorts
 use Rattle.sw_lexemes.specs.declared.plain.Plain.{Plain}
-use Rattle.sw_lexemes.specs.Ahead.{sort_at, spaced_at, length_at, walk_from}
+use Rattle.sw_lexemes.specs.Ahead.{sort_at, spaced_at, walk_from}
 use Rattle.sw_lexemes.specs.Modes.{statement_mode}
 use Rattle.sw_lexemes.specs.Terminals.{terminal_of}
 use Rattle.sw_lexemes.specs.Steps.{after, placed, past_white}
 use Rattle.sw_lexemes.specs.Lexemes.{read, lexemes_by, beginning}
 
--- a token of two bytes behind white space, and one behind none
+-- a token behind white space, and one behind none
 abbrev s : Sort → Plain
 s sort = record {
   sort = sort;
   spaced = true;
   silent = false;
   from = 0;
-  to = 2;
+  to = 0;
   start = record { line = 1; column = 1 };
   end = record { line = 1; column = 1 };
 }
@@ -31,7 +31,7 @@ d sort = record {
   spaced = false;
   silent = false;
   from = 0;
-  to = 2;
+  to = 0;
   start = record { line = 1; column = 1 };
   end = record { line = 1; column = 1 };
 }
@@ -49,7 +49,7 @@ declared_example : Are
     ∷ d sorts.CloseBrace ∷ [])
     (terminals.Raw ∷ terminals.Open ∷ terminals.Word ∷ terminals.Colon ∷ terminals.Number ∷ terminals.Sign ∷
     terminals.Number ∷ terminals.Close ∷ [])
-unfolding sort_at spaced_at length_at walk_from statement_mode terminal_of after placed past_white read
+unfolding sort_at spaced_at walk_from statement_mode terminal_of after placed past_white read
 declared_example = refl
 
 -- $a:1 - 2-3 +4;
@@ -59,7 +59,7 @@ operators_example : Are
     (terminals.DollarNamed ∷ terminals.VariableName ∷ terminals.Colon ∷ terminals.Number ∷ terminals.Minus ∷
     terminals.Number ∷ terminals.Minus ∷ terminals.Number ∷ terminals.Plus ∷ terminals.Number ∷ terminals.Semicolon ∷
     [])
-unfolding sort_at spaced_at length_at walk_from statement_mode terminal_of after placed past_white read
+unfolding sort_at spaced_at walk_from statement_mode terminal_of after placed past_white read
 operators_example = refl
 
 -- a:b{c:d}
@@ -68,7 +68,7 @@ rule_example : Are
     d sorts.CloseBrace ∷ [])
     (terminals.Raw ∷ terminals.Raw ∷ terminals.Raw ∷ terminals.Open ∷ terminals.Word ∷ terminals.Colon ∷ terminals.Word
     ∷ terminals.Close ∷ [])
-unfolding sort_at spaced_at length_at walk_from statement_mode terminal_of after placed past_white read
+unfolding sort_at spaced_at walk_from statement_mode terminal_of after placed past_white read
 rule_example = refl
 
 -- a: b{c:d}
@@ -77,7 +77,7 @@ properties_example : Are
     d sorts.CloseBrace ∷ [])
     (terminals.Word ∷ terminals.Colon ∷ terminals.Word ∷ terminals.Open ∷ terminals.Word ∷ terminals.Colon ∷
     terminals.Word ∷ terminals.Close ∷ [])
-unfolding sort_at spaced_at length_at walk_from statement_mode terminal_of after placed past_white read
+unfolding sort_at spaced_at walk_from statement_mode terminal_of after placed past_white read
 properties_example = refl
 
 -- b#{c}-d: 1 -#{f}
@@ -86,7 +86,7 @@ words_example : Are
     s sorts.Digits ∷ s sorts.Minus ∷ d sorts.OpenInsert ∷ d sorts.Name ∷ d sorts.CloseInsert ∷ [])
     (terminals.Word ∷ terminals.PartInsert ∷ terminals.Word ∷ terminals.InsertEnd ∷ terminals.Part ∷ terminals.Colon ∷
     terminals.Number ∷ terminals.WordMinus ∷ terminals.WordInsert ∷ terminals.Word ∷ terminals.InsertEnd ∷ [])
-unfolding sort_at spaced_at length_at walk_from statement_mode terminal_of after placed past_white read
+unfolding sort_at spaced_at walk_from statement_mode terminal_of after placed past_white read
 words_example = refl
 
 -- $a: 1 !default;
@@ -95,7 +95,7 @@ flags_example : Are
     d sorts.Semicolon ∷ [])
     (terminals.DollarNamed ∷ terminals.VariableName ∷ terminals.Colon ∷ terminals.Number ∷ terminals.Ending ∷
     terminals.Default ∷ terminals.Semicolon ∷ [])
-unfolding sort_at spaced_at length_at walk_from statement_mode terminal_of after placed past_white read
+unfolding sort_at spaced_at walk_from statement_mode terminal_of after placed past_white read
 flags_example = refl
 
 -- b: f($x: 1) g (2)
@@ -105,7 +105,7 @@ calls_example : Are
     (terminals.Word ∷ terminals.Colon ∷ terminals.Word ∷ terminals.CallParen ∷ terminals.DollarNamed ∷
     terminals.VariableName ∷ terminals.Colon ∷ terminals.Number ∷ terminals.ParenEnd ∷ terminals.Word ∷
     terminals.Paren ∷ terminals.Number ∷ terminals.ParenEnd ∷ [])
-unfolding sort_at spaced_at length_at walk_from statement_mode terminal_of after placed past_white read
+unfolding sort_at spaced_at walk_from statement_mode terminal_of after placed past_white read
 calls_example = refl
 
 -- b: n.g() n.$v
@@ -114,7 +114,7 @@ owned_example : Are
     ∷ s sorts.Name ∷ d sorts.Dot ∷ d sorts.Dollar ∷ d sorts.Name ∷ [])
     (terminals.Word ∷ terminals.Colon ∷ terminals.Owner ∷ terminals.OwnerDot ∷ terminals.Word ∷ terminals.CallParen ∷
     terminals.ParenEnd ∷ terminals.Owner ∷ terminals.OwnerDot ∷ terminals.OwnerDollar ∷ terminals.VariableName ∷ [])
-unfolding sort_at spaced_at length_at walk_from statement_mode terminal_of after placed past_white read
+unfolding sort_at spaced_at walk_from statement_mode terminal_of after placed past_white read
 owned_example = refl
 
 -- --a: {b: c};d
@@ -123,7 +123,7 @@ custom_example : Are
     d sorts.CloseBrace ∷ d sorts.Semicolon ∷ d sorts.Name ∷ [])
     (terminals.Custom ∷ terminals.Colon ∷ terminals.RawBrace ∷ terminals.Raw ∷ terminals.Raw ∷ terminals.Raw ∷
     terminals.RawBraceEnd ∷ terminals.Semicolon ∷ terminals.Raw ∷ [])
-unfolding sort_at spaced_at length_at walk_from statement_mode terminal_of after placed past_white read
+unfolding sort_at spaced_at walk_from statement_mode terminal_of after placed past_white read
 custom_example = refl
 
 -- @use "u" as n with ($a: 1)
@@ -132,7 +132,7 @@ loads_example : Are
     d sorts.Name ∷ d sorts.Colon ∷ s sorts.Digits ∷ d sorts.CloseParen ∷ [])
     (terminals.AtUse ∷ terminals.LoadUrl ∷ terminals.As ∷ terminals.Named ∷ terminals.With ∷ terminals.HeadParen ∷
     terminals.DollarNamed ∷ terminals.VariableName ∷ terminals.Colon ∷ terminals.Number ∷ terminals.ParenEnd ∷ [])
-unfolding sort_at spaced_at length_at walk_from statement_mode terminal_of after placed past_white read
+unfolding sort_at spaced_at walk_from statement_mode terminal_of after placed past_white read
 loads_example = refl
 
 -- @forward "u" as p-* hide a, $b
@@ -141,7 +141,7 @@ passed_example : Are
     d sorts.Comma ∷ s sorts.Dollar ∷ d sorts.Name ∷ [])
     (terminals.AtForward ∷ terminals.LoadUrl ∷ terminals.As ∷ terminals.Prefix ∷ terminals.PrefixStar ∷ terminals.Hide
     ∷ terminals.Named ∷ terminals.Comma ∷ terminals.Dollar ∷ terminals.VariableName ∷ [])
-unfolding sort_at spaced_at length_at walk_from statement_mode terminal_of after placed past_white read
+unfolding sort_at spaced_at walk_from statement_mode terminal_of after placed past_white read
 passed_example = refl
 
 -- @include n.m(1) using ($c)
@@ -151,7 +151,7 @@ include_example : Are
     (terminals.AtInclude ∷ terminals.Owner ∷ terminals.OwnerDot ∷ terminals.Named ∷ terminals.CallParen ∷
     terminals.Number ∷ terminals.ParenEnd ∷ terminals.Using ∷ terminals.HeadParen ∷ terminals.Dollar ∷
     terminals.VariableName ∷ terminals.ParenEnd ∷ [])
-unfolding sort_at spaced_at length_at walk_from statement_mode terminal_of after placed past_white read
+unfolding sort_at spaced_at walk_from statement_mode terminal_of after placed past_white read
 include_example = refl
 
 -- @for $i from 1 through -3
@@ -160,7 +160,7 @@ bounds_example : Are
     d sorts.Digits ∷ [])
     (terminals.AtFor ∷ terminals.Dollar ∷ terminals.VariableName ∷ terminals.From ∷ terminals.Number ∷
     terminals.Through ∷ terminals.Sign ∷ terminals.Number ∷ [])
-unfolding sort_at spaced_at length_at walk_from statement_mode terminal_of after placed past_white read
+unfolding sort_at spaced_at walk_from statement_mode terminal_of after placed past_white read
 bounds_example = refl
 
 -- @each $k, $v in $m
@@ -169,7 +169,7 @@ each_example : Are
     s sorts.Dollar ∷ d sorts.Name ∷ [])
     (terminals.AtEach ∷ terminals.Dollar ∷ terminals.VariableName ∷ terminals.Comma ∷ terminals.Dollar ∷
     terminals.VariableName ∷ terminals.In ∷ terminals.Dollar ∷ terminals.VariableName ∷ [])
-unfolding sort_at spaced_at length_at walk_from statement_mode terminal_of after placed past_white read
+unfolding sort_at spaced_at walk_from statement_mode terminal_of after placed past_white read
 each_example = refl
 
 -- @if a{}@else if b{}
@@ -178,7 +178,7 @@ branches_example : Are
     ∷ d sorts.OpenBrace ∷ d sorts.CloseBrace ∷ [])
     (terminals.AtIf ∷ terminals.Word ∷ terminals.Open ∷ terminals.Close ∷ terminals.AtElseIf ∷ terminals.If ∷
     terminals.Word ∷ terminals.Open ∷ terminals.Close ∷ [])
-unfolding sort_at spaced_at length_at walk_from statement_mode terminal_of after placed past_white read
+unfolding sort_at spaced_at walk_from statement_mode terminal_of after placed past_white read
 branches_example = refl
 
 -- @media not a and (b: 1)
@@ -187,7 +187,7 @@ media_example : Are
     s sorts.Digits ∷ d sorts.CloseParen ∷ [])
     (terminals.AtMedia ∷ terminals.NotType ∷ terminals.Word ∷ terminals.And ∷ terminals.Paren ∷ terminals.Word ∷
     terminals.Colon ∷ terminals.Number ∷ terminals.ParenEnd ∷ [])
-unfolding sort_at spaced_at length_at walk_from statement_mode terminal_of after placed past_white read
+unfolding sort_at spaced_at walk_from statement_mode terminal_of after placed past_white read
 media_example = refl
 
 -- @media (not (c))
@@ -196,7 +196,7 @@ condition_example : Are
     d sorts.CloseParen ∷ [])
     (terminals.AtMedia ∷ terminals.ConditionParen ∷ terminals.Not ∷ terminals.Paren ∷ terminals.Word ∷
     terminals.ParenEnd ∷ terminals.ParenEnd ∷ [])
-unfolding sort_at spaced_at length_at walk_from statement_mode terminal_of after placed past_white read
+unfolding sort_at spaced_at walk_from statement_mode terminal_of after placed past_white read
 condition_example = refl
 
 -- a:not(b;)#{f} {
@@ -205,7 +205,7 @@ raw_example : Are
     d sorts.CloseParen ∷ d sorts.OpenInsert ∷ d sorts.Name ∷ d sorts.CloseInsert ∷ s sorts.OpenBrace ∷ [])
     (terminals.Raw ∷ terminals.Raw ∷ terminals.Raw ∷ terminals.RawParen ∷ terminals.Raw ∷ terminals.Raw ∷
     terminals.RawParenEnd ∷ terminals.Insert ∷ terminals.Word ∷ terminals.InsertEnd ∷ terminals.Open ∷ [])
-unfolding sort_at spaced_at length_at walk_from statement_mode terminal_of after placed past_white read
+unfolding sort_at spaced_at walk_from statement_mode terminal_of after placed past_white read
 raw_example = refl
 
 -- /*a*/b{/*c*/d: /*e*/1
@@ -214,7 +214,7 @@ comments_example : Are
     s sorts.Comment ∷ s sorts.Digits ∷ [])
     (terminals.CommentWhole ∷ terminals.Raw ∷ terminals.Open ∷ terminals.CommentWhole ∷ terminals.Word ∷
     terminals.Colon ∷ terminals.Number ∷ [])
-unfolding sort_at spaced_at length_at walk_from statement_mode terminal_of after placed past_white read
+unfolding sort_at spaced_at walk_from statement_mode terminal_of after placed past_white read
 comments_example = refl
 
 -- @foo#{a}b c {
@@ -223,7 +223,7 @@ at_example : Are
     s sorts.OpenBrace ∷ [])
     (terminals.AtOther ∷ terminals.PartInsert ∷ terminals.Word ∷ terminals.InsertEnd ∷ terminals.Part ∷ terminals.Raw ∷
     terminals.Open ∷ [])
-unfolding sort_at spaced_at length_at walk_from statement_mode terminal_of after placed past_white read
+unfolding sort_at spaced_at walk_from statement_mode terminal_of after placed past_white read
 at_example = refl
 
 -- a) b{c: d)
@@ -232,7 +232,7 @@ stray_example : Are
     ∷ d sorts.CloseParen ∷ [])
     (terminals.Raw ∷ terminals.Raw ∷ terminals.Raw ∷ terminals.Open ∷ terminals.Word ∷ terminals.Colon ∷ terminals.Word
     ∷ terminals.Other ∷ [])
-unfolding sort_at spaced_at length_at walk_from statement_mode terminal_of after placed past_white read
+unfolding sort_at spaced_at walk_from statement_mode terminal_of after placed past_white read
 stray_example = refl
 
 -- b: calc(1px + $c, n.$d) 3
@@ -243,7 +243,7 @@ special_example : Are
     (terminals.Word ∷ terminals.Colon ∷ terminals.Special ∷ terminals.RawParen ∷ terminals.Number ∷ terminals.Raw ∷
     terminals.Dollar ∷ terminals.VariableName ∷ terminals.SpecialComma ∷ terminals.Owner ∷ terminals.OwnerDot ∷
     terminals.OwnerDollar ∷ terminals.VariableName ∷ terminals.RawParenEnd ∷ terminals.Number ∷ [])
-unfolding sort_at spaced_at length_at walk_from statement_mode terminal_of after placed past_white read
+unfolding sort_at spaced_at walk_from statement_mode terminal_of after placed past_white read
 special_example = refl
 
 -- b: min(f(1), round(2), n.max(3), n.d)
@@ -258,7 +258,7 @@ special_calls_example : Are
     terminals.Number ∷ terminals.RawParenEnd ∷ terminals.SpecialComma ∷ terminals.Owner ∷ terminals.OwnerDot ∷
     terminals.Word ∷ terminals.CallParen ∷ terminals.Number ∷ terminals.ParenEnd ∷ terminals.SpecialComma ∷
     terminals.Raw ∷ terminals.Raw ∷ terminals.Raw ∷ terminals.RawParenEnd ∷ [])
-unfolding sort_at spaced_at length_at walk_from statement_mode terminal_of after placed past_white read
+unfolding sort_at spaced_at walk_from statement_mode terminal_of after placed past_white read
 special_calls_example = refl
 
 -- b: max([;] ; +1 -2 @x)
@@ -269,7 +269,7 @@ special_signs_example : Are
     (terminals.Word ∷ terminals.Colon ∷ terminals.Special ∷ terminals.RawParen ∷ terminals.RawBracket ∷ terminals.Raw ∷
     terminals.RawBracketEnd ∷ terminals.Other ∷ terminals.Sign ∷ terminals.Number ∷ terminals.Sign ∷ terminals.Number
     ∷ terminals.Raw ∷ terminals.RawParenEnd ∷ [])
-unfolding sort_at spaced_at length_at walk_from statement_mode terminal_of after placed past_white read
+unfolding sort_at spaced_at walk_from statement_mode terminal_of after placed past_white read
 special_signs_example = refl
 
 -- b: calc(#ab 1 / "c" & d)
@@ -278,7 +278,7 @@ special_text_example : Are
     ∷ s sorts.Slash ∷ s sorts.Quoted ∷ s sorts.Ampersand ∷ s sorts.Name ∷ d sorts.CloseParen ∷ [])
     (terminals.Word ∷ terminals.Colon ∷ terminals.Special ∷ terminals.RawParen ∷ terminals.Raw ∷ terminals.Raw ∷
     terminals.Number ∷ terminals.Raw ∷ terminals.Raw ∷ terminals.Raw ∷ terminals.Raw ∷ terminals.RawParenEnd ∷ [])
-unfolding sort_at spaced_at length_at walk_from statement_mode terminal_of after placed past_white read
+unfolding sort_at spaced_at walk_from statement_mode terminal_of after placed past_white read
 special_text_example = refl
 
 -- b: n.min(1) n. f
@@ -287,7 +287,7 @@ owned_special_example : Are
     d sorts.CloseParen ∷ s sorts.Name ∷ d sorts.Dot ∷ s sorts.Name ∷ [])
     (terminals.Word ∷ terminals.Colon ∷ terminals.Owner ∷ terminals.OwnerDot ∷ terminals.Word ∷ terminals.CallParen ∷
     terminals.Number ∷ terminals.ParenEnd ∷ terminals.Owner ∷ terminals.OwnerDot ∷ terminals.Other ∷ [])
-unfolding sort_at spaced_at length_at walk_from statement_mode terminal_of after placed past_white read
+unfolding sort_at spaced_at walk_from statement_mode terminal_of after placed past_white read
 owned_special_example = refl
 
 -- b: true.$x null and not c
@@ -296,7 +296,7 @@ constants_example : Are
     s sorts.And ∷ s sorts.Not ∷ s sorts.Name ∷ [])
     (terminals.Word ∷ terminals.Colon ∷ terminals.Owner ∷ terminals.OwnerDot ∷ terminals.OwnerDollar ∷
     terminals.VariableName ∷ terminals.Null ∷ terminals.And ∷ terminals.Not ∷ terminals.Word ∷ [])
-unfolding sort_at spaced_at length_at walk_from statement_mode terminal_of after placed past_white read
+unfolding sort_at spaced_at walk_from statement_mode terminal_of after placed past_white read
 constants_example = refl
 
 -- @for $i from to.$x to through#{a}
@@ -306,21 +306,21 @@ bound_words_example : Are
     (terminals.AtFor ∷ terminals.Dollar ∷ terminals.VariableName ∷ terminals.From ∷ terminals.Owner ∷
     terminals.OwnerDot ∷ terminals.OwnerDollar ∷ terminals.VariableName ∷ terminals.To ∷ terminals.Word ∷
     terminals.PartInsert ∷ terminals.Word ∷ terminals.InsertEnd ∷ [])
-unfolding sort_at spaced_at length_at walk_from statement_mode terminal_of after placed past_white read
+unfolding sort_at spaced_at walk_from statement_mode terminal_of after placed past_white read
 bound_words_example = refl
 
 -- @use "u" as p-*
 renamed_example : Are
     (d sorts.AtUse ∷ s sorts.Quoted ∷ s sorts.As ∷ s sorts.Name ∷ d sorts.Star ∷ [])
     (terminals.AtUse ∷ terminals.LoadUrl ∷ terminals.As ∷ terminals.Named ∷ terminals.Times ∷ [])
-unfolding sort_at spaced_at length_at walk_from statement_mode terminal_of after placed past_white read
+unfolding sort_at spaced_at walk_from statement_mode terminal_of after placed past_white read
 renamed_example = refl
 
 -- @forward "u" as p;
 unprefixed_example : Are
     (d sorts.AtForward ∷ s sorts.Quoted ∷ s sorts.As ∷ s sorts.Name ∷ d sorts.Semicolon ∷ [])
     (terminals.AtForward ∷ terminals.LoadUrl ∷ terminals.As ∷ terminals.Prefix ∷ terminals.Semicolon ∷ [])
-unfolding sort_at spaced_at length_at walk_from statement_mode terminal_of after placed past_white read
+unfolding sort_at spaced_at walk_from statement_mode terminal_of after placed past_white read
 unprefixed_example = refl
 
 -- @include a.b.c
@@ -328,7 +328,7 @@ included_example : Are
     (d sorts.AtInclude ∷ s sorts.Name ∷ d sorts.Dot ∷ d sorts.Name ∷ d sorts.Dot ∷ d sorts.Name ∷ [])
     (terminals.AtInclude ∷ terminals.Owner ∷ terminals.OwnerDot ∷ terminals.Named ∷ terminals.Other ∷ terminals.Named ∷
     [])
-unfolding sort_at spaced_at length_at walk_from statement_mode terminal_of after placed past_white read
+unfolding sort_at spaced_at walk_from statement_mode terminal_of after placed past_white read
 included_example = refl
 
 -- @if a{}/*b*//*c*/@else{}
@@ -337,7 +337,7 @@ comments_before_else_example : Are
     s sorts.AtElse ∷ d sorts.OpenBrace ∷ d sorts.CloseBrace ∷ [])
     (terminals.AtIf ∷ terminals.Word ∷ terminals.Open ∷ terminals.Close ∷ terminals.AtElse ∷ terminals.Open ∷
     terminals.Close ∷ [])
-unfolding sort_at spaced_at length_at walk_from statement_mode terminal_of after placed past_white read
+unfolding sort_at spaced_at walk_from statement_mode terminal_of after placed past_white read
 comments_before_else_example = refl
 
 -- a{}/*b*//*c*/d{}
@@ -346,7 +346,7 @@ comments_between_example : Are
     d sorts.OpenBrace ∷ d sorts.CloseBrace ∷ [])
     (terminals.Raw ∷ terminals.Open ∷ terminals.Close ∷ terminals.CommentWhole ∷ terminals.CommentWhole ∷ terminals.Raw
     ∷ terminals.Open ∷ terminals.Close ∷ [])
-unfolding sort_at spaced_at length_at walk_from statement_mode terminal_of after placed past_white read
+unfolding sort_at spaced_at walk_from statement_mode terminal_of after placed past_white read
 comments_between_example = refl
 
 -- --a: @b ) ];
@@ -354,7 +354,7 @@ custom_text_example : Are
     (d sorts.DashedName ∷ d sorts.Colon ∷ s sorts.AtName ∷ s sorts.CloseParen ∷ s sorts.CloseBracket ∷
     d sorts.Semicolon ∷ [])
     (terminals.Custom ∷ terminals.Colon ∷ terminals.Raw ∷ terminals.Other ∷ terminals.Other ∷ terminals.Semicolon ∷ [])
-unfolding sort_at spaced_at length_at walk_from statement_mode terminal_of after placed past_white read
+unfolding sort_at spaced_at walk_from statement_mode terminal_of after placed past_white read
 custom_text_example = refl
 
 -- @mixin m($a..., $b)
@@ -363,14 +363,14 @@ parameters_example : Are
     d sorts.Comma ∷ s sorts.Dollar ∷ d sorts.Name ∷ d sorts.CloseParen ∷ [])
     (terminals.AtMixin ∷ terminals.Named ∷ terminals.HeadParen ∷ terminals.Dollar ∷ terminals.VariableName ∷
     terminals.Ellipsis ∷ terminals.Comma ∷ terminals.Other ∷ terminals.Word ∷ terminals.ParenEnd ∷ [])
-unfolding sort_at spaced_at length_at walk_from statement_mode terminal_of after placed past_white read
+unfolding sort_at spaced_at walk_from statement_mode terminal_of after placed past_white read
 parameters_example = refl
 
 -- b: c !important
 important_example : Are
     (d sorts.Name ∷ d sorts.Colon ∷ s sorts.Name ∷ s sorts.Exclamation ∷ d sorts.Important ∷ [])
     (terminals.Word ∷ terminals.Colon ∷ terminals.Word ∷ terminals.Bang ∷ terminals.Important ∷ [])
-unfolding sort_at spaced_at length_at walk_from statement_mode terminal_of after placed past_white read
+unfolding sort_at spaced_at walk_from statement_mode terminal_of after placed past_white read
 important_example = refl
 
 -- @forward "u" with ($a: 1 !default)
@@ -380,12 +380,12 @@ configured_example : Are
     (terminals.AtForward ∷ terminals.LoadUrl ∷ terminals.With ∷ terminals.HeadParen ∷ terminals.DollarNamed ∷
     terminals.VariableName ∷ terminals.Colon ∷ terminals.Number ∷ terminals.Ending ∷ terminals.Default ∷
     terminals.ParenEnd ∷ [])
-unfolding sort_at spaced_at length_at walk_from statement_mode terminal_of after placed past_white read
+unfolding sort_at spaced_at walk_from statement_mode terminal_of after placed past_white read
 configured_example = refl
 
 -- true: c
 reserved_rule_example : Are
     (d sorts.True ∷ d sorts.Colon ∷ s sorts.Name ∷ [])
     (terminals.Raw ∷ terminals.Raw ∷ terminals.Raw ∷ [])
-unfolding sort_at spaced_at length_at walk_from statement_mode terminal_of after placed past_white read
+unfolding sort_at spaced_at walk_from statement_mode terminal_of after placed past_white read
 reserved_rule_example = refl

@@ -22,14 +22,6 @@ sort_at plains at = sort_in (slice_get plains at)
 unfoldable pub spaced_at : List Plain → ℕ → Bool
 spaced_at plains at = spaced_in (slice_get plains at)
 
-abbrev pub length_in : Option Plain → ℕ
-length_in None = 0
-length_in (Some plain) = plain.to - plain.from
-
--- how many bytes the token at a place has
-unfoldable pub length_at : List Plain → ℕ → ℕ
-length_at plains at = length_in (slice_get plains at)
-
 -- a token of this sort stands here, with nothing between it and the one before
 abbrev pub is_direct : List Plain → ℕ → Sort → Bool
 is_direct plains at sort = not (spaced_at plains at) && same (sort_at plains at) sort

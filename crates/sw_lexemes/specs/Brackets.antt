@@ -1,5 +1,5 @@
 -- What a bracket is at its place, and `;` in brackets (Sass specification, "Special functions"; CSS Syntax, blocks).
-use Rattle.std.specs.Prelude.{ℕ, ◌-◌, nat_lt, Bool, true, false, not, ◌&&◌, ◌||◌, if◌then◌else◌, List, length, Option, Some, None, slice_get}
+use Rattle.std.specs.Prelude.{ℕ, ◌-◌, Bool, true, false, not, ◌&&◌, ◌||◌, if◌then◌else◌, List, length, Option, Some, None, slice_get}
 use Rattle.sw_terminals.specs.declared.terminal.Terminal.{Terminal}
 use Rattle.sw_terminals.specs.declared.terminal.Terminal.TheVariants as terminals
 use Rattle.sw_lexemes.specs.declared.sort.Sort.TheVariants as sorts
@@ -97,10 +97,9 @@ abbrev pub sign_in_brackets : Mode → Option Frame → Terminal
 sign_in_brackets modes.Special frame = if is_inner frame then terminals.Raw else terminals.Other
 sign_in_brackets mode frame = or_raw mode terminals.Other
 
--- a `{` of so many bytes: a block's one that no text has stands in no custom property
-abbrev pub open_brace : Mode → Option Frame → ℕ → Terminal
-open_brace mode frame bytes =
-    if is_custom mode && nat_lt 0 bytes then terminals.RawBrace
+abbrev pub open_brace : Mode → Option Frame → Terminal
+open_brace mode frame =
+    if is_custom mode then terminals.RawBrace
     else (if is_outer frame then terminals.Open
     else sign_in_brackets mode frame)
 

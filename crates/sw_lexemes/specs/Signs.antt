@@ -133,15 +133,11 @@ abbrev pub bang_terminal : State → List Plain → ℕ → Terminal
 bang_terminal state plains at =
     if takes_flags state.mode && ends_value state plains at then terminals.Ending else or_raw state.mode terminals.Bang
 
--- a `#{` directly behind an `@` is the name of an at-rule
-abbrev pub names_rule : State → List Plain → ℕ → Bool
-names_rule state plains at = is state.before terminals.AtInsert && not (spaced_at plains at)
-
 -- a `#{` that goes on with no word
 abbrev pub insert_in : State → List Plain → ℕ → Terminal
 insert_in state plains at =
     elim (state.mode) as (λ _. Terminal) [
-      | modes.Raw ↦ if names_rule state plains at then terminals.WordInsert else terminals.Insert
+      | modes.Raw ↦ if is state.before terminals.AtInsert then terminals.WordInsert else terminals.Insert
       | modes.Custom ↦ terminals.Insert
       | modes.Special ↦ terminals.Insert
       | modes.Text ↦ terminals.Insert

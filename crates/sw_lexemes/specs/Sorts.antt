@@ -31,7 +31,6 @@ sort_of kinds.UrlEnd text = sorts.UrlEnd
 sort_of kinds.Comment text = sorts.Comment
 sort_of kinds.CommentTemplate text = sorts.CommentTemplate
 sort_of kinds.CommentEnd text = sorts.CommentEnd
-sort_of kinds.CommentLine text = sorts.Piece
 sort_of kinds.UnicodeRange text = sorts.Range
 sort_of kinds.OpenInterpolation text = sorts.OpenInsert
 sort_of kinds.CloseInterpolation text = sorts.CloseInsert

@@ -1,5 +1,5 @@
 -- The terminal of the token at a place, by what is known before it. The mode is that of its statement.
-use Rattle.std.specs.Prelude.{ℕ, ◌+◌, nat_lt, Bool, true, false, ◌&&◌, ◌||◌, if◌then◌else◌, List}
+use Rattle.std.specs.Prelude.{ℕ, ◌+◌, Bool, true, false, ◌&&◌, ◌||◌, if◌then◌else◌, List}
 use Rattle.sw_terminals.specs.declared.terminal.Terminal.{Terminal}
 use Rattle.sw_terminals.specs.declared.terminal.Terminal.TheVariants as terminals
 use Rattle.sw_lexemes.specs.declared.sort.Sort.TheVariants as sorts
@@ -7,7 +7,7 @@ use Rattle.sw_lexemes.specs.declared.plain.Plain.{Plain}
 use Rattle.sw_lexemes.specs.declared.state.Mode.{Mode}
 use Rattle.sw_lexemes.specs.declared.state.State.{State}
 use Rattle.sw_lexemes.specs.Classes.{same}
-use Rattle.sw_lexemes.specs.Ahead.{sort_at, length_at, is_direct, next_sort}
+use Rattle.sw_lexemes.specs.Ahead.{sort_at, is_direct, next_sort}
 use Rattle.sw_lexemes.specs.Names.{is_raw, continues, name_terminal}
 use Rattle.sw_lexemes.specs.Signs.{is_text, or_raw, by_operand, plus_terminal, minus_terminal, star_terminal, comma_terminal, dot_terminal, dollar_terminal, bang_terminal, insert_terminal}
 use Rattle.sw_lexemes.specs.Brackets.{paren_terminal, bracket_terminal, innermost, closes_paren, closes_bracket, open_brace, close_brace, semicolon}
@@ -36,23 +36,22 @@ abbrev pub string_terminal : State → List Plain → ℕ → Bool → Terminal
 string_terminal state plains at named =
     if is_text state.mode then terminals.Raw else string_in_code state plains at named
 
--- a `#{` directly behind an at-keyword belongs to its name, but not one behind a sign that stands for a keyword
-abbrev pub goes_on : List Plain → ℕ → Bool
-goes_on plains at = nat_lt 1 (length_at plains at) && is_direct plains (at + 1) sorts.OpenInsert
-
--- an at-keyword begins a statement, and one whose name goes on with a `#{` an unknown at-rule
+-- an at-keyword begins a statement, and one that a `#{` follows directly an unknown at-rule
 abbrev pub at_terminal : State → List Plain → ℕ → Terminal → Terminal
 at_terminal state plains at terminal =
-    if state.start then (if goes_on plains at then terminals.AtOther else terminal)
+    if state.start then (if is_direct plains (at + 1) sorts.OpenInsert then terminals.AtOther else terminal)
     else or_raw state.mode terminals.Other
 
 -- `@else` before `if`, or before a block
 abbrev pub else_terminal : List Plain → ℕ → Terminal
 else_terminal plains at = if same (next_sort plains at) sorts.If then terminals.AtElseIf else terminals.AtElse
 
--- `@` without a name directly behind it begins an at-rule whose name is a `#{`
-abbrev pub lone_at : State → Terminal
-lone_at state = if state.start then terminals.AtInsert else or_raw state.mode terminals.Other
+-- `@` without a name
+abbrev pub lone_at : State → List Plain → ℕ → Terminal
+lone_at state plains at =
+    if state.start && is_direct plains (at + 1) sorts.OpenInsert
+    then terminals.AtInsert
+    else or_raw state.mode terminals.Other
 
 unfoldable pub terminal_of : State → List Plain → ℕ → Terminal
 terminal_of state plains at =
@@ -75,7 +74,7 @@ terminal_of state plains at =
       | sorts.Range ↦ or_raw state.mode terminals.Range
       | sorts.OpenInsert ↦ insert_terminal state plains at
       | sorts.CloseInsert ↦ terminals.InsertEnd
-      | sorts.OpenBrace ↦ open_brace state.mode (innermost state.frames) (length_at plains at)
+      | sorts.OpenBrace ↦ open_brace state.mode (innermost state.frames)
       | sorts.CloseBrace ↦ close_brace state.mode (innermost state.frames)
       | sorts.OpenParen ↦ paren_terminal state plains at
       | sorts.CloseParen ↦ closes_paren state.mode (innermost state.frames)
@@ -102,7 +101,7 @@ terminal_of state plains at =
       | sorts.LessEquals ↦ or_raw state.mode terminals.LessEqual
       | sorts.Greater ↦ or_raw state.mode terminals.Greater
       | sorts.GreaterEquals ↦ or_raw state.mode terminals.GreaterEqual
-      | sorts.At ↦ lone_at state
+      | sorts.At ↦ lone_at state plains at
       | sorts.AtUse ↦ at_terminal state plains at terminals.AtUse
       | sorts.AtForward ↦ at_terminal state plains at terminals.AtForward
       | sorts.AtFunction ↦ at_terminal state plains at terminals.AtFunction

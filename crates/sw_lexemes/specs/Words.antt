@@ -116,13 +116,6 @@ is_prefixed_calc name =
 abbrev pub name_sort : List ℕ → Sort
 name_sort name = if is_prefixed_calc name then sorts.Special else sorts.Name
 
--- the signs that stand for at-keywords in a sheet that was written in lines
-abbrev pub at_one : List ℕ → Sort
-at_one word =
-    if bytes_eq word (codes "=") then sorts.AtMixin
-    else (if bytes_eq word (codes "+") then sorts.AtInclude
-    else sorts.AtName)
-
 -- at-keywords of three characters
 abbrev pub at_three : List ℕ → Sort
 at_three word =
@@ -183,12 +176,11 @@ at_nine word =
 -- `@` and a name
 abbrev pub at_sort : List ℕ → Sort
 at_sort word =
-    if length word == 1 then at_one word
-    else (if length word == 3 then at_three word
+    if length word == 3 then at_three word
     else (if length word == 4 then at_four word
     else (if length word == 5 then at_five word
     else (if length word == 6 then at_six word
     else (if length word == 7 then at_seven word
     else (if length word == 8 then at_eight word
     else (if length word == 9 then at_nine word
-    else sorts.AtName)))))))
+    else sorts.AtName))))))

@@ -1,6 +1,6 @@
 // Looking ahead over the tokens of a text.
 ghost use Rattle.std.specs.Prelude.{◌≡◌, ◌+◌, ◌^◌, ◌<◌, ◌≤◌, length, MatchOption};
-ghost use Rattle.sw_lexemes.specs.Ahead.{sort_at, spaced_at, length_at, is_direct, name_direct, number_direct, next_sort, begins_word, in_insert, over_comment, over_word, to_sign, walk_step, walk_from, code_from, opens_block, behind_first};
+ghost use Rattle.sw_lexemes.specs.Ahead.{sort_at, spaced_at, is_direct, name_direct, number_direct, next_sort, begins_word, in_insert, over_comment, over_word, to_sign, walk_step, walk_from, code_from, opens_block, behind_first};
 
 use crate::class::{goes_on, is_name, is_number, is_reserved, same};
 use crate::plain::Plain;
@@ -14,16 +14,6 @@ pub(crate) fn sort_at(plains: &[Plain], at: usize) -> Sort
     match plains.get(at) {
         None => Sort::Other,
         Some(plain) => plain.sort,
-    }
-}
-
-#[tactic(auto, unfolding(crate::specs::Ahead::length_at))]
-pub(crate) fn length_at(plains: &[Plain], at: usize) -> u32
-    ensures { result ≡ length_at plains.now at }
-{
-    match plains.get(at) {
-        None => 0,
-        Some(plain) => plain.to.saturating_sub(plain.from),
     }
 }
 

@@ -197,10 +197,10 @@ fn sign_in_brackets(mode: Mode, frame: Option<Frame>) -> Terminal
     }
 }
 
-pub(crate) fn open_brace(mode: Mode, frame: Option<Frame>, bytes: u32) -> Terminal
-    ensures { result ≡ open_brace mode frame bytes }
+pub(crate) fn open_brace(mode: Mode, frame: Option<Frame>) -> Terminal
+    ensures { result ≡ open_brace mode frame }
 {
-    if is_custom(mode) && 0 < bytes {
+    if is_custom(mode) {
         Terminal::RawBrace
     } else if is_outer(frame) {
         Terminal::Open

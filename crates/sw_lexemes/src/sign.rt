@@ -1,6 +1,6 @@
 // What a sign is at its place.
 ghost use Rattle.std.specs.Prelude.{◌≡◌, ◌<◌, length};
-ghost use Rattle.sw_lexemes.specs.Signs.{ends_operand, is_text, or_raw, plus_signs, minus_signs, sign_in_text, by_operand, plus_terminal, minus_terminal, star_terminal, comma_terminal, dot_terminal, is_params, is_behind_rest, dollar_in_code, dollar_terminal, is_flag, takes_flags, ends_value, bang_terminal, names_rule, insert_in, insert_terminal};
+ghost use Rattle.sw_lexemes.specs.Signs.{ends_operand, is_text, or_raw, plus_signs, minus_signs, sign_in_text, by_operand, plus_terminal, minus_terminal, star_terminal, comma_terminal, dot_terminal, is_params, is_behind_rest, dollar_in_code, dollar_terminal, is_flag, takes_flags, ends_value, bang_terminal, insert_in, insert_terminal};
 
 use crate::ahead::{
     code_from, is_direct, name_direct, next_sort, number_direct, sort_at, spaced_at,
@@ -252,18 +252,12 @@ pub(crate) fn bang_terminal(state: &State, plains: &[Plain], at: usize) -> Termi
     }
 }
 
-fn names_rule(state: &State, plains: &[Plain], at: usize) -> bool
-    ensures { result ≡ names_rule state.now plains.now at }
-{
-    is(state.before, Terminal::AtInsert) && !spaced_at(plains, at)
-}
-
 fn insert_in(state: &State, plains: &[Plain], at: usize) -> Terminal
     ensures { result ≡ insert_in state.now plains.now at }
 {
     match state.mode {
         Mode::Raw => {
-            if names_rule(state, plains, at) {
+            if is(state.before, Terminal::AtInsert) {
                 Terminal::WordInsert
             } else {
                 Terminal::Insert

@@ -143,7 +143,6 @@ pub(crate) fn sort_of(kind: &TokenKind, text: &str) -> Sort
         TokenKind::Comment => Sort::Comment,
         TokenKind::CommentTemplate => Sort::CommentTemplate,
         TokenKind::CommentEnd => Sort::CommentEnd,
-        TokenKind::CommentLine => Sort::Piece,
         TokenKind::UnicodeRange => Sort::Range,
         TokenKind::OpenInterpolation => Sort::OpenInsert,
         TokenKind::CloseInterpolation => Sort::CloseInsert,

@@ -1,8 +1,8 @@
 // The terminal of the token at a place.
 ghost use Rattle.std.specs.Prelude.{◌≡◌, ◌<◌, length};
-ghost use Rattle.sw_lexemes.specs.Terminals.{number_terminal, digits_terminal, loaded_url, string_in_code, string_terminal, goes_on, at_terminal, else_terminal, lone_at, terminal_of};
+ghost use Rattle.sw_lexemes.specs.Terminals.{number_terminal, digits_terminal, loaded_url, string_in_code, string_terminal, at_terminal, else_terminal, lone_at, terminal_of};
 
-use crate::ahead::{is_direct, length_at, next_sort, sort_at};
+use crate::ahead::{is_direct, next_sort, sort_at};
 use crate::bracket::{
     bracket_terminal, close_brace, closes_bracket, closes_paren, innermost, open_brace,
     paren_terminal, semicolon,
@@ -72,19 +72,12 @@ fn string_terminal(state: &State, plains: &[Plain], at: usize, named: bool) -> T
     }
 }
 
-fn goes_on(plains: &[Plain], at: usize) -> bool
-    requires { at < length plains.now }
-    ensures { result ≡ goes_on plains.now at }
-{
-    1 < length_at(plains, at) && is_direct(plains, at + 1, Sort::OpenInsert)
-}
-
 fn at_terminal(state: &State, plains: &[Plain], at: usize, terminal: Terminal) -> Terminal
     requires { at < length plains.now }
     ensures { result ≡ at_terminal state.now plains.now at terminal }
 {
     if state.start {
-        if goes_on(plains, at) {
+        if is_direct(plains, at + 1, Sort::OpenInsert) {
             Terminal::AtOther
         } else {
             terminal
@@ -105,10 +98,11 @@ fn else_terminal(plains: &[Plain], at: usize) -> Terminal
     }
 }
 
-fn lone_at(state: &State) -> Terminal
-    ensures { result ≡ lone_at state.now }
+fn lone_at(state: &State, plains: &[Plain], at: usize) -> Terminal
+    requires { at < length plains.now }
+    ensures { result ≡ lone_at state.now plains.now at }
 {
-    if state.start {
+    if state.start && is_direct(plains, at + 1, Sort::OpenInsert) {
         Terminal::AtInsert
     } else {
         or_raw(state.mode, Terminal::Other)
@@ -140,11 +134,7 @@ pub(crate) fn terminal_of(state: &State, plains: &[Plain], at: usize) -> Termina
         Sort::Range => or_raw(state.mode, Terminal::Range),
         Sort::OpenInsert => insert_terminal(state, plains, at),
         Sort::CloseInsert => Terminal::InsertEnd,
-        Sort::OpenBrace => open_brace(
-            state.mode,
-            innermost(state.frames.as_slice()),
-            length_at(plains, at),
-        ),
+        Sort::OpenBrace => open_brace(state.mode, innermost(state.frames.as_slice())),
         Sort::CloseBrace => close_brace(state.mode, innermost(state.frames.as_slice())),
         Sort::OpenParen => paren_terminal(state, plains, at),
         Sort::CloseParen => closes_paren(state.mode, innermost(state.frames.as_slice())),
@@ -174,7 +164,7 @@ pub(crate) fn terminal_of(state: &State, plains: &[Plain], at: usize) -> Termina
         Sort::LessEquals => or_raw(state.mode, Terminal::LessEqual),
         Sort::Greater => or_raw(state.mode, Terminal::Greater),
         Sort::GreaterEquals => or_raw(state.mode, Terminal::GreaterEqual),
-        Sort::At => lone_at(state),
+        Sort::At => lone_at(state, plains, at),
         Sort::AtUse => at_terminal(state, plains, at, Terminal::AtUse),
         Sort::AtForward => at_terminal(state, plains, at, Terminal::AtForward),
         Sort::AtFunction => at_terminal(state, plains, at, Terminal::AtFunction),

@@ -1,6 +1,6 @@
 // The words of sheets that are told apart.
 ghost use Rattle.std.specs.Prelude.{◌≡◌, ◌≤◌, length};
-ghost use Rattle.sw_lexemes.specs.Words.{of_two, of_three, of_four, of_five, of_six, of_seven, of_nine, word_sort, has_dash, prefix_end, is_prefixed_calc, name_sort, at_one, at_three, at_four, at_five, at_six, at_seven, at_eight, at_nine, at_sort};
+ghost use Rattle.sw_lexemes.specs.Words.{of_two, of_three, of_four, of_five, of_six, of_seven, of_nine, word_sort, has_dash, prefix_end, is_prefixed_calc, name_sort, at_three, at_four, at_five, at_six, at_seven, at_eight, at_nine, at_sort};
 
 use crate::sort::Sort;
 use sw_scan::{byte_at, signs};
@@ -207,18 +207,6 @@ pub(crate) fn name_sort(name: &str) -> Sort
     }
 }
 
-fn at_one(word: &str) -> Sort
-    ensures { result ≡ at_one word.now }
-{
-    if word == "=" {
-        Sort::AtMixin
-    } else if word == "+" {
-        Sort::AtInclude
-    } else {
-        Sort::AtName
-    }
-}
-
 fn at_three(word: &str) -> Sort
     ensures { result ≡ at_three word.now }
 {
@@ -322,9 +310,7 @@ fn at_nine(word: &str) -> Sort
 pub(crate) fn at_sort(word: &str) -> Sort
     ensures { result ≡ at_sort word.now }
 {
-    if word.len() == 1 {
-        at_one(word)
-    } else if word.len() == 3 {
+    if word.len() == 3 {
         at_three(word)
     } else if word.len() == 4 {
         at_four(word)

@@ -3,7 +3,7 @@ use Rattle.std.specs.Prelude.{ℕ, zero, suc, ◌+◌, ◌-◌, List, length, Bo
 use Rattle.sw_scan.specs.declared.runs.Class.{Class}
 use Rattle.sw_scan.specs.declared.runs.Class.TheVariants as classes
 use Rattle.sw_scan.specs.declared.runs.TheConstants.{MOST_HEX_DIGITS}
-use Rattle.sw_scan.specs.declared.signs.TheConstants.{END, TAB, LINE_FEED, CARRIAGE_RETURN, SPACE}
+use Rattle.sw_scan.specs.declared.signs.TheConstants.{END, CARRIAGE_RETURN, LINE_FEED}
 use Rattle.sw_scan.specs.Bytes.{sign, byte, is_break, is_white, is_digit, is_letter, is_hex_digit, starts_plainly, is_name_byte, is_url_byte, is_range_byte, opens_at, ends_loud}
 
 -- behind the hexadecimal digits from i on, of which n at most are taken
@@ -75,11 +75,6 @@ next classes.Line bs i = if is_break (byte bs i) || (byte bs i == END) then i el
 next classes.Comment bs i = if ends_loud bs i || (opens_at bs i || (byte bs i == END)) then i else i + 1
 next classes.CssUrl bs i = if is_url_byte (byte bs i) then i + 1 else escape_end bs i
 next classes.CssComment bs i = if ends_loud bs i || (byte bs i == END) then i else i + 1
-next classes.CommentLine bs i =
-    if is_break (byte bs i) then i else (if ends_loud bs i || (opens_at bs i || (byte bs i == END)) then i else i + 1)
-next classes.Blank bs i = if (byte bs i == SPACE) || (byte bs i == TAB) then i + 1 else i
-next classes.Space bs i = if byte bs i == SPACE then i + 1 else i
-next classes.Tab bs i = if byte bs i == TAB then i + 1 else i
 
 -- behind the run from i on, of n steps at most
 abbrev pub run_from : Class → List ℕ → ℕ → ℕ → ℕ

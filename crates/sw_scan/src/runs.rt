@@ -40,12 +40,6 @@ pub enum Class {
     CssUrl,
     /// What a comment of plain CSS holds up to its `*/`.
     CssComment,
-    /// What a line of a loud comment of a sheet holds up to a `*/` or a `#{`.
-    CommentLine,
-    /// Spaces and tabs.
-    Blank,
-    Space,
-    Tab,
 }
 
 /// A hexadecimal escape has at most so many digits.
@@ -190,15 +184,6 @@ fn css_comment_next(bytes: &[u8], at: usize) -> usize
     at + 1
 }
 
-fn comment_line_next(bytes: &[u8], at: usize) -> usize
-    ensures { result ≡ next Class.CommentLine bytes.now at }
-{
-    if is_break(byte_at(bytes, at)) {
-        return at;
-    }
-    comment_next(bytes, at)
-}
-
 fn sheet_text_next(bytes: &[u8], quote: u8, at: usize) -> usize
     ensures { result ≡ next (Class.SheetText quote) bytes.now at }
 {
@@ -231,10 +216,6 @@ pub fn next_at(bytes: &[u8], class: Class, at: usize) -> usize
         Class::Comment => comment_next(bytes, at),
         Class::CssUrl => past_escape(bytes, is_url_byte(byte), at),
         Class::CssComment => css_comment_next(bytes, at),
-        Class::CommentLine => comment_line_next(bytes, at),
-        Class::Blank => past(byte == signs::SPACE || byte == signs::TAB, at),
-        Class::Space => past(byte == signs::SPACE, at),
-        Class::Tab => past(byte == signs::TAB, at),
     }
 }
 

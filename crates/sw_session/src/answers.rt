@@ -7,7 +7,7 @@ ghost use Rattle.sw_modules.specs.Fresh.{Setting, setting_of};
 ghost use Rattle.sw_wire.specs.Replies.{reply_text};
 ghost use Rattle.sw_protocol.specs.Turns.{place, standing, Says, SaysSome, SayStops, Cause};
 ghost use Rattle.sw_session.specs.Script.{Compile, Remove};
-ghost use Rattle.sw_file_parse.specs.Files.{sheet_at};
+ghost use Rattle.sw_session.specs.Sheets.{sheet_at};
 ghost use Rattle.sw_session.specs.Transcript.{holding, session};
 ghost use Rattle.sw_session.specs.Edits.{PutAnswers, PutStops, SendEnds};
 

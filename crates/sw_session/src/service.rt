@@ -2,7 +2,7 @@
 ghost use Rattle.std.specs.Prelude.{◌≡◌};
 ghost use Rattle.sw_io.specs.Causes.{Rose};
 ghost use Rattle.sw_modules.specs.Fresh.{setting_of};
-ghost use Rattle.sw_file_parse.specs.Files.{sheet_at};
+ghost use Rattle.sw_session.specs.Sheets.{sheet_at};
 ghost use Rattle.sw_session.specs.Served.{surroundings, Served, ServedWith};
 
 use crate::session::Session;

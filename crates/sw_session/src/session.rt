@@ -4,7 +4,7 @@ ghost use Rattle.std.specs.FinMap as files;
 ghost use Rattle.sw_protocol.specs.Turns.{place, standing, Answers, TurnEnds, Cause};
 ghost use Rattle.sw_session.specs.Script.{grammar};
 ghost use Rattle.sw_modules.specs.Fresh.{setting_of};
-ghost use Rattle.sw_file_parse.specs.Files.{sheet_at};
+ghost use Rattle.sw_session.specs.Sheets.{sheet_at};
 ghost use Rattle.sw_session.specs.Transcript.{holding, session as protocol};
 
 use crate::reading::SheetReader;
@@ -40,7 +40,7 @@ impl<E: Engine, H: Hosts> Protocol<E, H> for Session<E> {
     ghost use Rattle.sw_session.specs.Script.{Event};
     ghost use Rattle.sw_session.specs.Transcript.{Mark, Held, holding, session};
     ghost use Rattle.sw_modules.specs.Fresh.{setting_of};
-    ghost use Rattle.sw_file_parse.specs.Files.{sheet_at};
+    ghost use Rattle.sw_session.specs.Sheets.{sheet_at};
 
     ghost Event = { Event };
 

@@ -2,11 +2,9 @@
 //! Lines flow in, each becomes a call whose tree is written in a short form, and a line for each file flows out.
 #![tactic(auto)]
 
-mod css;
 mod expr;
 mod files;
 mod head;
-mod lines;
 mod load;
 mod prefixes;
 mod sheets;
@@ -34,8 +32,6 @@ impl Libraries for Sheets {
         text: &str,
     ) -> Result<String, Refusal> {
         match library {
-            "css" => css::answer(alloc, name, unescaped(alloc, text)?.as_str()),
-            "lines" => lines::answer(alloc, name, unescaped(alloc, text)?.as_str()),
             "prefixes" => prefixes::answer(alloc, self, name, text),
             "sheets" => sheets::answer(alloc, name, unescaped(alloc, text)?.as_str()),
             "spans" => spans::answer(alloc, name, unescaped(alloc, text)?.as_str()),

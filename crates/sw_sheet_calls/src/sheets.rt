@@ -36,19 +36,14 @@ pub fn tree_of(alloc: Global, text: &str) -> Result<Shared<Sheet>, Refusal> {
     }
 }
 
-/// How reading ended, as rows tell it.
+/// A fault as rows tell it: `Syntax 1:2 1:3`.
 pub fn refused(alloc: Global, end: &ReadEnd) -> Refusal {
     match end {
         ReadEnd::Memory => Refusal::Memory,
-        ReadEnd::Fault(fault) => faulted(alloc, fault),
-    }
-}
-
-/// A fault as rows tell it: `Syntax 1:2 1:3`.
-pub fn faulted(alloc: Global, fault: &Fault) -> Refusal {
-    match told(alloc, fault) {
-        Ok(text) => Refusal::Fault(text),
-        Err(_) => Refusal::Memory,
+        ReadEnd::Fault(fault) => match told(alloc, fault) {
+            Ok(text) => Refusal::Fault(text),
+            Err(_) => Refusal::Memory,
+        },
     }
 }
 

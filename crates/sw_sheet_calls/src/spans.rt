@@ -11,11 +11,10 @@ pub fn answer(alloc: Global, name: &str, text: &str) -> Result<String, Refusal> 
     if name != "spans" {
         return Err(Refusal::NoCall);
     }
-    spans_of(alloc, tree_of(alloc, text)?.get())
+    written(alloc, tree_of(alloc, text)?.get())
 }
 
-/// The spans of a sheet's statements.
-pub fn spans_of(alloc: Global, sheet: &Sheet) -> Result<String, Refusal> {
+fn written(alloc: Global, sheet: &Sheet) -> Result<String, Refusal> {
     let mut writer = Writer::new(alloc, true);
     add_spans(&mut writer, sheet.statements.as_slice())?;
     writer.written()

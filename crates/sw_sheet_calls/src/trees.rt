@@ -15,8 +15,7 @@ pub fn answer(alloc: Global, name: &str, text: &str) -> Result<String, Refusal> 
     }
 }
 
-/// The tree in prefix form, with or without the spans of its parts.
-pub fn written(alloc: Global, sheet: &Sheet, marks: bool) -> Result<String, Refusal> {
+fn written(alloc: Global, sheet: &Sheet, marks: bool) -> Result<String, Refusal> {
     let mut writer = Writer::new(alloc, marks);
     add_statements(&mut writer, sheet.statements.as_slice())?;
     writer.written()

@@ -1,2 +1,11 @@
 pub mod Answered
 pub mod Plain
+pub mod Outer
+pub mod Answering
+pub mod Parents
+pub mod Tests
+pub mod Unrolled
+pub mod Callers
+pub mod Arguments
+pub mod Written
+pub mod Filled

@@ -11,7 +11,7 @@ ghost use Rattle.sw_statement_parts.specs.Rows.{comment_row};
 
 use std::alloc::Global;
 use sw_expr_inner::{Pieces, pieces_at};
-use sw_expr_nodes::{Inserted, comment_text_of, skipped};
+use sw_expr_nodes::{Inserted, skipped, text_of};
 use sw_grammar::ReadError;
 use sw_syntax::{Source, found, is_at};
 use sw_syntax_tree::{Expr, Statement};
@@ -51,7 +51,7 @@ fn comment_of(
 ) -> Result<Statement, Memory>
     ensures { IfOk result (λ statement. to_comment source.now at place (map insert_of list) ≡ States statement ∷ []) }
 {
-    Ok(Statement::Comment(comment_text_of(alloc, source, at, place, list)?))
+    Ok(Statement::Comment(text_of(alloc, source, at, place, list)?))
 }
 
 /// A comment from `/*` to `*/` that is a statement, with the `#{}` in it.

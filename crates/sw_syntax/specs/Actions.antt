@@ -28,8 +28,7 @@ use Rattle.sw_terminals.specs.Numbers.{just}
 use Rattle.sw_terminals.specs.Urls.{namespace_of}
 use Rattle.sw_syntax.specs.declared.source.Source.{Source}
 use Rattle.sw_syntax.specs.Parts.{Part, Place, Behind, Texts, Owns, Arguments, Values, Takes, Rests, Parameters, Gives, Members, Branches, Includes, Blocks, States, params_of, rest_of, givens_of, members_of, branches_of, block_of, places_of, statements_of}
-use Rattle.sw_syntax.specs.Sources.{terminal_at, decoded_at, span_between, span_at, bytes_at}
-use Rattle.sw_syntax.specs.Lined.{comment_text}
+use Rattle.sw_syntax.specs.Sources.{terminal_at, decoded_at, text_between, span_between, span_at, bytes_at}
 use Rattle.sw_syntax.specs.Values.{namespaced, qualified_of}
 
 -- a part and the place behind it
@@ -169,7 +168,7 @@ module _ (source : Source) where
   to_charset at behind parts = States (statements.Charset (span_between source at behind)) ∷ []
 
   abbrev pub to_comment : ℕ → ℕ → List Part → List Part
-  to_comment at behind inserts = States (statements.Comment (comment_text source at behind inserts)) ∷ []
+  to_comment at behind inserts = States (statements.Comment (text_between source at behind inserts)) ∷ []
 
   -- loads
   abbrev pub url_at : ℕ → LoadedUrl

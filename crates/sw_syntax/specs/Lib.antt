@@ -1,6 +1,5 @@
 pub mod Parts
 pub mod Sources
-pub mod Lined
 pub mod Numerals
 pub mod Sets
 pub mod Operators

@@ -7,7 +7,7 @@ mod place;
 mod questions;
 mod stop;
 
+pub use questions::{ask, known, lost, push_pair};
 pub use asked::Asked;
 pub use place::Place;
-pub use questions::{ask, known, lost, push_pair};
 pub use stop::{Stop, fails, stopped};

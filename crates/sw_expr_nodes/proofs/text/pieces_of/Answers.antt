@@ -1,7 +1,7 @@
 use Rattle.std.proofs.Common.{◌≡◌, List, ◌∷◌, ◌++◌, map, reverse, sym, ◌∙◌, ap, append_assoc}
 use Rattle.sw_syntax_tree.specs.declared.text.Piece.{Piece}
 use Rattle.sw_syntax.specs.declared.gap.Stretch.{Stretch}
-use Rattle.sw_syntax.specs.Sources.{said, pieces_from, text_piece}
+use Rattle.sw_syntax.specs.Sources.{said, up_to, pieces_from, text_piece}
 use Rattle.sw_expr_nodes.specs.declared.build.Inserted.{Inserted}
 use Rattle.sw_expr_nodes.specs.Views.{insert_of, inserted_piece}
 use Rattle.sw_expr_nodes.proofs.TextPieces.{reverse_more, pieces_more, tail}

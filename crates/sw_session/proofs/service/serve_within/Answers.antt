@@ -4,7 +4,7 @@ use Rattle.sw_protocol.specs.Served as protocol
 use Rattle.sw_protocol.specs.Turns.{standing}
 use Rattle.sw_protocol.proofs.Serving.{no_lines}
 use Rattle.sw_modules.specs.Fresh.{setting_of}
-use Rattle.sw_file_parse.specs.Files.{sheet_at}
+use Rattle.sw_session.specs.Sheets.{sheet_at}
 use Rattle.sw_session.specs.Transcript.{holding, session}
 use Rattle.sw_session.specs.Served.{nothing_held}
 use Rattle.sw_session.proofs.service.serve_within.Goals as goal

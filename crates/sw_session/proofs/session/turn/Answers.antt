@@ -5,7 +5,7 @@ use Rattle.sw_protocol.specs.Turns.{place, standing}
 use Rattle.sw_protocol.proofs.Fronts.{on_ok, if_err}
 use Rattle.sw_session.specs.Script.{Remove, Compile}
 use Rattle.sw_modules.specs.Fresh.{setting_of}
-use Rattle.sw_file_parse.specs.Files.{sheet_at}
+use Rattle.sw_session.specs.Sheets.{sheet_at}
 use Rattle.sw_session.specs.Transcript.{holding}
 use Rattle.sw_session.proofs.Turning.{line_answers, line_breaks, put_answers, put_ends, not_source}
 use Rattle.sw_session.proofs.session.turn.Goals as goal

@@ -3,7 +3,7 @@ use Rattle.sw_keeper.specs.Compile.{compiled, CompilesTo, BreaksOff}
 use Rattle.sw_protocol.specs.Turns.{standing}
 use Rattle.sw_protocol.proofs.Fronts.{on_ok, if_err}
 use Rattle.sw_modules.specs.Fresh.{setting_of}
-use Rattle.sw_file_parse.specs.Files.{sheet_at}
+use Rattle.sw_session.specs.Sheets.{sheet_at}
 use Rattle.sw_session.specs.Transcript.{holding}
 use Rattle.sw_session.proofs.Turning.{keeping, compile_says, compile_stops, refusal_says, refusal_says_some}
 use Rattle.sw_session.proofs.session.Session.compile.Goals as goal

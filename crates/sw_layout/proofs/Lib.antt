@@ -1,9 +1,0 @@
-pub mod Ahead
-pub mod Shutting
-pub mod Loops
-pub mod Runs
-pub mod Reaching
-pub mod Brought
-pub mod Stands
-pub mod Endings
-pub mod Progress

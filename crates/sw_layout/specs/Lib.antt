@@ -1,9 +1,0 @@
-pub mod Lines
-pub mod Sorts
-pub mod Laid
-pub mod Blocks
-pub mod Pieces
-pub mod Comments
-pub mod Steps
-pub mod Layout
-pub mod Faults
