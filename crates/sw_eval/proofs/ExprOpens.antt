@@ -1,5 +1,7 @@
 -- One level of each expression and text that holds others in a list or behind a count of owners.
 use Rattle.std.proofs.Common.{◌≡◌, List, sym, ◌∙◌, ap}
+use Rattle.sw_syntax_tree.specs.declared.expr.Argument.{Argument}
+use Rattle.sw_syntax_tree.specs.declared.expr.Callee.{Callee}
 use Rattle.sw_syntax_tree.specs.declared.expr.Expr.{Expr}
 use Rattle.sw_syntax_tree.specs.declared.expr.Link.{Link}
 use Rattle.sw_syntax_tree.specs.declared.expr.Pair.{Pair}
@@ -30,3 +32,6 @@ out_Map ps = ap out-ExprKind (sym (E.rolls-Map ps)) ∙ out-roll-ExprKind (ExprK
 
 pub out_Mixed : (ps : List Piece) → out-Parts (T.Mixed ps) ≡ Parts-F.Mixed ps
 out_Mixed ps = ap out-Parts (sym (T.rolls-Mixed ps)) ∙ out-roll-Parts (Parts-F.Mixed ps)
+
+pub out_Call : (callee : Callee) (args : List Argument) → out-ExprKind (E.Call callee args) ≡ ExprKind-F.Call callee args
+out_Call callee args = ap out-ExprKind (sym (E.rolls-Call callee args)) ∙ out-roll-ExprKind (ExprKind-F.Call callee args)

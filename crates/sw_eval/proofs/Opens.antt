@@ -1,9 +1,12 @@
 -- One level of each statement that holds others.
 use Rattle.std.proofs.Common.{◌≡◌, List, Option, sym, ◌∙◌, ap}
 use Rattle.sw_text.specs.declared.place.Span.{Span}
+use Rattle.sw_syntax_tree.specs.declared.callable.Content.{Content}
+use Rattle.sw_syntax_tree.specs.declared.callable.Mixin.{Mixin}
 use Rattle.sw_syntax_tree.specs.declared.statement.Branch.{Branch}
 use Rattle.sw_syntax_tree.specs.declared.statement.Each.{Each}
 use Rattle.sw_syntax_tree.specs.declared.statement.For.{For}
+use Rattle.sw_syntax_tree.specs.declared.statement.Properties.{Properties}
 use Rattle.sw_syntax_tree.specs.declared.statement.Rule.{Rule}
 use Rattle.sw_syntax_tree.specs.declared.statement.While.{While}
 use Rattle.sw_syntax_tree.specs.declared.statement.Statement.{Statement, out-Statement, out-roll-Statement}
@@ -24,3 +27,9 @@ out_Each x = ap out-Statement (sym (S.rolls-Each x)) ∙ out-roll-Statement (Sta
 
 pub out_For : (x : For) → out-Statement (S.For x) ≡ Statement-F.For x
 out_For x = ap out-Statement (sym (S.rolls-For x)) ∙ out-roll-Statement (Statement-F.For x)
+
+pub out_Properties : (x : Properties) → out-Statement (S.Properties x) ≡ Statement-F.Properties x
+out_Properties x = ap out-Statement (sym (S.rolls-Properties x)) ∙ out-roll-Statement (Statement-F.Properties x)
+
+pub out_Include : (mixin : Mixin) (content : Option Content) (at : Span) → out-Statement (S.Include mixin content at) ≡ Statement-F.Include mixin content at
+out_Include mixin content at = ap out-Statement (sym (S.rolls-Include mixin content at)) ∙ out-roll-Statement (Statement-F.Include mixin content at)

@@ -4,7 +4,6 @@ use Rattle.std.specs.Prelude.{IsErr, IsErrAnd}
 use Rattle.sw_syntax_tree.specs.declared.load.Use.{Use}
 use Rattle.sw_syntax_tree.specs.declared.statement.Statement.{Statement, out-Statement}
 use Rattle.sw_syntax_tree.specs.declared.statement.Statement.TheOpen.{Statement-F}
-use Rattle.sw_values.specs.declared.plain.Plain.{Plain}
 use Rattle.sw_world.specs.declared.op.Op.{Op}
 use Rattle.sw_world.specs.declared.op.Op.TheVariants.{Load}
 use Rattle.sw_world.specs.declared.op.How.TheVariants as H
@@ -18,9 +17,11 @@ use Rattle.sw_talk.specs.Talk.{Question, Loads, Talk, Gives, Fails, Asking, bind
 use Rattle.sw_talk.specs.Ran.{Stand, Ran, ran_on, within}
 use Rattle.sw_talk.specs.Did.{Did, IsReturn}
 use Rattle.sw_talk.specs.Loaded.{loaded}
-use Rattle.sw_eval.specs.Layers.{Layer, place_of}
+use Rattle.sw_state.specs.Layers.{Layer}
+use Rattle.sw_eval.specs.Layers.{place_of}
 use Rattle.sw_talk.specs.Asking.{asking, fault}
-use Rattle.sw_eval.specs.Means.{top, tops, load_of, load_by, used, configures, space_of, marked, does_to}
+use Rattle.sw_eval.specs.Means.{top, tops, load_of, load_by, used, configures, space_of, marked, other}
+use Rattle.sw_state.specs.Left.{callable_of}
 use Rattle.sw_eval.specs.Tops.{TopDid, StopsAt, WaitsAt, Walked}
 use Rattle.sw_state.specs.declared.state.State.{State}
 use Rattle.sw_talk.specs.declared.stop.Stop.{Stop}
@@ -138,14 +139,14 @@ module _ {W : Type 0} (gives : W → Op → Answer → W → Type 0) where
   top_memory n x s u a w b r same p = rw (err_of r Memory p, same) (did_memory (top n x s) u a w)
 
   -- another statement than a load
-  pub other_goes : (n : ℕ) (x : Statement) (s u v : State) (a b : Stand) (w y : W) (o : Option Plain) → load_of x ≡ None → u ≡ marked n x s → Did gives (does_to 1000 x u) a w (Ok o) v b y → Did gives (top n x s) a w (Ok tt) v b y
+  pub other_goes : (n : ℕ) (x : Statement) (s u v : State) (a b : Stand) (w y : W) → load_of x ≡ None → u ≡ marked n x s → Did gives (other x (callable_of x) u) a w (Ok tt) v b y → Did gives (top n x s) a w (Ok tt) v b y
   unfolding top
-  other_goes n x s u v a b w y o is at d = rw (is, ← at) (did_then _ d (did_value tt v b y))
+  other_goes n x s u v a b w y is at d = rw (is, ← at) d
 
-  pub other_errs : (n : ℕ) (x : Statement) (s u v : State) (a b : Stand) (w y : W) (e : Stop) (r : Result (Option Op) Stop) → load_of x ≡ None → u ≡ marked n x s → Did gives (does_to 1000 x u) a w (Err e) v b y
+  pub other_errs : (n : ℕ) (x : Statement) (s u v : State) (a b : Stand) (w y : W) (e : Stop) (r : Result (Option Op) Stop) → load_of x ≡ None → u ≡ marked n x s → Did gives (other x (callable_of x) u) a w (Err e) v b y
       → IsErr r × IsErrAnd r (λ z. z ≡ e) → TopDid gives n x s a w r v b y
   unfolding top
-  other_errs n x s u v a b w y e r is at d p = top_err n x s v a b w y r e (rw (is, ← at) (did_stop _ d)) p
+  other_errs n x s u v a b w y e r is at d p = top_err n x s v a b w y r e (rw (is, ← at) d) p
 
   -- a load that comes too late
   pub late_fails : (n : ℕ) (x : Statement) (s : State) (a : Stand) (w : W) (r : Result (Option Op) Stop) (q : Question) → load_of x ≡ Some q → s.late ≡ true

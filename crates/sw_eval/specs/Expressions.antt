@@ -1,8 +1,9 @@
 -- What an expression means (the Sass specification on expressions; places of faults and limits are this project's own).
-use Rattle.std.specs.Prelude.{ℕ, Bool, true, false, if◌then◌else◌, List, [], ◌∷◌, ◌++◌}
+use Rattle.std.specs.Prelude.{ℕ, Bool, true, false, if◌then◌else◌, List, [], ◌∷◌, ◌++◌, Option}
 use Rattle.sw_text.specs.declared.fault.FaultCode.TheVariants as C
 use Rattle.sw_text.specs.declared.place.Span.{Span}
 use Rattle.sw_syntax_tree.specs.declared.text.Parts.{Parts, out-Parts}
+use Rattle.sw_syntax_tree.specs.declared.callable.Param.{Param}
 use Rattle.sw_syntax_tree.specs.declared.expr.Expr.{Expr}
 use Rattle.sw_syntax_tree.specs.declared.expr.ExprKind.{out-ExprKind}
 use Rattle.sw_syntax_tree.specs.declared.expr.ExprKind.TheOpen.{ExprKind-F, Parts-F}
@@ -11,6 +12,7 @@ use Rattle.sw_syntax_tree.specs.declared.expr.Pair.{Pair}
 use Rattle.sw_syntax_tree.specs.declared.expr.Sign.{Sign}
 use Rattle.sw_syntax_tree.specs.declared.expr.Separator.{Separator}
 use Rattle.sw_syntax_tree.specs.declared.expr.Around.{Around}
+use Rattle.sw_syntax_tree.specs.declared.statement.Statement.{Statement}
 use Rattle.sw_values.specs.declared.plain.Plain.{Plain}
 use Rattle.sw_values.specs.declared.plain.Plain.TheVariants as N
 use Rattle.sw_css_tree.specs.Output.{is_open}
@@ -18,7 +20,7 @@ use Rattle.sw_literals.specs.declared.chain.Left.{Left}
 use Rattle.sw_literals.specs.declared.quotients.Parens.{Parens}
 use Rattle.sw_literals.specs.declared.quotients.Parens.TheVariants as P
 use Rattle.sw_literals.specs.Literals.{number_value, string_value, word_value, hash_value, constant_value, important_value}
-use Rattle.sw_literals.specs.Quotients.{deeper, of_item, plain_at}
+use Rattle.sw_literals.specs.Quotients.{deeper, of_item}
 use Rattle.sw_literals.specs.Operations.{needs_right, first_left, taken, joined_to, prefixed}
 use Rattle.sw_literals.specs.Lists.{list_value}
 use Rattle.sw_literals.specs.Maps.{map_value}
@@ -28,8 +30,10 @@ use Rattle.sw_talk.specs.Asking.{fault}
 use Rattle.sw_talk.specs.Refusals.{answer}
 use Rattle.sw_state.specs.Selecting.{parent}
 use Rattle.sw_eval.specs.Variables.{variable, qualified}
-use Rattle.sw_eval.specs.Texts.{text, mixed}
+use Rattle.sw_eval.specs.Texts.{text, mixed, plain_value}
+use Rattle.sw_eval.specs.Calls.{call_value}
 use Rattle.sw_state.specs.Eval.{Eval}
+use Rattle.sw_state.specs.declared.passing.Entry.{Entry}
 use Rattle.sw_eval.specs.declared.texts.TextKind.TheVariants as K
 
 -- `value` is the level below
@@ -77,10 +81,6 @@ module _ (value : Parens → Expr → Eval Plain) where
   items parens [] done s = Gives (done, s)
   items parens (e ∷ es) done s = bind (value parens e s) (λ v. items parens es (done ++ v.0 ∷ []) v.1)
 
-  -- a value that keeps no sides
-  unfoldable pub plain_value : Parens → Expr → Eval Plain
-  plain_value parens e s = bind (value parens e s) (λ v. answer (plain_at v.0 e.span) v.1)
-
   -- each key before its value
   abbrev pub pairs : List Pair → List (Plain × Plain) → Eval (List (Plain × Plain))
   pairs [] done s = Gives (done, s)
@@ -91,26 +91,28 @@ module _ (value : Parens → Expr → Eval Plain) where
   unfoldable pub map : List Pair → Span → Eval Plain
   map ps at s = bind (pairs ps [] s) (λ vs. answer (map_value vs.0 ps at) vs.1)
 
-  -- one level of an expression, at its place; special texts and calls have no meaning yet
-  abbrev pub value_by : Parens → Kinds → Span → Eval Plain
-  value_by parens (ExprKind-F.Number number) at s = answer (number_value number at) s
-  value_by parens (ExprKind-F.Quoted parts) at s = string parens parts true at s
-  value_by parens (ExprKind-F.Word parts) at s = word parens parts at s
-  value_by parens (ExprKind-F.Hash name) at s = answer (hash_value name at) s
-  value_by parens (ExprKind-F.Constant constant) at s = Gives (constant_value constant, s)
-  value_by parens (ExprKind-F.Url parts) at s = string parens parts false at s
-  value_by parens (ExprKind-F.Special parts) at s = Fails (fault C.BadPlace at)
-  value_by parens (ExprKind-F.Variable name) at s = variable name at s
-  value_by parens (ExprKind-F.Qualified q) at s = qualified q at s
-  value_by parens (ExprKind-F.Call callee arguments) at s = Fails (fault C.BadPlace at)
-  value_by parens ExprKind-F.Parent at s = parent at s
-  value_by parens ExprKind-F.Important at s = Gives (important_value, s)
-  value_by parens (ExprKind-F.Prefixed signs operand) at s = signed parens signs operand at s
-  value_by parens (ExprKind-F.Chain first rest) at s = chain parens first rest at s
-  value_by parens (ExprKind-F.List es separator around) at s =
-      bind (items (of_item parens separator around) es [] s) (λ vs. answer (list_value vs.0 separator around at) vs.1)
-  value_by parens (ExprKind-F.Paren e) at s = plain_value P.Inside e s
-  value_by parens (ExprKind-F.Map ps) at s = map ps at s
+module _ (value : Parens → Expr → Eval Plain) (enter : Span → Entry → List Param → List Statement → Eval (Option Plain))
+  where
+    -- one level of an expression, at its place; special texts have no meaning yet
+    abbrev pub value_by : Parens → Kinds → Span → Eval Plain
+    value_by parens (ExprKind-F.Number number) at s = answer (number_value number at) s
+    value_by parens (ExprKind-F.Quoted parts) at s = string value parens parts true at s
+    value_by parens (ExprKind-F.Word parts) at s = word value parens parts at s
+    value_by parens (ExprKind-F.Hash name) at s = answer (hash_value name at) s
+    value_by parens (ExprKind-F.Constant constant) at s = Gives (constant_value constant, s)
+    value_by parens (ExprKind-F.Url parts) at s = string value parens parts false at s
+    value_by parens (ExprKind-F.Special parts) at s = Fails (fault C.BadPlace at)
+    value_by parens (ExprKind-F.Variable name) at s = variable name at s
+    value_by parens (ExprKind-F.Qualified q) at s = qualified q at s
+    value_by parens (ExprKind-F.Call callee arguments) at s = call_value value enter parens callee arguments at s
+    value_by parens ExprKind-F.Parent at s = parent at s
+    value_by parens ExprKind-F.Important at s = Gives (important_value, s)
+    value_by parens (ExprKind-F.Prefixed signs operand) at s = signed value parens signs operand at s
+    value_by parens (ExprKind-F.Chain first rest) at s = chain value parens first rest at s
+    value_by parens (ExprKind-F.List es separator around) at s =
+        bind (items value (of_item parens separator around) es [] s) (λ vs. answer (list_value vs.0 separator around at) vs.1)
+    value_by parens (ExprKind-F.Paren e) at s = plain_value value P.Inside e s
+    value_by parens (ExprKind-F.Map ps) at s = map value ps at s
 
-  unfoldable pub value_one : Parens → Expr → Eval Plain
-  value_one parens e s = value_by parens (out-ExprKind e.kind) e.span s
+    unfoldable pub value_one : Parens → Expr → Eval Plain
+    value_one parens e s = value_by parens (out-ExprKind e.kind) e.span s

@@ -2,8 +2,14 @@ pub mod Going
 pub mod Layers
 pub mod Texts
 pub mod Variables
-pub mod Expressions
 pub mod Flow
+pub mod Callees
+pub mod Passing
+pub mod Choosing
+pub mod Functions
+pub mod Existence
+pub mod Calls
+pub mod Expressions
 pub mod Loops
 pub mod Messages
 pub mod Statements

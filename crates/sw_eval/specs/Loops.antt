@@ -20,7 +20,7 @@ use Rattle.sw_state.specs.Begin.{spent}
 use Rattle.sw_state.specs.Scope.{entered, left}
 use Rattle.sw_state.specs.Loop_variables.{null_declared, nulls_declared, apart, counted_to}
 use Rattle.sw_eval.specs.Flow.{after, block}
-use Rattle.sw_eval.specs.Expressions.{plain_value}
+use Rattle.sw_eval.specs.Texts.{plain_value}
 use Rattle.sw_state.specs.Eval.{Eval}
 
 -- ---- one level: `value` and `does` are the levels below

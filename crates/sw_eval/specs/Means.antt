@@ -2,6 +2,9 @@
 -- faults and limits are this project's own).
 use Rattle.std.specs.Prelude.{ℕ, zero, suc, Bool, true, false, ◌||◌, if◌then◌else◌, List, [], ◌∷◌, Option, Some, None}
 use Rattle.sw_text.specs.declared.fault.FaultCode.TheVariants as C
+use Rattle.sw_text.specs.declared.place.Span.{Span}
+use Rattle.sw_syntax_tree.specs.declared.callable.Callable.{Callable}
+use Rattle.sw_syntax_tree.specs.declared.callable.Param.{Param}
 use Rattle.sw_syntax_tree.specs.declared.expr.Expr.{Expr}
 use Rattle.sw_syntax_tree.specs.declared.load.Given.{Given}
 use Rattle.sw_syntax_tree.specs.declared.load.Namespace.{Namespace}
@@ -16,26 +19,34 @@ use Rattle.sw_literals.specs.declared.quotients.Parens.{Parens}
 use Rattle.sw_world.specs.declared.op.How.TheVariants as H
 use Rattle.sw_world.specs.Body.{BodyOf}
 use Rattle.sw_world.specs.Laws.{most_asked}
-use Rattle.sw_eval.specs.Layers.{Layer, place_of}
+use Rattle.sw_state.specs.Layers.{Layer}
+use Rattle.sw_eval.specs.Layers.{place_of}
 use Rattle.sw_talk.specs.Talk.{Question, Loads, Gives, Fails, bind, run}
 use Rattle.sw_talk.specs.Asking.{fault, asking}
 use Rattle.sw_state.specs.Output.{numbered}
 use Rattle.sw_eval.specs.Expressions.{value_one}
-use Rattle.sw_eval.specs.Statements.{does_one}
+use Rattle.sw_eval.specs.Calls.{run_body}
+use Rattle.sw_eval.specs.Statements.{does_placed}
 use Rattle.sw_state.specs.Begin.{begin}
-use Rattle.sw_state.specs.Left.{end_of}
+use Rattle.sw_state.specs.Callables.{with_callable}
+use Rattle.sw_state.specs.Left.{callable_of, end_of}
 use Rattle.sw_state.specs.Eval.{Eval}
+use Rattle.sw_state.specs.declared.passing.Entry.{Entry}
 use Rattle.sw_state.specs.declared.state.State.{State}
 
--- nested no deeper than the number
-unfoldable pub value_to : ℕ → Parens → Expr → Eval Plain
-value_to zero parens e s = Fails (fault C.Depth e.span)
-value_to (suc depth) parens e s = value_one (value_to depth) parens e s
+-- nested no deeper than the number: expressions, bodies of what is called, and statements
+unfoldable mutual
+  pub value_to : ℕ → Parens → Expr → Eval Plain
+  value_to zero parens e s = Fails (fault C.Depth e.span)
+  value_to (suc depth) parens e s = value_one (value_to depth) (enter_to depth) parens e s
 
--- nested no deeper than the number
-unfoldable pub does_to : ℕ → Statement → Eval (Option Plain)
-does_to zero x s = Fails (fault C.Depth (place_of x))
-does_to (suc depth) x s = does_one (value_to depth) (does_to depth) x s
+  pub enter_to : ℕ → Span → Entry → List Param → List Statement → Eval (Option Plain)
+  enter_to zero at e params xs s = Fails (fault C.Depth at)
+  enter_to (suc depth) at e params xs s = run_body (value_to depth) (does_to depth) at e params xs s
+
+  pub does_to : ℕ → Statement → Eval (Option Plain)
+  does_to zero x s = Fails (fault C.Depth (place_of x))
+  does_to (suc depth) x s = does_placed (value_to depth) (does_to depth) (enter_to depth) x s
 
 -- ---- a sheet
 
@@ -78,10 +89,15 @@ ends_loads x = ends_loads_by (out-Statement x)
 unfoldable pub marked : ℕ → Statement → State → State
 marked number x s = record s { css = numbered number s.css; late = s.late || ends_loads x }
 
+-- a function or a mixin is known from here on
+abbrev pub other : Statement → Option Callable → Eval (Unit {0})
+other x (Some c) s = Gives (tt, with_callable c s)
+other x None s = bind (does_to 1000 x s) (λ r. Gives (tt, r.1))
+
 abbrev pub top_by : ℕ → Statement → Option Question → Eval (Unit {0})
 top_by number x (Some q) s =
     if s.late then Fails (fault C.LateUse (place_of x)) else bind (asking q (place_of x) s) (λ r. Gives (tt, r.1))
-top_by number x None s = bind (does_to 1000 x (marked number x s)) (λ r. Gives (tt, r.1))
+top_by number x None s = other x (callable_of x) (marked number x s)
 
 -- a statement of the top level, with its number: a load, or another one
 unfoldable pub top : ℕ → Statement → Eval (Unit {0})

@@ -1,10 +1,15 @@
 -- What a statement does (the Sass specification on statements; places of faults and limits are this project's own). It
 -- gives the value that ends the body around it, where there is one.
-use Rattle.std.specs.Prelude.{if◌then◌else◌, Option, None}
+use Rattle.std.specs.Prelude.{ℕ, if◌then◌else◌, List, [], Option, Some, None}
+use Rattle.std.specs.Option.{is_some}
 use Rattle.sw_text.specs.declared.fault.FaultCode.TheVariants as C
 use Rattle.sw_text.specs.declared.place.Span.{Span}
+use Rattle.sw_syntax_tree.specs.declared.callable.Param.{Param}
 use Rattle.sw_syntax_tree.specs.declared.statement.Assignment.{Assignment}
+use Rattle.sw_syntax_tree.specs.declared.statement.Custom.{Custom}
 use Rattle.sw_syntax_tree.specs.declared.statement.Declaration.{Declaration}
+use Rattle.sw_syntax_tree.specs.declared.statement.Properties.{Properties}
+use Rattle.sw_syntax_tree.specs.declared.statement.Return.{Return}
 use Rattle.sw_syntax_tree.specs.declared.statement.Rule.{Rule}
 use Rattle.sw_syntax_tree.specs.declared.statement.Variable.{Variable}
 use Rattle.sw_syntax_tree.specs.declared.statement.Statement.{Statement, out-Statement}
@@ -15,19 +20,23 @@ use Rattle.sw_values.specs.declared.plain.Plain.{Plain}
 use Rattle.sw_scope.specs.declared.mark.FrameKind.TheVariants as F
 use Rattle.sw_literals.specs.declared.quotients.Parens.{Parens}
 use Rattle.sw_literals.specs.declared.quotients.Parens.TheVariants as P
-use Rattle.sw_css_tree.specs.Output.{is_open, closed}
-use Rattle.sw_eval.specs.Layers.{Layer}
+use Rattle.sw_css_tree.specs.Output.{is_open}
+use Rattle.sw_state.specs.Layers.{Layer}
+use Rattle.sw_eval.specs.Layers.{place_of}
 use Rattle.sw_talk.specs.Talk.{Gives, Fails, bind}
 use Rattle.sw_talk.specs.Asking.{fault}
+use Rattle.sw_eval.specs.Calls.{include, content}
 use Rattle.sw_eval.specs.Flow.{done, framed, branches, repeat_in}
 use Rattle.sw_eval.specs.Loops.{each_in, count_in}
 use Rattle.sw_eval.specs.Messages.{saying}
 use Rattle.sw_eval.specs.Variables.{targeted, getting, putting, kept, stored}
 use Rattle.sw_state.specs.Owners.{is_null}
-use Rattle.sw_eval.specs.Texts.{text}
-use Rattle.sw_eval.specs.Expressions.{plain_value}
-use Rattle.sw_state.specs.Output.{opening, written, commented}
+use Rattle.sw_eval.specs.Texts.{text, plain_value}
+use Rattle.sw_state.specs.Output.{declaring, written, commented}
+use Rattle.sw_state.specs.Rules.{full_name, rule_entered, rule_left, prefixed, unnested}
+use Rattle.sw_state.specs.Misplaced.{misplaced, is_function}
 use Rattle.sw_state.specs.Eval.{Eval}
+use Rattle.sw_state.specs.declared.passing.Entry.{Entry}
 use Rattle.sw_eval.specs.declared.texts.TextKind.TheVariants as K
 
 -- ---- one level: `value` and `does` are the levels below
@@ -59,32 +68,78 @@ module _ (value : Parens → Expr → Eval Plain) where
   unfoldable pub assigned : Assignment → Eval (Option Plain)
   assigned x s = if x.flags.default then assigned_default x s else assigned_always x s
 
+  -- the whole name of a property
+  unfoldable pub property : Text → Eval (List ℕ)
+  property x s = bind (text value K.Sheet P.Outside x.parts x.span s) (λ p. full_name p.0 x.span p.1)
+
+  -- a value that is written as this property; the statement stands here
+  unfoldable pub valued : List ℕ → Expr → Span → Eval (Unit {0})
+  valued name e at s = bind (value P.Outside e s) (λ v. written name v.0 e.span at v.1)
+
   -- a declaration stands in a rule
   unfoldable pub declaration : Declaration → Eval (Option Plain)
   declaration x s =
-      if is_open s.css then bind (text value K.Sheet P.Outside x.property.parts x.property.span s)
-      (λ p. bind (value P.Outside x.value p.1) (λ r. bind (written p.0 r.0 x.value.span x.span r.1) done))
+      if is_open s.css then bind (property x.property s) (λ p. bind (valued p.0 x.value x.span p.1) done)
       else Fails (fault C.BadPlace x.span)
 
-  -- a comment is written with the values in it
+  abbrev pub raw_text : Option Text → Eval (List ℕ)
+  raw_text None s = Gives ([], s)
+  raw_text (Some x) s = text value K.Sheet P.Outside x.parts x.span s
+
+  -- a custom property is its text
+  unfoldable pub custom : Custom → Eval (Option Plain)
+  custom x s =
+      if is_open s.css
+      then bind (property x.property s)
+      (λ p. bind (raw_text x.value p.1) (λ t. bind (declaring p.0 t.0 x.span t.1) done))
+      else Fails (fault C.BadPlace x.span)
+
+  -- the value of nested properties, where there is one
+  abbrev pub maybe_valued : List ℕ → Option Expr → Span → Eval (Unit {0})
+  maybe_valued name None at s = Gives (tt, s)
+  maybe_valued name (Some e) at s = valued name e at s
+
+  -- a comment is written with the values in it, but for one of a function
   unfoldable pub comment : Text → Eval (Option Plain)
-  comment x s = bind (text value K.Sheet P.Outside x.parts x.span s) (λ t. bind (commented t.0 x.span t.1) done)
+  comment x s =
+      if is_function s.here.inside then Gives (None, s)
+      else bind (text value K.Sheet P.Outside x.parts x.span s) (λ t. bind (commented t.0 x.span t.1) done)
+
+  -- what a function gives
+  unfoldable pub returning : Return → Eval (Option Plain)
+  returning x s = bind (plain_value value P.Outside x.value s) (λ v. Gives (Some v.0, v.1))
 
 module _ (value : Parens → Expr → Eval Plain) (does : Statement → Eval (Option Plain)) where
-  -- rules don't nest yet
+  -- a rule doesn't stand among nested properties
   unfoldable pub rule : Rule → Eval (Option Plain)
   rule x s =
-      if is_open s.css then Fails (fault C.BadPlace x.span)
+      if is_some s.nesting.prefix then Fails (fault C.BadPlace x.span)
       else bind (text value K.Sheet P.Outside x.selector.parts x.selector.span s)
-      (λ t. bind (opening t.0 x.selector.span x.span t.1)
-      (λ q. bind (framed does F.Block x.block q.1) (λ r. Gives (r.0, record r.1 { css = closed r.1.css }))))
+      (λ t. bind (rule_entered t.0 x.selector.span x.span t.1)
+      (λ q. bind (framed does F.Block x.block q.1) (λ r. Gives (r.0, rule_left r.1))))
 
-  -- one level of a statement; a load stands at the top level, and those behind it have no meaning yet
+  -- nested properties: the value, and then those in the block
+  unfoldable pub properties : Properties → Eval (Option Plain)
+  properties x s =
+      if is_open s.css
+      then bind (property value x.property s)
+      (λ p. bind (maybe_valued value p.0 x.value x.span p.1)
+      (λ u. bind (framed does F.Block x.block (prefixed p.0 u.1)) (λ r. Gives (r.0, unnested r.1))))
+      else Fails (fault C.BadPlace x.span)
+
+module _ (value : Parens → Expr → Eval Plain) (does : Statement → Eval (Option Plain))
+    (enter : Span → Entry → List Param → List Statement → Eval (Option Plain)) where
+  -- one level of a statement; a load and what declares stand at the top level, and those behind them have no meaning yet
   abbrev pub does_by : Layer → Eval (Option Plain)
   does_by (Statement-F.Variable x) s = variable_set value x s
   does_by (Statement-F.Assignment x) s = assigned value x s
   does_by (Statement-F.Declaration x) s = declaration value x s
-  does_by (Statement-F.Rule x) s = rule x s
+  does_by (Statement-F.Properties x) s = properties value does x s
+  does_by (Statement-F.Custom x) s = custom value x s
+  does_by (Statement-F.Rule x) s = rule value does x s
+  does_by (Statement-F.Include mixin block at) s = include value enter mixin block at s
+  does_by (Statement-F.Content x) s = content value enter x s
+  does_by (Statement-F.Return x) s = returning value x s
   does_by (Statement-F.If bs otherwise at) s = branches value does otherwise bs s
   does_by (Statement-F.Each x) s = each_in value does x s
   does_by (Statement-F.For x) s = count_in value does x s
@@ -93,13 +148,8 @@ module _ (value : Parens → Expr → Eval Plain) (does : Statement → Eval (Op
   does_by (Statement-F.Charset at) s = Gives (None, s)
   does_by (Statement-F.Comment text) s = comment value text s
   does_by (Statement-F.Use x) s = Fails (fault C.BadPlace x.span)
-  does_by (Statement-F.Properties x) s = Fails (fault C.BadPlace x.span)
-  does_by (Statement-F.Custom x) s = Fails (fault C.BadPlace x.span)
   does_by (Statement-F.Forward x) s = Fails (fault C.BadPlace x.span)
   does_by (Statement-F.Callable x) s = Fails (fault C.BadPlace x.span)
-  does_by (Statement-F.Include mixin content at) s = Fails (fault C.BadPlace at)
-  does_by (Statement-F.Content x) s = Fails (fault C.BadPlace x.span)
-  does_by (Statement-F.Return x) s = Fails (fault C.BadPlace x.span)
   does_by (Statement-F.Media x) s = Fails (fault C.BadPlace x.span)
   does_by (Statement-F.Supports x) s = Fails (fault C.BadPlace x.span)
   does_by (Statement-F.AtRoot x) s = Fails (fault C.BadPlace x.span)
@@ -109,3 +159,7 @@ module _ (value : Parens → Expr → Eval Plain) (does : Statement → Eval (Op
 
   unfoldable pub does_one : Statement → Eval (Option Plain)
   does_one x s = does_by (out-Statement x) s
+
+  -- a statement that may stand in the running code's text
+  unfoldable pub does_placed : Statement → Eval (Option Plain)
+  does_placed x s = if misplaced s.here.inside x then Fails (fault C.BadPlace (place_of x)) else does_one x s

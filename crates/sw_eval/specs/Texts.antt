@@ -8,7 +8,7 @@ use Rattle.sw_syntax_tree.specs.declared.text.Piece.{Piece, out-Piece}
 use Rattle.sw_values.specs.declared.plain.Plain.{Plain}
 use Rattle.sw_literals.specs.declared.quotients.Parens.{Parens}
 use Rattle.sw_literals.specs.Answers.{Answer}
-use Rattle.sw_literals.specs.Quotients.{deeper}
+use Rattle.sw_literals.specs.Quotients.{deeper, plain_at}
 use Rattle.sw_literals.specs.Texts.{inserted, css_text, joined}
 use Rattle.sw_eval.specs.Layers.{Texts, Pieces}
 use Rattle.sw_talk.specs.Talk.{Gives, bind}
@@ -52,3 +52,7 @@ module _ (value : Parens → Expr → Eval Plain) where
 
   unfoldable pub text : TextKind → Parens → Parts → Span → Eval (List ℕ)
   text kind parens parts at s = text_by kind parens (out-Parts parts) at s
+
+  -- a value that keeps no sides
+  unfoldable pub plain_value : Parens → Expr → Eval Plain
+  plain_value parens e s = bind (value parens e s) (λ v. answer (plain_at v.0 e.span) v.1)

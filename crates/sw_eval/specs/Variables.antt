@@ -17,10 +17,12 @@ use Rattle.sw_world.specs.declared.answer.Answer.{Answer}
 use Rattle.sw_world.specs.declared.answer.Answer.TheVariants.{Owner, BuiltIn, NoNamespace, NoMember, LeftOut, Conflict, Value}
 use Rattle.sw_talk.specs.Talk.{Gets, Puts, Gives, Fails, bind}
 use Rattle.sw_talk.specs.Asking.{fault, asking}
+use Rattle.sw_talk.specs.Refusals.{answer}
 use Rattle.sw_eval.specs.Going.{finding}
 use Rattle.sw_state.specs.Scope.{own, is_home, is_mine, set_by, set_own}
 use Rattle.sw_state.specs.Left.{or_null}
-use Rattle.sw_state.specs.Owners.{owner, target, got, is_null, sought_owner}
+use Rattle.sw_state.specs.BuiltIns.{built_in_variable}
+use Rattle.sw_state.specs.Owners.{owner, target, got, is_null, is_absent}
 use Rattle.sw_state.specs.Eval.{Eval}
 use Rattle.sw_syntax_tree.specs.declared.statement.Flags.{Flags}
 
@@ -39,10 +41,15 @@ unfoldable pub owner_of : FaultCode → Option (List ℕ) → List ℕ → Span 
 owner_of unknown space name at space_at s =
     bind (finding space K.Variable name at s) (λ a. owner unknown at space_at a.0.0 a.0.1 a.1)
 
+-- what the variable holds that was answered: that of a built-in module is known
+abbrev pub held_by : FaultCode → Span → Span → ℕ → Answer → Eval Plain
+held_by unknown at space_at n (BuiltIn home name) s = answer (built_in_variable unknown home name at) s
+held_by unknown at space_at n a s = bind (owner unknown at space_at n a s) (λ o. getting o.0 at o.1)
+
 -- what another module's variable holds: its owner is found, and then its value got
 unfoldable pub outside : FaultCode → Option (List ℕ) → List ℕ → Span → Span → Eval Plain
 outside unknown space name at space_at s =
-    bind (owner_of unknown space name at space_at s) (λ o. getting o.0 at o.1)
+    bind (finding space K.Variable name at s) (λ a. held_by unknown at space_at a.0.0 a.0.1 a.1)
 
 abbrev pub or_outside : List ℕ → Span → Option Plain → Eval Plain
 or_outside name at (Some v) s = Gives (v, s)
@@ -67,15 +74,13 @@ targeted q name_at at s =
 
 -- ---- what a variable has before its default
 
-abbrev pub got_or_null : Span → Option ℕ → Eval Plain
-got_or_null at (Some o) s = getting o at s
-got_or_null at None s = Gives (N.Null, s)
+-- what the variable has that was answered: null where there is none
+abbrev pub sought_by : Span → ℕ → Answer → Eval Plain
+sought_by at n a s = if is_absent a then Gives (N.Null, s) else held_by C.UnknownVariable at at n a s
 
--- what the variable has that a name means, which is asked: null where there is none
+-- what the variable has that a name means, which is asked
 unfoldable pub sought : List ℕ → Span → Eval Plain
-sought name at s =
-    bind (finding None K.Variable name at s)
-    (λ a. bind (sought_owner at a.0.0 a.0.1 a.1) (λ o. got_or_null at o.0 o.1))
+sought name at s = bind (finding None K.Variable name at s) (λ a. sought_by at a.0.0 a.0.1 a.1)
 
 abbrev pub or_sought : List ℕ → Span → Option Plain → Eval Plain
 or_sought name at (Some v) s = Gives (v, s)

@@ -1,13 +1,13 @@
 // Questions of the walk.
 ghost use Rattle.std.specs.Prelude.{◌<◌, IfOk};
-ghost use Rattle.sw_talk.specs.Talk.{Gets, Puts, Says};
+ghost use Rattle.sw_talk.specs.Talk.{Gets, Puts, Says, Calls};
 ghost use Rattle.sw_talk.specs.Asking.{asking};
 ghost use Rattle.sw_eval.specs.Going.{Goes_on, finding};
 
 use crate::walk::Walk;
 use sw_syntax_tree::Kind;
 use sw_talk::{Stop, ask, lost};
-use sw_text::{Name, Span};
+use sw_text::{List, Name, Shared, Span};
 use sw_values::Value;
 use sw_world::{Answer, Op, SayKind, World};
 
@@ -90,6 +90,20 @@ impl Walk {
     {
         let span = at.share()?;
         let op = Op::Say { kind, span, text };
+        ask(self.alloc, &mut self.asked, op, at, world)
+    }
+
+    // Calls a function of the host.
+    pub(crate) fn ask_call<W: World>(
+        &mut self,
+        name: Name,
+        args: Shared<List<Value>>,
+        at: &Span,
+        world: &mut W,
+    ) -> Result<(usize, Answer), Stop>
+        ensures { Goes_on W.gives (asking (Calls name args) at.now) self.old world.old result self.new world.new }
+    {
+        let op = Op::Call { name, args };
         ask(self.alloc, &mut self.asked, op, at, world)
     }
 }

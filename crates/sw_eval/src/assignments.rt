@@ -3,6 +3,7 @@ ghost use Rattle.sw_eval.specs.Going.{Goes_on};
 ghost use Rattle.sw_eval.specs.Statements.{variable_set, assigned, assigned_always, assigned_default};
 ghost use Rattle.sw_eval.specs.Means.{value_to};
 
+use crate::level::Level;
 use crate::walk::Walk;
 use sw_state::is_null;
 use sw_syntax_tree::{Assignment, Variable};
@@ -12,6 +13,7 @@ use sw_world::World;
 
 impl Walk {
     // An assignment to a variable without a namespace.
+    #[cycle(walk)]
     pub(crate) fn variable_set<W: World>(
         &mut self,
         inner: u32,
@@ -25,7 +27,7 @@ impl Walk {
         if kept {
             return Ok(None);
         }
-        let value = self.statement_plain(inner, &statement.value, world)?;
+        let value = self.plain_value(Level::outside(inner), &statement.value, world)?;
         self.stored(
             statement.flags.global,
             &statement.name,
@@ -37,6 +39,7 @@ impl Walk {
     }
 
     // An assignment to a variable behind a namespace.
+    #[cycle(walk)]
     pub(crate) fn assigned<W: World>(
         &mut self,
         inner: u32,
@@ -53,6 +56,7 @@ impl Walk {
         }
     }
 
+    #[cycle(walk)]
     fn assigned_always<W: World>(
         &mut self,
         inner: u32,
@@ -62,7 +66,7 @@ impl Walk {
         ensures { Goes_on W.gives (assigned_always (value_to inner) statement.now) self.old world.old result
             self.new world.new }
     {
-        let value = self.statement_plain(inner, &statement.value, world)?;
+        let value = self.plain_value(Level::outside(inner), &statement.value, world)?;
         let owner = self.targeted(
             &statement.target,
             &statement.target_span,
@@ -74,6 +78,7 @@ impl Walk {
     }
 
     // An assignment with `!default` to a variable behind a namespace.
+    #[cycle(walk)]
     fn assigned_default<W: World>(
         &mut self,
         inner: u32,
@@ -93,7 +98,7 @@ impl Walk {
         if !is_null(&old) {
             return Ok(None);
         }
-        let value = self.statement_plain(inner, &statement.value, world)?;
+        let value = self.plain_value(Level::outside(inner), &statement.value, world)?;
         self.putting(owner, value, &statement.span, world)?;
         Ok(None)
     }

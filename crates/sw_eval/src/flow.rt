@@ -3,6 +3,7 @@ ghost use Rattle.sw_eval.specs.Going.{Goes_on};
 ghost use Rattle.sw_eval.specs.Flow.{block, framed, holds, branches, repeats, repeat_in};
 ghost use Rattle.sw_eval.specs.Means.{value_to, does_to};
 
+use crate::level::Level;
 use crate::walk::Walk;
 use sw_scope::FrameKind;
 use sw_state::fails;
@@ -48,10 +49,11 @@ impl Walk {
     }
 
     // Whether a condition holds: only false and null don't.
+    #[cycle(walk)]
     fn holds<W: World>(&mut self, inner: u32, e: &Expr, world: &mut W) -> Result<bool, Stop>
         ensures { Goes_on W.gives (holds (value_to inner) e.now) self.old world.old result self.new world.new }
     {
-        let test = self.statement_value(inner, e, world)?;
+        let test = self.value(Level::outside(inner), e, world)?;
         Ok(test.truth())
     }
 

@@ -1,5 +1,6 @@
 // Where an expression stands.
 ghost use Rattle.std.specs.Prelude.{◌≡◌};
+ghost use Rattle.sw_literals.specs.declared.quotients.Parens.TheVariants as P;
 ghost use Rattle.sw_literals.specs.Quotients.{deeper, of_item};
 
 use sw_literals::{Parens, deeper, of_item};
@@ -13,6 +14,16 @@ pub(crate) struct Level {
 }
 
 impl Level {
+    // For the expressions of a statement.
+    pub(crate) fn outside(depth: u32) -> Level
+        ensures { result ≡ record { depth = depth; parens = P.Outside } }
+    {
+        Level {
+            depth,
+            parens: Parens::Outside,
+        }
+    }
+
     // For the items of a list.
     pub(crate) fn item(self, separator: Separator, around: Around) -> Level
         ensures { result ≡ record { depth = self.depth; parens = of_item self.parens separator around } }

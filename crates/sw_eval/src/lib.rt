@@ -4,14 +4,20 @@
 
 mod ask;
 mod assignments;
+mod callees;
+mod calls;
+mod choosing;
 mod engine;
+mod existence;
 mod flow;
+mod functions;
 mod laws;
 mod level;
 mod look;
 mod loops;
 mod messages;
 mod places;
+mod styles;
 mod texts;
 mod top;
 mod turn;

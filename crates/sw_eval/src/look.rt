@@ -1,14 +1,14 @@
 // Variables, also those of other modules.
 ghost use Rattle.sw_eval.specs.Going.{Goes_on};
-ghost use Rattle.sw_eval.specs.Variables.{owner_of, outside, variable, qualified, targeted, getting, putting, got_or_null, sought, before_by, before_default, has_value, kept, put_global, set_global, stored};
+ghost use Rattle.sw_eval.specs.Variables.{owner_of, outside, variable, qualified, targeted, getting, putting, held_by, sought_by, sought, before_by, before_default, has_value, kept, put_global, set_global, stored};
 
 use crate::walk::Walk;
-use sw_state::{fails, got, is_null, or_null, owner, sought_owner, target};
+use sw_state::{built_in_variable, fails, got, is_absent, is_null, or_null, owner, target};
 use sw_syntax_tree::{Flags, Kind, Qualified};
-use sw_talk::Stop;
+use sw_talk::{Stop, stopped};
 use sw_text::{FaultCode, Name, Span};
 use sw_values::Value;
-use sw_world::World;
+use sw_world::{Answer, World};
 
 impl Walk {
     // What the variable of an owner holds.
@@ -55,6 +55,30 @@ impl Walk {
         owner(unknown, at, space_at, a.0, &a.1)
     }
 
+    // What the variable holds that was answered: that of a built-in module is known.
+    fn held_by<W: World>(
+        &mut self,
+        unknown: FaultCode,
+        at: &Span,
+        space_at: &Span,
+        number: usize,
+        answer: &Answer,
+        world: &mut W,
+    ) -> Result<Value, Stop>
+        ensures { Goes_on W.gives (held_by unknown at.now space_at.now number answer.now) self.old world.old result
+            self.new world.new }
+    {
+        match answer {
+            Answer::BuiltIn { module, name } => {
+                stopped(built_in_variable(self.alloc, unknown, module, name, at))
+            }
+            _ => {
+                let number = owner(unknown, at, space_at, number, answer)?;
+                self.getting(number, at, world)
+            }
+        }
+    }
+
     // What another module's variable holds.
     fn outside<W: World>(
         &mut self,
@@ -68,8 +92,8 @@ impl Walk {
         ensures { Goes_on W.gives (outside unknown space name.now at.now space_at.now) self.old world.old result
             self.new world.new }
     {
-        let number = self.owner_of(unknown, space, name, at, space_at, world)?;
-        self.getting(number, at, world)
+        let a = self.find(space, Kind::Variable, name, at, world)?;
+        self.held_by(unknown, at, space_at, a.0, &a.1, world)
     }
 
     // A variable without a namespace.
@@ -128,19 +152,20 @@ impl Walk {
         target(at, name_at, &q.namespace.span, a.0, &a.1)
     }
 
-    // What the variable of an owner holds; null where there is none.
-    fn got_or_null<W: World>(
+    // What the variable has that was answered: null where there is none.
+    fn sought_by<W: World>(
         &mut self,
-        number: Option<usize>,
         at: &Span,
+        number: usize,
+        answer: &Answer,
         world: &mut W,
     ) -> Result<Value, Stop>
-        ensures { Goes_on W.gives (got_or_null at.now number) self.old world.old result self.new world.new }
+        ensures { Goes_on W.gives (sought_by at.now number answer.now) self.old world.old result self.new world.new }
     {
-        match number {
-            Some(number) => self.getting(number, at, world),
-            None => Ok(Value::null()),
+        if is_absent(answer) {
+            return Ok(Value::null());
         }
+        self.held_by(FaultCode::UnknownVariable, at, at, number, answer, world)
     }
 
     // What the variable has that a name means, which is asked.
@@ -148,8 +173,7 @@ impl Walk {
         ensures { Goes_on W.gives (sought name.now at.now) self.old world.old result self.new world.new }
     {
         let a = self.find(None, Kind::Variable, name, at, world)?;
-        let number = sought_owner(at, a.0, &a.1)?;
-        self.got_or_null(number, at, world)
+        self.sought_by(at, a.0, &a.1, world)
     }
 
     // What a name has before its default, where not the module's own variables alone count.

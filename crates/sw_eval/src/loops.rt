@@ -3,6 +3,7 @@ ghost use Rattle.sw_eval.specs.Going.{Goes_on};
 ghost use Rattle.sw_eval.specs.Loops.{each, each_over, elements, each_in, bounds, counts, count_over, count_in};
 ghost use Rattle.sw_eval.specs.Means.{value_to, does_to};
 
+use crate::level::Level;
 use crate::walk::Walk;
 use sw_literals::Counting;
 use sw_scope::FrameKind;
@@ -61,6 +62,7 @@ impl Walk {
     }
 
     // The elements of a list.
+    #[cycle(walk)]
     fn elements<W: World>(
         &mut self,
         inner: u32,
@@ -70,7 +72,7 @@ impl Walk {
         ensures { Goes_on W.gives (elements (value_to inner) statement.now) self.old world.old result self.new
             world.new }
     {
-        let list = self.statement_value(inner, &statement.value, world)?;
+        let list = self.value(Level::outside(inner), &statement.value, world)?;
         Ok(list.items(self.alloc)?)
     }
 
@@ -137,6 +139,7 @@ impl Walk {
     }
 
     // The numbers that are counted.
+    #[cycle(walk)]
     fn bounds<W: World>(
         &mut self,
         inner: u32,
@@ -146,8 +149,8 @@ impl Walk {
         ensures { Goes_on W.gives (bounds (value_to inner) statement.now) self.old world.old result self.new world.new }
     {
         let bounds = statement.bounds.get();
-        let from = self.statement_plain(inner, &bounds.from, world)?;
-        let to = self.statement_plain(inner, &bounds.to, world)?;
+        let from = self.plain_value(Level::outside(inner), &bounds.from, world)?;
+        let to = self.plain_value(Level::outside(inner), &bounds.to, world)?;
         stopped(Counting::between(&from, &to, bounds.through, &statement.span))
     }
 

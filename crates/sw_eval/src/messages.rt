@@ -6,6 +6,7 @@ ghost use Rattle.sw_eval.specs.Messages.{kind_of, said_by, said, saying};
 ghost use Rattle.sw_eval.specs.Means.{value_to};
 ghost use Rattle.sw_state.specs.declared.state.State.{State};
 
+use crate::level;
 use crate::walk::Walk;
 use sw_literals::message;
 use sw_state::fails;
@@ -52,6 +53,7 @@ impl Walk {
     }
 
     // Says the value of an expression.
+    #[cycle(walk)]
     pub(crate) fn saying<W: World>(
         &mut self,
         inner: u32,
@@ -60,7 +62,7 @@ impl Walk {
     ) -> Result<Option<Value>, Stop>
         ensures { Goes_on W.gives (saying (value_to inner) statement.now) self.old world.old result self.new world.new }
     {
-        let value = self.statement_value(inner, &statement.value, world)?;
+        let value = self.value(level::Level::outside(inner), &statement.value, world)?;
         let text = message(self.alloc, &value, &statement.value.span)?;
         self.said(statement.level, text, &statement.span, world)
     }

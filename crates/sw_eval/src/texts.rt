@@ -35,7 +35,7 @@ fn spelled(alloc: Global, kind: TextKind, value: &Value, at: &Span) -> Result<Na
 }
 
 impl Walk {
-    #[cycle(value)]
+    #[cycle(walk)]
     fn spelled_value<W: World>(
         &mut self,
         level: Level,
@@ -50,7 +50,7 @@ impl Walk {
         stopped(spelled(self.alloc, kind, &value, &e.span))
     }
 
-    #[cycle(value)]
+    #[cycle(walk)]
     fn piece<W: World>(
         &mut self,
         level: Level,
@@ -69,7 +69,7 @@ impl Walk {
     }
 
     // The texts of pieces.
-    #[cycle(value)]
+    #[cycle(walk)]
     fn pieces<W: World>(
         &mut self,
         level: Level,
@@ -89,7 +89,7 @@ impl Walk {
     }
 
     // A text that is made of pieces.
-    #[cycle(value)]
+    #[cycle(walk)]
     pub(crate) fn mixed<W: World>(
         &mut self,
         level: Level,
@@ -106,7 +106,7 @@ impl Walk {
     }
 
     // A text, with the values in it.
-    #[cycle(value)]
+    #[cycle(walk)]
     pub(crate) fn text<W: World>(
         &mut self,
         level: Level,

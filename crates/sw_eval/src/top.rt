@@ -1,14 +1,16 @@
 // The statements of the top level.
-ghost use Rattle.std.specs.Prelude.{◌≡◌, ◌<◌, is_some, IfOk, IfSome, vec_len, vec_capacity};
+ghost use Rattle.std.specs.Prelude.{◌≡◌, ◌<◌, is_some, IfOk, IfSome, option_copied, vec_len, vec_capacity};
 ghost use Rattle.sw_talk.specs.Did.{stand};
 ghost use Rattle.sw_eval.specs.Tops.{TopDid, Walked};
 ghost use Rattle.sw_talk.specs.Loaded.{loaded};
-ghost use Rattle.sw_eval.specs.Means.{load_of, ends_loads, marked, space_of, configures, used};
+ghost use Rattle.sw_eval.specs.Going.{Goes_on};
+ghost use Rattle.sw_state.specs.Left.{callable_of};
+ghost use Rattle.sw_eval.specs.Means.{other, load_of, ends_loads, marked, space_of, configures, used};
 
 use crate::places::place_of;
 use crate::walk::Walk;
 use std::alloc::Global;
-use sw_state::{State, fails, numbered};
+use sw_state::{State, callable_of, fails, numbered};
 use sw_syntax_tree::{Namespace, Statement, Use};
 use sw_talk::{Stop, known};
 use sw_text::{FaultCode, List, Memory, Name, Shared};
@@ -100,6 +102,20 @@ fn mark(number: usize, statement: &Statement, state: &mut State)
     }
 }
 
+// A statement at the top level that loads no module: a function or a mixin is known from here on.
+fn other<W: World>(walk: &mut Walk, statement: &Statement, world: &mut W) -> Result<(), Stop>
+    ensures { Goes_on W.gives (other statement.now (callable_of statement.now)) walk.old world.old result walk.new
+        world.new }
+{
+    match callable_of(statement) {
+        Some(callable) => walk.state.declare_callable(callable),
+        None => {
+            let _value = walk.does(1000, statement, world)?;
+            Ok(())
+        }
+    }
+}
+
 // A statement at the top level. It stops at a load whose answer isn't known.
 fn top<W: World>(
     walk: &mut Walk,
@@ -113,7 +129,7 @@ fn top<W: World>(
 {
     if !is_load(statement) {
         mark(number, statement, &mut walk.state);
-        let _value = walk.does(1000, statement, world)?;
+        other(walk, statement, world)?;
         return Ok(None);
     }
     if walk.state.late {

@@ -1,8 +1,9 @@
 // Values of expressions.
 ghost use Rattle.std.specs.Prelude.{[]};
 ghost use Rattle.sw_eval.specs.Going.{Goes_on};
-ghost use Rattle.sw_eval.specs.Expressions.{string, word, signed, linked, links, chain, items, plain_value, pairs, map, value_one};
-ghost use Rattle.sw_eval.specs.Means.{value_to};
+ghost use Rattle.sw_eval.specs.Expressions.{string, word, signed, linked, links, chain, items, pairs, map, value_one};
+ghost use Rattle.sw_eval.specs.Texts.{plain_value};
+ghost use Rattle.sw_eval.specs.Means.{value_to, enter_to};
 
 use crate::level::Level;
 use crate::texts::TextKind;
@@ -20,7 +21,7 @@ use sw_world::World;
 
 impl Walk {
     // The value of an expression.
-    #[cycle(value)]
+    #[cycle(walk)]
     pub(crate) fn value<W: World>(
         &mut self,
         level: Level,
@@ -40,9 +41,9 @@ impl Walk {
         self.value_one(inner, e, world)
     }
 
-    #[cycle(value)]
+    #[cycle(walk)]
     fn value_one<W: World>(&mut self, level: Level, e: &Expr, world: &mut W) -> Result<Value, Stop>
-        ensures { Goes_on W.gives (value_one (value_to level.depth) level.parens e.now) self.old world.old result
+        ensures { Goes_on W.gives (value_one (value_to level.depth) (enter_to level.depth) level.parens e.now) self.old world.old result
             self.new world.new }
     {
         match &e.kind {
@@ -54,7 +55,7 @@ impl Walk {
             ExprKind::Url(parts) => self.string(level, parts, false, &e.span, world),
             ExprKind::Variable(name) => self.variable(name, &e.span, world),
             ExprKind::Qualified(q) => self.qualified(q.get(), &e.span, world),
-            ExprKind::Parent => self.state.parent(&e.span),
+            ExprKind::Parent => self.state.parent(self.alloc, &e.span),
             ExprKind::Important => Ok(important_value(self.alloc)?),
             ExprKind::Prefixed { signs, operand } => {
                 self.signed(level, signs.as_slice(), operand.get(), &e.span, world)
@@ -79,12 +80,15 @@ impl Walk {
                 self.plain_value(place, inner.get(), world)
             }
             ExprKind::Map(pairs) => self.map(level.depth, pairs.as_slice(), &e.span, world),
-            ExprKind::Special(_) | ExprKind::Call { .. } => fails(FaultCode::BadPlace, &e.span),
+            ExprKind::Call { callee, arguments } => {
+                self.call(level, callee.get(), arguments.as_slice(), &e.span, world)
+            }
+            ExprKind::Special(_) => fails(FaultCode::BadPlace, &e.span),
         }
     }
 
     // A quoted string or a url.
-    #[cycle(value)]
+    #[cycle(walk)]
     fn string<W: World>(
         &mut self,
         level: Level,
@@ -101,7 +105,7 @@ impl Walk {
     }
 
     // A word, which may be the name of a colour where no value stands in it.
-    #[cycle(value)]
+    #[cycle(walk)]
     fn word<W: World>(
         &mut self,
         level: Level,
@@ -122,7 +126,7 @@ impl Walk {
     }
 
     // An operand with the signs before it.
-    #[cycle(value)]
+    #[cycle(walk)]
     fn signed<W: World>(
         &mut self,
         level: Level,
@@ -139,7 +143,7 @@ impl Walk {
     }
 
     // An operator and its right operand, which `and` and `or` may leave out.
-    #[cycle(value)]
+    #[cycle(walk)]
     fn linked<W: World>(
         &mut self,
         level: Level,
@@ -159,7 +163,7 @@ impl Walk {
         stopped(left.joined(self.alloc, link.operator, &right, &link.operand, at))
     }
 
-    #[cycle(value)]
+    #[cycle(walk)]
     fn links<W: World>(
         &mut self,
         level: Level,
@@ -179,7 +183,7 @@ impl Walk {
     }
 
     // Operands from left to right.
-    #[cycle(value)]
+    #[cycle(walk)]
     fn chain<W: World>(
         &mut self,
         level: Level,
@@ -199,7 +203,7 @@ impl Walk {
     }
 
     // The values of the items of a list.
-    #[cycle(value)]
+    #[cycle(walk)]
     fn items<W: World>(
         &mut self,
         level: Level,
@@ -218,7 +222,7 @@ impl Walk {
     }
 
     // A value that keeps no sides.
-    #[cycle(value)]
+    #[cycle(walk)]
     pub(crate) fn plain_value<W: World>(
         &mut self,
         level: Level,
@@ -233,7 +237,7 @@ impl Walk {
     }
 
     // The keys and values of a map, each key before its value.
-    #[cycle(value)]
+    #[cycle(walk)]
     fn pairs<W: World>(
         &mut self,
         depth: u32,
@@ -255,7 +259,7 @@ impl Walk {
         Ok(done)
     }
 
-    #[cycle(value)]
+    #[cycle(walk)]
     fn map<W: World>(
         &mut self,
         depth: u32,

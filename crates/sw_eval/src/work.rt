@@ -3,58 +3,23 @@ ghost use Rattle.sw_literals.specs.declared.quotients.Parens.TheVariants as P;
 ghost use Rattle.sw_eval.specs.declared.texts.TextKind.TheVariants as K;
 ghost use Rattle.sw_eval.specs.Going.{Goes_on};
 ghost use Rattle.sw_eval.specs.Texts.{text};
-ghost use Rattle.sw_eval.specs.Expressions.{plain_value};
-ghost use Rattle.sw_eval.specs.Statements.{declaration, comment, rule, does_one};
-ghost use Rattle.sw_eval.specs.Means.{value_to, does_to};
+ghost use Rattle.sw_eval.specs.Statements.{comment, returning, does_one, does_placed};
+ghost use Rattle.sw_eval.specs.Means.{value_to, does_to, enter_to};
 
 use crate::level::Level;
 use crate::places::place_of;
 use crate::texts::TextKind;
 use crate::walk::Walk;
-use sw_literals::Parens;
-use sw_scope::FrameKind;
-use sw_state::{close, fails};
-use sw_syntax_tree::{Declaration, Expr, Rule, Statement, Text};
+use sw_state::{fails, is_function, misplaced};
+use sw_syntax_tree::{Return, Statement, Text};
 use sw_talk::Stop;
 use sw_text::{FaultCode, Name};
 use sw_values::Value;
 use sw_world::World;
 
 impl Walk {
-    // The value of an expression of a statement.
-    pub(crate) fn statement_value<W: World>(
-        &mut self,
-        inner: u32,
-        e: &Expr,
-        world: &mut W,
-    ) -> Result<Value, Stop>
-        ensures { Goes_on W.gives (value_to inner P.Outside e.now) self.old world.old result self.new world.new }
-    {
-        let level = Level {
-            depth: inner,
-            parens: Parens::Outside,
-        };
-        self.value(level, e, world)
-    }
-
-    // The same without sides.
-    pub(crate) fn statement_plain<W: World>(
-        &mut self,
-        inner: u32,
-        e: &Expr,
-        world: &mut W,
-    ) -> Result<Value, Stop>
-        ensures { Goes_on W.gives (plain_value (value_to inner) P.Outside e.now) self.old world.old result
-            self.new world.new }
-    {
-        let level = Level {
-            depth: inner,
-            parens: Parens::Outside,
-        };
-        self.plain_value(level, e, world)
-    }
-
     // A text of a statement, with the values in it.
+    #[cycle(walk)]
     pub(crate) fn statement_text<W: World>(
         &mut self,
         inner: u32,
@@ -64,39 +29,17 @@ impl Walk {
         ensures { Goes_on W.gives (text (value_to inner) K.Sheet P.Outside it.now.parts it.now.span) self.old world.old
             result self.new world.new }
     {
-        let level = Level {
-            depth: inner,
-            parens: Parens::Outside,
-        };
-        self.text(level, TextKind::Sheet, &it.parts, &it.span, world)
+        self.text(
+            Level::outside(inner),
+            TextKind::Sheet,
+            &it.parts,
+            &it.span,
+            world,
+        )
     }
 
-    // A declaration, which stands in a rule.
-    fn declaration<W: World>(
-        &mut self,
-        inner: u32,
-        statement: &Declaration,
-        world: &mut W,
-    ) -> Result<Option<Value>, Stop>
-        ensures { Goes_on W.gives (declaration (value_to inner) statement.now) self.old world.old result
-            self.new world.new }
-    {
-        if !self.state.css.is_open() {
-            return fails(FaultCode::BadPlace, &statement.span);
-        }
-        let property = self.statement_text(inner, &statement.property, world)?;
-        let value = self.statement_value(inner, &statement.value, world)?;
-        self.state.written(
-            self.alloc,
-            property,
-            &value,
-            &statement.value.span,
-            &statement.span,
-        )?;
-        Ok(None)
-    }
-
-    // A comment, with the values in it.
+    // A comment, with the values in it, but for one of a function.
+    #[cycle(walk)]
     fn comment<W: World>(
         &mut self,
         inner: u32,
@@ -105,9 +48,27 @@ impl Walk {
     ) -> Result<Option<Value>, Stop>
         ensures { Goes_on W.gives (comment (value_to inner) it.now) self.old world.old result self.new world.new }
     {
+        if is_function(self.state.here.inside) {
+            return Ok(None);
+        }
         let text = self.statement_text(inner, it, world)?;
         self.state.commented(text, &it.span)?;
         Ok(None)
+    }
+
+    // What a function gives.
+    #[cycle(walk)]
+    fn returning<W: World>(
+        &mut self,
+        inner: u32,
+        statement: &Return,
+        world: &mut W,
+    ) -> Result<Option<Value>, Stop>
+        ensures { Goes_on W.gives (returning (value_to inner) statement.now) self.old world.old result self.new
+            world.new }
+    {
+        let value = self.plain_value(Level::outside(inner), &statement.value, world)?;
+        Ok(Some(value))
     }
 
     // A statement, at most so deep. A value that it gives ends what is around it.
@@ -123,7 +84,24 @@ impl Walk {
         if depth == 0 {
             return fails(FaultCode::Depth, place_of(statement));
         }
-        self.does_one(depth - 1, statement, world)
+        self.does_placed(depth - 1, statement, world)
+    }
+
+    // A statement that may stand in the running code's text.
+    #[cycle(walk)]
+    fn does_placed<W: World>(
+        &mut self,
+        inner: u32,
+        statement: &Statement,
+        world: &mut W,
+    ) -> Result<Option<Value>, Stop>
+        ensures { Goes_on W.gives (does_placed (value_to inner) (does_to inner) (enter_to inner) statement.now)
+            self.old world.old result self.new world.new }
+    {
+        if misplaced(self.state.here.inside, statement) {
+            return fails(FaultCode::BadPlace, place_of(statement));
+        }
+        self.does_one(inner, statement, world)
     }
 
     #[cycle(walk)]
@@ -133,14 +111,23 @@ impl Walk {
         statement: &Statement,
         world: &mut W,
     ) -> Result<Option<Value>, Stop>
-        ensures { Goes_on W.gives (does_one (value_to inner) (does_to inner) statement.now) self.old world.old result
-            self.new world.new }
+        ensures { Goes_on W.gives (does_one (value_to inner) (does_to inner) (enter_to inner) statement.now) self.old
+            world.old result self.new world.new }
     {
         match statement {
             Statement::Variable(one) => self.variable_set(inner, one, world),
             Statement::Assignment(one) => self.assigned(inner, one, world),
             Statement::Declaration(one) => self.declaration(inner, one, world),
+            Statement::Properties(one) => self.properties(inner, one, world),
+            Statement::Custom(one) => self.custom(inner, one, world),
             Statement::Rule(one) => self.rule(inner, one, world),
+            Statement::Include {
+                mixin,
+                content,
+                span,
+            } => self.include(inner, mixin, content, span, world),
+            Statement::Content(one) => self.content(inner, one, world),
+            Statement::Return(one) => self.returning(inner, one, world),
             Statement::If {
                 branches,
                 otherwise,
@@ -153,13 +140,8 @@ impl Walk {
             Statement::Charset(_) => Ok(None),
             Statement::Comment(text) => self.comment(inner, text, world),
             Statement::Use(_)
-            | Statement::Properties(_)
-            | Statement::Custom(_)
             | Statement::Forward(_)
             | Statement::Callable(_)
-            | Statement::Include { .. }
-            | Statement::Content(_)
-            | Statement::Return(_)
             | Statement::Media(_)
             | Statement::Supports(_)
             | Statement::AtRoot(_)
@@ -167,30 +149,5 @@ impl Walk {
             | Statement::Extend(_)
             | Statement::AtRule(_) => fails(FaultCode::BadPlace, place_of(statement)),
         }
-    }
-
-    #[cycle(walk)]
-    fn rule<W: World>(
-        &mut self,
-        inner: u32,
-        statement: &Rule,
-        world: &mut W,
-    ) -> Result<Option<Value>, Stop>
-        ensures { Goes_on W.gives (rule (value_to inner) (does_to inner) statement.now) self.old world.old result
-            self.new world.new }
-    {
-        if self.state.css.is_open() {
-            return fails(FaultCode::BadPlace, &statement.span);
-        }
-        let selectors = self.statement_text(inner, &statement.selector, world)?;
-        self.state.opening(
-            self.alloc,
-            &selectors,
-            &statement.selector.span,
-            &statement.span,
-        )?;
-        let value = self.framed(inner, FrameKind::Block, statement.block.as_slice(), world)?;
-        close(&mut self.state.css);
-        Ok(value)
     }
 }

@@ -7,12 +7,16 @@ use Rattle.sw_css_tree.specs.Output.{nothing}
 use Rattle.sw_talk.specs.Talk.{Gives, Fails}
 use Rattle.sw_talk.specs.Asking.{fault}
 use Rattle.sw_state.specs.Eval.{Eval}
+use Rattle.sw_state.specs.declared.here.Inside.TheVariants as I
 use Rattle.sw_state.specs.declared.state.State.{State}
 
 abbrev pub begin : State
 begin = record {
   scopes = empty;
-  here = record { site = 0 };
+  functions = [];
+  mixins = [];
+  here = record { site = 0; inside = I.Sheet; content = None };
+  callers = [];
   css = nothing;
   nesting = record { parents = None; prefix = None };
   outer = [];

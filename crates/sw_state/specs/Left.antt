@@ -15,6 +15,10 @@ use Rattle.sw_scope.specs.declared.scopes.Scopes.{Scopes}
 use Rattle.sw_scope.specs.Frames.{Variable}
 use Rattle.sw_scope.specs.Scopes.{look_top}
 use Rattle.indexmap.specs.IndexMap.{insert_entry}
+use Rattle.sw_syntax_tree.specs.declared.callable.Callable.{Callable}
+use Rattle.sw_syntax_tree.specs.declared.statement.Statement.{Statement, out-Statement}
+use Rattle.sw_syntax_tree.specs.declared.statement.Statement.TheOpen.{Statement-F}
+use Rattle.sw_state.specs.Layers.{Layer}
 use Rattle.sw_state.specs.declared.state.State.{State}
 
 abbrev pub or_null : Option Plain → Plain
@@ -30,9 +34,26 @@ abbrev pub left_by : Scopes → Names → List Variable → List Variable
 left_by top [] vs = vs
 left_by top (name ∷ more) vs = left_by top more (added vs (name, or_null (look_top top name)))
 
+abbrev pub callable_by : Layer → Option Callable
+callable_by (Statement-F.Callable c) = Some c
+callable_by _ = None
+
+-- the function or mixin that a statement declares
+unfoldable pub callable_of : Statement → Option Callable
+callable_of x = callable_by (out-Statement x)
+
+abbrev pub and_one : List Callable → Option Callable → List Callable
+and_one done None = done
+and_one done (Some c) = done ++ c ∷ []
+
+-- the functions and mixins that these statements declare, behind others
+abbrev pub declared : List Callable → List Statement → List Callable
+declared done [] = done
+declared done (x ∷ xs) = declared (and_one done (callable_of x)) xs
+
 unfoldable pub finish_of : Sheet → State → Finish
 finish_of sheet s =
-    record { variables = left_by s.scopes (globals sheet) []; callables = []; css = s.css; taken = [] }
+    record { variables = left_by s.scopes (globals sheet) []; callables = declared [] sheet.statements; css = s.css; taken = [] }
 
 -- the same of what a sheet's talk gives
 abbrev pub end_of : Sheet → Unit {0} × State → Finish

@@ -9,7 +9,6 @@ use Rattle.sw_css_tree.specs.Output.{Output, is_open, rule_opened, lined, grown,
 use Rattle.sw_talk.specs.Talk.{Gives, Fails, bind}
 use Rattle.sw_talk.specs.Asking.{fault}
 use Rattle.sw_talk.specs.Refusals.{answer}
-use Rattle.sw_state.specs.Selecting.{selected}
 use Rattle.sw_state.specs.Eval.{Eval}
 use Rattle.sw_state.specs.declared.state.State.{State}
 
@@ -25,10 +24,6 @@ output_is out at s =
 -- a rule with these selectors is open
 unfoldable pub opened : List ℕ → Span → Eval (Unit {0})
 opened selectors at s = output_is (rule_opened s.css selectors) at s
-
--- a rule is open, whose selectors have this text, which stands at the first place; the rule stands at the second
-unfoldable pub opening : List ℕ → Span → Span → Eval (Unit {0})
-opening text text_at at s = bind (selected text text_at s) (λ q. opened q.0 at q.1)
 
 -- a line of the open rule
 abbrev pub lining : List ℕ → List ℕ → Span → Eval (Unit {0})

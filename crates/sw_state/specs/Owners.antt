@@ -1,5 +1,5 @@
 -- What answers about variables say (the Sass specification on modules; the places of faults are this project's own).
-use Rattle.std.specs.Prelude.{ℕ, Bool, true, false, if◌then◌else◌, Option, Some, None}
+use Rattle.std.specs.Prelude.{ℕ, Bool, true, false, List}
 use Rattle.sw_text.specs.declared.fault.FaultCode.{FaultCode}
 use Rattle.sw_text.specs.declared.fault.FaultCode.TheVariants as C
 use Rattle.sw_text.specs.declared.place.Span.{Span}
@@ -9,7 +9,7 @@ use Rattle.sw_values.specs.declared.value.Node.TheVariants as nodes
 use Rattle.sw_values.specs.Shape.{node_of}
 use Rattle.sw_world.specs.declared.answer.Answer.{Answer}
 use Rattle.sw_world.specs.declared.answer.Answer.TheVariants.{Owner, BuiltIn, NoNamespace, NoMember, LeftOut, Conflict, Value}
-use Rattle.sw_talk.specs.Talk.{Gives, Fails, bind}
+use Rattle.sw_talk.specs.Talk.{Gives, Fails}
 use Rattle.sw_talk.specs.Asking.{fault}
 use Rattle.sw_state.specs.Eval.{Eval}
 
@@ -46,9 +46,3 @@ is_null v = null_by (node_of v)
 abbrev pub is_absent : Answer → Bool
 is_absent NoMember = true
 is_absent _ = false
-
--- the owner that was answered, none where there is no such variable
-abbrev pub sought_owner : Span → ℕ → Answer → Eval (Option ℕ)
-sought_owner at n answer s =
-    if is_absent answer then Gives (None, s)
-    else bind (owner C.UnknownVariable at at n answer s) (λ o. Gives (Some o.0, o.1))

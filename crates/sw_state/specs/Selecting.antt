@@ -1,24 +1,32 @@
--- The selectors of rules, and `&` (the Sass specification on style rules; places of faults are this project's own).
-use Rattle.std.specs.Prelude.{ℕ, if◌then◌else◌, List, Result, Ok, Err}
+-- The selectors of a rule, and `&` (the Sass specification on style rules; places of faults are this project's own).
+use Rattle.std.specs.Prelude.{ℕ, List, [], ◌∷◌, ◌++◌, false, Option, Some, None, Result, Ok, Err}
 use Rattle.sw_text.specs.declared.fault.FaultCode.{FaultCode}
 use Rattle.sw_text.specs.declared.fault.FaultCode.TheVariants as C
 use Rattle.sw_text.specs.declared.place.Span.{Span}
+use Rattle.sw_syntax_tree.specs.declared.expr.Separator.TheVariants as separators
+use Rattle.sw_syntax_tree.specs.declared.expr.Around.TheVariants as arounds
 use Rattle.sw_values.specs.declared.plain.Plain.{Plain}
 use Rattle.sw_values.specs.declared.plain.Plain.TheVariants as N
-use Rattle.sw_css_tree.specs.Output.{is_open}
 use Rattle.sw_selector.specs.declared.selector.Part.{Part}
 use Rattle.sw_selector.specs.declared.fault.SelectorFault.{SelectorFault}
 use Rattle.sw_selector.specs.declared.fault.SelectorFault.TheVariants as S
 use Rattle.sw_selector.specs.Reading.{selectors_of}
-use Rattle.sw_selector.specs.Nesting.{alone_by}
-use Rattle.sw_selector.specs.Writing.{text_of}
+use Rattle.sw_selector.specs.Nesting.{alone_by, under_by}
+use Rattle.sw_selector.specs.Writing.{all_units}
+use Rattle.sw_literals.specs.Answers.{Answer, with}
+use Rattle.sw_literals.specs.Literals.{string_value}
+use Rattle.sw_literals.specs.Lists.{list_value}
 use Rattle.sw_talk.specs.Talk.{Gives, Fails}
 use Rattle.sw_talk.specs.Asking.{fault}
+use Rattle.sw_talk.specs.Refusals.{answer}
 use Rattle.sw_state.specs.Eval.{Eval}
+
+abbrev pub Selectors : Type 0
+Selectors = List (List Part)
 
 -- selectors, or why there are none
 abbrev pub Selection : Type 0
-Selection = Result (List (List Part)) SelectorFault
+Selection = Result Selectors SelectorFault
 
 -- the faults of selectors; none of their meanings is want of memory
 abbrev pub selector_code : SelectorFault → FaultCode
@@ -27,20 +35,46 @@ selector_code S.NoParent = C.NoParent
 selector_code S.TooLarge = C.TooLarge
 selector_code S.Memory = C.TooLarge
 
--- those of a rule that no other rule is around
-abbrev pub alone : Selection → Selection
-alone (Ok selectors) = alone_by selectors
-alone (Err why) = Err why
+-- nested in those of the rule around them, where there is one
+abbrev pub nested_by : Option Selectors → Selectors → Selection
+nested_by None child = alone_by child
+nested_by (Some parents) child = under_by false parents child
 
--- as they are written; their text stands here
-abbrev pub written_by : Span → Selection → Eval (List ℕ)
-written_by at (Ok selectors) s = Gives (text_of selectors, s)
-written_by at (Err why) s = Fails (fault (selector_code why) at)
+abbrev pub nested_in : Option Selectors → Selection → Selection
+nested_in parents (Ok child) = nested_by parents child
+nested_in parents (Err why) = Err why
 
--- the selectors of a rule as they are written
-unfoldable pub selected : List ℕ → Span → Eval (List ℕ)
-selected text at s = written_by at (alone (selectors_of text)) s
+-- their text stands here
+abbrev pub selected_by : Span → Selection → Eval Selectors
+selected_by at (Ok selectors) s = Gives (selectors, s)
+selected_by at (Err why) s = Fails (fault (selector_code why) at)
 
--- `&` is null where no rule is open; else it has no meaning yet
+-- the selectors of a rule
+unfoldable pub selected : List ℕ → Span → Eval Selectors
+selected text at s = selected_by at (nested_in s.nesting.parents (selectors_of text)) s
+
+-- ---- `&`
+
+abbrev pub words_of : List Plain → List (List ℕ) → Span → Answer (List Plain)
+words_of done [] at = Ok done
+words_of done (text ∷ texts) at =
+    with (string_value text false at) (λ word. words_of (done ++ word ∷ []) texts at)
+
+-- a space list of the texts of compounds and combinators
+unfoldable pub complex_of : List (List ℕ) → Span → Answer Plain
+complex_of texts at = with (words_of [] texts at) (λ words. list_value words separators.Space arounds.Nothing at)
+
+abbrev pub complexes_of : List Plain → List (List (List ℕ)) → Span → Answer (List Plain)
+complexes_of done [] at = Ok done
+complexes_of done (texts ∷ more) at =
+    with (complex_of texts at) (λ complex. complexes_of (done ++ complex ∷ []) more at)
+
+-- a comma list of them, and null where no rule is around
+unfoldable pub parent_by : Option Selectors → Span → Answer Plain
+parent_by None at = Ok N.Null
+parent_by (Some selectors) at =
+    with (complexes_of [] (all_units [] selectors) at)
+    (λ complexes. list_value complexes separators.Comma arounds.Nothing at)
+
 unfoldable pub parent : Span → Eval Plain
-parent at s = if is_open s.css then Fails (fault C.BadPlace at) else Gives (N.Null, s)
+parent at s = answer (parent_by s.nesting.parents at) s

@@ -2,10 +2,9 @@
 ghost use Rattle.std.specs.Prelude.{◌≡◌, true};
 ghost use Rattle.sw_css_tree.specs.Output.{is_open, closed};
 ghost use Rattle.sw_talk.specs.Did.{IsReturn};
-ghost use Rattle.sw_state.specs.Output.{numbered, opened, opening, lining, declaring, declaring_by, written, commented, noted};
+ghost use Rattle.sw_state.specs.Output.{numbered, opened, lining, declaring, declaring_by, written, commented, noted};
 
 use crate::faults::fails;
-use crate::selecting::selected;
 use crate::state::State;
 use std::alloc::Global;
 use sw_css_tree::{CssTree, TreeFault};
@@ -27,8 +26,8 @@ pub fn numbered(css: &mut CssTree, number: usize)
     }
 }
 
-/// Closes the innermost open rule.
-pub fn close(css: &mut CssTree)
+// Closes the innermost open rule.
+pub(crate) fn close(css: &mut CssTree)
     ensures { css.new ≡ closed css.old }
 {
     if css.is_open() {
@@ -39,7 +38,7 @@ pub fn close(css: &mut CssTree)
 impl State {
     // Opens a rule with these selectors.
     #[tactic(auto, unfolding(crate::specs::Output::opened))]
-    fn opened(&mut self, selectors: Name, at: &Span) -> Result<(), Stop>
+    pub(crate) fn opened(&mut self, selectors: Name, at: &Span) -> Result<(), Stop>
         ensures { IsReturn result self.new (opened selectors at.now self.old) }
     {
         match self.css.open_rule(selectors) {
@@ -47,20 +46,6 @@ impl State {
             Err(TreeFault::TooLarge) => fails(FaultCode::TooLarge, at),
             Err(TreeFault::Memory) => Err(Stop::Memory),
         }
-    }
-
-    /// Opens a rule, whose selectors have this text, which stands at the first place; the rule stands at the second.
-    pub fn opening(
-        &mut self,
-        alloc: Global,
-        text: &Name,
-        text_at: &Span,
-        at: &Span,
-    ) -> Result<(), Stop>
-        ensures { IsReturn result self.new (opening text.now text_at.now at.now self.old) }
-    {
-        let selectors = selected(alloc, text, text_at)?;
-        self.opened(selectors, at)
     }
 
     // A line of the open rule.
@@ -75,8 +60,9 @@ impl State {
         }
     }
 
+    /// A declaration of this text.
     #[tactic(auto, unfolding(crate::specs::Output::declaring))]
-    fn declaring(&mut self, property: Name, text: Name, at: &Span) -> Result<(), Stop>
+    pub fn declaring(&mut self, property: Name, text: Name, at: &Span) -> Result<(), Stop>
         ensures { IsReturn result self.new (declaring property text at.now self.old) }
     {
         if !self.css.is_open() {

@@ -1,7 +1,7 @@
 // What answers about variables say.
 ghost use Rattle.std.specs.Prelude.{◌≡◌};
 ghost use Rattle.sw_talk.specs.Did.{IsReturn};
-ghost use Rattle.sw_state.specs.Owners.{owner, target, got, null_by, is_null, is_absent, sought_owner};
+ghost use Rattle.sw_state.specs.Owners.{owner, target, got, null_by, is_null, is_absent};
 ghost use Rattle.sw_state.specs.declared.state.State.{State};
 
 use crate::faults::fails;
@@ -77,20 +77,9 @@ fn null_by(node: &Node) -> bool
     }
 }
 
-// Whether an answer tells that there is no such member.
-fn is_absent(answer: &Answer) -> bool
+/// Whether an answer tells that there is no such member.
+pub fn is_absent(answer: &Answer) -> bool
     ensures { result ≡ is_absent answer.now }
 {
     matches!(answer, Answer::NoMember)
-}
-
-/// The owner that an answer names; none where there is no such variable.
-pub fn sought_owner(at: &Span, number: usize, answer: &Answer) -> Result<Option<usize>, Stop>
-    ensures { (s : State) → IsReturn result s (sought_owner at.now number answer.now s) }
-{
-    if is_absent(answer) {
-        return Ok(None);
-    }
-    let number = owner(FaultCode::UnknownVariable, at, at, number, answer)?;
-    Ok(Some(number))
 }

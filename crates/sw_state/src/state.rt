@@ -3,26 +3,33 @@ ghost use Rattle.std.specs.Prelude.{◌≡◌, option_copied};
 ghost use Rattle.sw_talk.specs.Did.{IsReturn};
 ghost use Rattle.sw_state.specs.Begin.{begin};
 ghost use Rattle.sw_state.specs.Scope.{origin, is_home, own, is_mine, set_by, set_own, entered, left};
-ghost use Rattle.sw_state.specs.Selecting.{parent};
 ghost use Rattle.sw_state.specs.Begin.{spent};
 ghost use Rattle.sw_talk.specs.Talk.{Gives};
 
 use crate::faults::fails;
-use crate::here::Here;
+use crate::here::{Here, Inside};
 use crate::nesting::Nesting;
 use std::alloc::Global;
 use sw_css_tree::CssTree;
 use sw_scope::{FrameKind, Origin, Scopes};
+use sw_syntax_tree::Callable;
 use sw_talk::Stop;
-use sw_text::{FaultCode, List, Name, Span};
+use sw_text::{FaultCode, List, Name, Shared, Span};
 use sw_values::Value;
+use sw_world::Table;
 
 /// What an evaluation has made so far.
 #[derive(Drop)]
 pub struct State {
     /// The module's own variables, and the local ones.
     pub scopes: Scopes,
+    /// The module's own functions that are known.
+    pub functions: Table<Shared<Callable>>,
+    /// The module's own mixins that are known.
+    pub mixins: Table<Shared<Callable>>,
     pub here: Here,
+    /// Where the code was written that called it, the innermost last.
+    pub callers: List<Here>,
     pub css: CssTree,
     /// What the running statement is nested in.
     pub nesting: Nesting,
@@ -41,7 +48,14 @@ impl State {
     {
         State {
             scopes: Scopes::new(alloc),
-            here: Here { site: 0 },
+            functions: Table::new(alloc),
+            mixins: Table::new(alloc),
+            here: Here {
+                site: 0,
+                inside: Inside::Sheet,
+                content: None,
+            },
+            callers: List::new(alloc),
             css: CssTree::new(alloc),
             nesting: Nesting {
                 parents: None,
@@ -105,17 +119,6 @@ impl State {
         let name = name.share()?;
         self.scopes.set_top(name, value)?;
         Ok(())
-    }
-
-    /// What `&` is.
-    #[tactic(auto, unfolding(crate::specs::Selecting::parent))]
-    pub fn parent(&self, at: &Span) -> Result<Value, Stop>
-        ensures { IsReturn result self.now (parent at.now self.now) }
-    {
-        if self.css.is_open() {
-            return fails(FaultCode::BadPlace, at);
-        }
-        Ok(Value::null())
     }
 
     /// Opens a frame.

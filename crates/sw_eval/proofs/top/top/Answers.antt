@@ -5,15 +5,15 @@ use Rattle.sw_eval.proofs.Tops.{no_load, some_load, top_memory, other_errs, othe
 use Rattle.sw_talk.proofs.Heard.{fails_ok, heard}
 use Rattle.sw_eval.proofs.top.top.Goals as goal
 
-pub returns-in_err-_value-clause-did : goal.returns-in_err-_value-clause-did
-returns-in_err-_value-clause-did g c =
+pub returns-in_err-other-clause-did : goal.returns-in_err-other-clause-did
+returns-in_err-other-clause-did g c =
     let none : false ≡ is_some (load_of c.args.statement.now) = rw c.if-not-is_load.true at c.is_load.ensures in
-    other_errs g.W.World.gives c.args.number c.args.statement.now c.args.walk.now.state _ _ _ _ _ _ _ _ (no_load _ none) c.mark.ensures c.in_err-_value.ensures c.from_residual.ensures
+    other_errs g.W.World.gives c.args.number c.args.statement.now c.args.walk.now.state _ _ _ _ _ _ _ _ (no_load _ none) c.mark.ensures c.in_err-other.ensures c.from_residual.ensures
 
 pub returns-then-not-is_load-clause-did : goal.returns-then-not-is_load-clause-did
 returns-then-not-is_load-clause-did g c =
     let none : false ≡ is_some (load_of c.args.statement.now) = rw c.if-not-is_load.true at c.is_load.ensures in
-    other_goes g.W.World.gives c.args.number c.args.statement.now c.args.walk.now.state _ _ _ _ _ _ _ (no_load _ none) c.mark.ensures c.in_ok-_value.ensures
+    other_goes g.W.World.gives c.args.number c.args.statement.now c.args.walk.now.state _ _ _ _ _ _ (no_load _ none) c.mark.ensures c.in_ok-other.ensures
 
 pub returns-then-walk-clause-did : goal.returns-then-walk-clause-did
 returns-then-walk-clause-did g c =

@@ -1,0 +1,45 @@
+-- Answers and functions of which it is known what they aren't.
+use Rattle.std.proofs.Common.{◌≡◌, ℕ, List, Option, None, refl}
+use Rattle.sw_text.specs.declared.place.Span.{Span}
+use Rattle.sw_syntax_tree.specs.declared.callable.Param.{Param}
+use Rattle.sw_syntax_tree.specs.declared.expr.Argument.{Argument}
+use Rattle.sw_syntax_tree.specs.declared.expr.Expr.{Expr}
+use Rattle.sw_syntax_tree.specs.declared.statement.Statement.{Statement}
+use Rattle.sw_values.specs.declared.plain.Plain.{Plain}
+use Rattle.sw_literals.specs.declared.quotients.Parens.{Parens}
+use Rattle.sw_builtins.specs.declared.built_in.BuiltIn.{BuiltIn}
+use Rattle.sw_builtins.specs.declared.built_in.BuiltIn.TheVariants as B
+use Rattle.sw_world.specs.declared.answer.Answer.{Answer}
+use Rattle.sw_world.specs.declared.answer.Answer.TheVariants.{Loaded, Refused, Owner, Callable, BuiltIn as BuiltIn_answer, NoNamespace, NoMember, LeftOut, Conflict, Value, Done, Hosted}
+use Rattle.sw_state.specs.Eval.{Eval}
+use Rattle.sw_state.specs.declared.passing.Entry.{Entry}
+use Rattle.sw_state.specs.declared.state.State.{State}
+use Rattle.sw_eval.specs.Functions.{given_by}
+use Rattle.sw_eval.specs.Calls.{built_in_call, built_in_by}
+
+module _ (value : Parens → Expr → Eval Plain) (enter : Span → Entry → List Param → List Statement → Eval (Option Plain)) where
+  pub no_if : (parens : Parens) (f : BuiltIn) (args : List Argument) (at : Span) (s : State) → (f ≡ B.If → ⊥) → built_in_call value enter parens f args at s ≡ built_in_by value enter parens f args at s
+  no_if parens (B.Math x) args at s not = refl
+  no_if parens (B.Text x) args at s not = refl
+  no_if parens (B.List x) args at s not = refl
+  no_if parens (B.Map x) args at s not = refl
+  no_if parens (B.Colour x) args at s not = refl
+  no_if parens (B.Css x) args at s not = refl
+  no_if parens (B.Meta x) args at s not = refl
+  no_if parens (B.Asked x) args at s not = refl
+  no_if parens (B.Variable x) args at s not = refl
+  no_if parens B.If args at s not = absurd (not refl)
+
+pub not_hosted : (a : Answer) → ((given : Option Plain) → a ≡ Hosted given → ⊥) → given_by a ≡ None
+not_hosted (Hosted given) not = absurd (not given refl)
+not_hosted (Loaded p taken) not = refl
+not_hosted (Refused fault) not = refl
+not_hosted (Owner p m) not = refl
+not_hosted (Callable p b) not = refl
+not_hosted (BuiltIn_answer h m) not = refl
+not_hosted NoNamespace not = refl
+not_hosted NoMember not = refl
+not_hosted LeftOut not = refl
+not_hosted Conflict not = refl
+not_hosted (Value v) not = refl
+not_hosted Done not = refl
