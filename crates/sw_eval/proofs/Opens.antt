@@ -3,11 +3,15 @@ use Rattle.std.proofs.Common.{◌≡◌, List, Option, sym, ◌∙◌, ap}
 use Rattle.sw_text.specs.declared.place.Span.{Span}
 use Rattle.sw_syntax_tree.specs.declared.callable.Content.{Content}
 use Rattle.sw_syntax_tree.specs.declared.callable.Mixin.{Mixin}
+use Rattle.sw_syntax_tree.specs.declared.statement.AtRule.{AtRule}
+use Rattle.sw_syntax_tree.specs.declared.statement.AtRoot.{AtRoot}
 use Rattle.sw_syntax_tree.specs.declared.statement.Branch.{Branch}
 use Rattle.sw_syntax_tree.specs.declared.statement.Each.{Each}
 use Rattle.sw_syntax_tree.specs.declared.statement.For.{For}
+use Rattle.sw_syntax_tree.specs.declared.statement.Media.{Media}
 use Rattle.sw_syntax_tree.specs.declared.statement.Properties.{Properties}
 use Rattle.sw_syntax_tree.specs.declared.statement.Rule.{Rule}
+use Rattle.sw_syntax_tree.specs.declared.statement.Supports.{Supports}
 use Rattle.sw_syntax_tree.specs.declared.statement.While.{While}
 use Rattle.sw_syntax_tree.specs.declared.statement.Statement.{Statement, out-Statement, out-roll-Statement}
 use Rattle.sw_syntax_tree.specs.declared.statement.Statement.TheVariants as S
@@ -33,3 +37,15 @@ out_Properties x = ap out-Statement (sym (S.rolls-Properties x)) ∙ out-roll-St
 
 pub out_Include : (mixin : Mixin) (content : Option Content) (at : Span) → out-Statement (S.Include mixin content at) ≡ Statement-F.Include mixin content at
 out_Include mixin content at = ap out-Statement (sym (S.rolls-Include mixin content at)) ∙ out-roll-Statement (Statement-F.Include mixin content at)
+
+pub out_AtRule : (x : AtRule) → out-Statement (S.AtRule x) ≡ Statement-F.AtRule x
+out_AtRule x = ap out-Statement (sym (S.rolls-AtRule x)) ∙ out-roll-Statement (Statement-F.AtRule x)
+
+pub out_AtRoot : (x : AtRoot) → out-Statement (S.AtRoot x) ≡ Statement-F.AtRoot x
+out_AtRoot x = ap out-Statement (sym (S.rolls-AtRoot x)) ∙ out-roll-Statement (Statement-F.AtRoot x)
+
+pub out_Media : (x : Media) → out-Statement (S.Media x) ≡ Statement-F.Media x
+out_Media x = ap out-Statement (sym (S.rolls-Media x)) ∙ out-roll-Statement (Statement-F.Media x)
+
+pub out_Supports : (x : Supports) → out-Statement (S.Supports x) ≡ Statement-F.Supports x
+out_Supports x = ap out-Statement (sym (S.rolls-Supports x)) ∙ out-roll-Statement (Statement-F.Supports x)

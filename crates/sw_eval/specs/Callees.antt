@@ -19,7 +19,7 @@ use Rattle.sw_state.specs.Eval.{Eval}
 use Rattle.sw_state.specs.declared.called.Called.{Called}
 use Rattle.sw_state.specs.declared.called.Called.TheVariants as call
 use Rattle.sw_state.specs.declared.passing.Found.{Found}
-use Rattle.sw_eval.specs.Layers.{Texts}
+use Rattle.sw_state.specs.Layers.{Texts}
 use Rattle.sw_eval.specs.Going.{finding}
 
 -- from the start of a part of a sheet to the end of another

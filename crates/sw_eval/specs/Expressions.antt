@@ -1,6 +1,5 @@
 -- What an expression means (the Sass specification on expressions; places of faults and limits are this project's own).
 use Rattle.std.specs.Prelude.{ℕ, Bool, true, false, if◌then◌else◌, List, [], ◌∷◌, ◌++◌, Option}
-use Rattle.sw_text.specs.declared.fault.FaultCode.TheVariants as C
 use Rattle.sw_text.specs.declared.place.Span.{Span}
 use Rattle.sw_syntax_tree.specs.declared.text.Parts.{Parts, out-Parts}
 use Rattle.sw_syntax_tree.specs.declared.callable.Param.{Param}
@@ -24,14 +23,14 @@ use Rattle.sw_literals.specs.Quotients.{deeper, of_item}
 use Rattle.sw_literals.specs.Operations.{needs_right, first_left, taken, joined_to, prefixed}
 use Rattle.sw_literals.specs.Lists.{list_value}
 use Rattle.sw_literals.specs.Maps.{map_value}
-use Rattle.sw_eval.specs.Layers.{Kinds, Texts}
-use Rattle.sw_talk.specs.Talk.{Gives, Fails, bind}
-use Rattle.sw_talk.specs.Asking.{fault}
+use Rattle.sw_state.specs.Layers.{Kinds, Texts}
+use Rattle.sw_talk.specs.Talk.{Gives, bind}
 use Rattle.sw_talk.specs.Refusals.{answer}
 use Rattle.sw_state.specs.Selecting.{parent}
 use Rattle.sw_eval.specs.Variables.{variable, qualified}
 use Rattle.sw_eval.specs.Texts.{text, mixed, plain_value}
 use Rattle.sw_eval.specs.Calls.{call_value}
+use Rattle.sw_eval.specs.Functions.{special}
 use Rattle.sw_state.specs.Eval.{Eval}
 use Rattle.sw_state.specs.declared.passing.Entry.{Entry}
 use Rattle.sw_eval.specs.declared.texts.TextKind.TheVariants as K
@@ -93,7 +92,7 @@ module _ (value : Parens → Expr → Eval Plain) where
 
 module _ (value : Parens → Expr → Eval Plain) (enter : Span → Entry → List Param → List Statement → Eval (Option Plain))
   where
-    -- one level of an expression, at its place; special texts have no meaning yet
+    -- one level of an expression, at its place
     abbrev pub value_by : Parens → Kinds → Span → Eval Plain
     value_by parens (ExprKind-F.Number number) at s = answer (number_value number at) s
     value_by parens (ExprKind-F.Quoted parts) at s = string value parens parts true at s
@@ -101,7 +100,7 @@ module _ (value : Parens → Expr → Eval Plain) (enter : Span → Entry → Li
     value_by parens (ExprKind-F.Hash name) at s = answer (hash_value name at) s
     value_by parens (ExprKind-F.Constant constant) at s = Gives (constant_value constant, s)
     value_by parens (ExprKind-F.Url parts) at s = string value parens parts false at s
-    value_by parens (ExprKind-F.Special parts) at s = Fails (fault C.BadPlace at)
+    value_by parens (ExprKind-F.Special parts) at s = special value parens parts at s
     value_by parens (ExprKind-F.Variable name) at s = variable name at s
     value_by parens (ExprKind-F.Qualified q) at s = qualified q at s
     value_by parens (ExprKind-F.Call callee arguments) at s = call_value value enter parens callee arguments at s
@@ -110,7 +109,8 @@ module _ (value : Parens → Expr → Eval Plain) (enter : Span → Entry → Li
     value_by parens (ExprKind-F.Prefixed signs operand) at s = signed value parens signs operand at s
     value_by parens (ExprKind-F.Chain first rest) at s = chain value parens first rest at s
     value_by parens (ExprKind-F.List es separator around) at s =
-        bind (items value (of_item parens separator around) es [] s) (λ vs. answer (list_value vs.0 separator around at) vs.1)
+        bind (items value (of_item parens separator around) es [] s)
+        (λ vs. answer (list_value vs.0 separator around at) vs.1)
     value_by parens (ExprKind-F.Paren e) at s = plain_value value P.Inside e s
     value_by parens (ExprKind-F.Map ps) at s = map value ps at s
 

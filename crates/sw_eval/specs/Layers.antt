@@ -1,32 +1,9 @@
--- One level of the parts of a sheet's tree.
+-- Where a statement stands.
 use Rattle.sw_text.specs.declared.place.Span.{Span}
-use Rattle.sw_syntax_tree.specs.declared.expr.Argument.{Argument}
-use Rattle.sw_syntax_tree.specs.declared.expr.Callee.{Callee}
-use Rattle.sw_syntax_tree.specs.declared.expr.Expr.{Expr}
-use Rattle.sw_syntax_tree.specs.declared.expr.ExprKind.{ExprKind}
-use Rattle.sw_syntax_tree.specs.declared.expr.ExprKind.TheOpen.{ExprKind-F, Parts-F, Piece-F}
-use Rattle.sw_syntax_tree.specs.declared.expr.Link.{Link}
-use Rattle.sw_syntax_tree.specs.declared.expr.Pair.{Pair}
 use Rattle.sw_syntax_tree.specs.declared.statement.Statement.{Statement, out-Statement}
 use Rattle.sw_syntax_tree.specs.declared.statement.Statement.TheOpen.{Statement-F}
-use Rattle.sw_syntax_tree.specs.declared.text.Parts.{Parts}
-use Rattle.sw_syntax_tree.specs.declared.text.Piece.{Piece}
-use Rattle.sw_syntax_tree.specs.declared.text.Text.{Text}
 use Rattle.sw_state.specs.Layers.{Layer}
 
--- of an expression
-abbrev pub Kinds : Type 0
-Kinds = ExprKind-F ExprKind Parts Piece Argument Callee Expr Link Pair Text
-
--- of a text
-abbrev pub Texts : Type 0
-Texts = Parts-F ExprKind Parts Piece Argument Callee Expr Link Pair Text
-
--- of a piece of a text
-abbrev pub Pieces : Type 0
-Pieces = Piece-F ExprKind Parts Piece Argument Callee Expr Link Pair Text
-
--- where a statement stands
 abbrev pub place_by : Layer → Span
 place_by (Statement-F.Variable x) = x.span
 place_by (Statement-F.Assignment x) = x.span

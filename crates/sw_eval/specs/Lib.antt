@@ -12,6 +12,7 @@ pub mod Calls
 pub mod Expressions
 pub mod Loops
 pub mod Messages
+pub mod AtRules
 pub mod Statements
 pub mod Means
 pub mod Body_laws

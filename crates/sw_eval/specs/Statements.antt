@@ -20,11 +20,12 @@ use Rattle.sw_values.specs.declared.plain.Plain.{Plain}
 use Rattle.sw_scope.specs.declared.mark.FrameKind.TheVariants as F
 use Rattle.sw_literals.specs.declared.quotients.Parens.{Parens}
 use Rattle.sw_literals.specs.declared.quotients.Parens.TheVariants as P
-use Rattle.sw_css_tree.specs.Output.{is_open}
 use Rattle.sw_state.specs.Layers.{Layer}
 use Rattle.sw_eval.specs.Layers.{place_of}
 use Rattle.sw_talk.specs.Talk.{Gives, Fails, bind}
 use Rattle.sw_talk.specs.Asking.{fault}
+use Rattle.sw_state.specs.Nestings.{takes_lines}
+use Rattle.sw_eval.specs.AtRules.{raw_text, nested_block, media, supports, at_root, import, at_rule}
 use Rattle.sw_eval.specs.Calls.{include, content}
 use Rattle.sw_eval.specs.Flow.{done, framed, branches, repeat_in}
 use Rattle.sw_eval.specs.Loops.{each_in, count_in}
@@ -33,7 +34,7 @@ use Rattle.sw_eval.specs.Variables.{targeted, getting, putting, kept, stored}
 use Rattle.sw_state.specs.Owners.{is_null}
 use Rattle.sw_eval.specs.Texts.{text, plain_value}
 use Rattle.sw_state.specs.Output.{declaring, written, commented}
-use Rattle.sw_state.specs.Rules.{full_name, rule_entered, rule_left, prefixed, unnested}
+use Rattle.sw_state.specs.Rules.{full_name, rule_entered, prefixed, unnested}
 use Rattle.sw_state.specs.Misplaced.{misplaced, is_function}
 use Rattle.sw_state.specs.Eval.{Eval}
 use Rattle.sw_state.specs.declared.passing.Entry.{Entry}
@@ -76,22 +77,18 @@ module _ (value : Parens → Expr → Eval Plain) where
   unfoldable pub valued : List ℕ → Expr → Span → Eval (Unit {0})
   valued name e at s = bind (value P.Outside e s) (λ v. written name v.0 e.span at v.1)
 
-  -- a declaration stands in a rule
+  -- a declaration stands in a rule or an at-rule
   unfoldable pub declaration : Declaration → Eval (Option Plain)
   declaration x s =
-      if is_open s.css then bind (property x.property s) (λ p. bind (valued p.0 x.value x.span p.1) done)
+      if takes_lines s.nesting then bind (property x.property s) (λ p. bind (valued p.0 x.value x.span p.1) done)
       else Fails (fault C.BadPlace x.span)
-
-  abbrev pub raw_text : Option Text → Eval (List ℕ)
-  raw_text None s = Gives ([], s)
-  raw_text (Some x) s = text value K.Sheet P.Outside x.parts x.span s
 
   -- a custom property is its text
   unfoldable pub custom : Custom → Eval (Option Plain)
   custom x s =
-      if is_open s.css
+      if takes_lines s.nesting
       then bind (property x.property s)
-      (λ p. bind (raw_text x.value p.1) (λ t. bind (declaring p.0 t.0 x.span t.1) done))
+      (λ p. bind (raw_text value x.value p.1) (λ t. bind (declaring p.0 t.0 x.span t.1) done))
       else Fails (fault C.BadPlace x.span)
 
   -- the value of nested properties, where there is one
@@ -115,13 +112,12 @@ module _ (value : Parens → Expr → Eval Plain) (does : Statement → Eval (Op
   rule x s =
       if is_some s.nesting.prefix then Fails (fault C.BadPlace x.span)
       else bind (text value K.Sheet P.Outside x.selector.parts x.selector.span s)
-      (λ t. bind (rule_entered t.0 x.selector.span x.span t.1)
-      (λ q. bind (framed does F.Block x.block q.1) (λ r. Gives (r.0, rule_left r.1))))
+      (λ t. bind (rule_entered false t.0 x.selector.span x.span t.1) (λ q. nested_block does x.block q.1))
 
   -- nested properties: the value, and then those in the block
   unfoldable pub properties : Properties → Eval (Option Plain)
   properties x s =
-      if is_open s.css
+      if takes_lines s.nesting
       then bind (property value x.property s)
       (λ p. bind (maybe_valued value p.0 x.value x.span p.1)
       (λ u. bind (framed does F.Block x.block (prefixed p.0 u.1)) (λ r. Gives (r.0, unnested r.1))))
@@ -129,7 +125,7 @@ module _ (value : Parens → Expr → Eval Plain) (does : Statement → Eval (Op
 
 module _ (value : Parens → Expr → Eval Plain) (does : Statement → Eval (Option Plain))
     (enter : Span → Entry → List Param → List Statement → Eval (Option Plain)) where
-  -- one level of a statement; a load and what declares stand at the top level, and those behind them have no meaning yet
+  -- one level of a statement; a load and what declares stand at the top level
   abbrev pub does_by : Layer → Eval (Option Plain)
   does_by (Statement-F.Variable x) s = variable_set value x s
   does_by (Statement-F.Assignment x) s = assigned value x s
@@ -150,12 +146,12 @@ module _ (value : Parens → Expr → Eval Plain) (does : Statement → Eval (Op
   does_by (Statement-F.Use x) s = Fails (fault C.BadPlace x.span)
   does_by (Statement-F.Forward x) s = Fails (fault C.BadPlace x.span)
   does_by (Statement-F.Callable x) s = Fails (fault C.BadPlace x.span)
-  does_by (Statement-F.Media x) s = Fails (fault C.BadPlace x.span)
-  does_by (Statement-F.Supports x) s = Fails (fault C.BadPlace x.span)
-  does_by (Statement-F.AtRoot x) s = Fails (fault C.BadPlace x.span)
-  does_by (Statement-F.Import x) s = Fails (fault C.BadPlace x.span)
-  does_by (Statement-F.Extend x) s = Fails (fault C.BadPlace x.span)
-  does_by (Statement-F.AtRule x) s = Fails (fault C.BadPlace x.span)
+  does_by (Statement-F.Media x) s = media value does x s
+  does_by (Statement-F.Supports x) s = supports value does x s
+  does_by (Statement-F.AtRoot x) s = at_root value does x s
+  does_by (Statement-F.Import x) s = import value x s
+  does_by (Statement-F.Extend x) s = Fails (fault C.Extend x.span)
+  does_by (Statement-F.AtRule x) s = at_rule value does x s
 
   unfoldable pub does_one : Statement → Eval (Option Plain)
   does_one x s = does_by (out-Statement x) s

@@ -10,7 +10,7 @@ use Rattle.sw_literals.specs.declared.quotients.Parens.{Parens}
 use Rattle.sw_literals.specs.Answers.{Answer}
 use Rattle.sw_literals.specs.Quotients.{deeper, plain_at}
 use Rattle.sw_literals.specs.Texts.{inserted, css_text, joined}
-use Rattle.sw_eval.specs.Layers.{Texts, Pieces}
+use Rattle.sw_state.specs.Layers.{Texts, Pieces}
 use Rattle.sw_talk.specs.Talk.{Gives, bind}
 use Rattle.sw_talk.specs.Refusals.{answer}
 use Rattle.sw_state.specs.Eval.{Eval}
@@ -28,10 +28,14 @@ module _ (value : Parens → Expr → Eval Plain) where
   unfoldable pub spelled_value : TextKind → Parens → Expr → Eval (List ℕ)
   spelled_value kind parens e s = bind (value (deeper parens) e s) (λ v. answer (spelled kind v.0 e.span) v.1)
 
+  -- a value that stands without `#{}` in a text keeps its quotes
+  unfoldable pub plain_spelled : Parens → Expr → Eval (List ℕ)
+  plain_spelled parens e s = bind (value (deeper parens) e s) (λ v. answer (css_text true v.0 e.span) v.1)
+
   abbrev pub piece_by : TextKind → Parens → Pieces → Eval (List ℕ)
   piece_by kind parens (Piece-F.Text text) s = Gives (text, s)
   piece_by kind parens (Piece-F.Inserted e) s = spelled_value kind parens e s
-  piece_by kind parens (Piece-F.Value e) s = spelled_value kind parens e s
+  piece_by kind parens (Piece-F.Value e) s = plain_spelled parens e s
 
   unfoldable pub piece : TextKind → Parens → Piece → Eval (List ℕ)
   piece kind parens p s = piece_by kind parens (out-Piece p) s

@@ -182,7 +182,7 @@ impl Walk {
     {
         match function {
             BuiltIn::Asked(asked) => {
-                let arguments = built_in_arguments(self.alloc, function, passed, at)?;
+                let arguments = stopped(built_in_arguments(self.alloc, function, passed, at))?;
                 let holds = self.asked(asked, arguments.as_slice(), at, world)?;
                 Ok(truth(holds))
             }

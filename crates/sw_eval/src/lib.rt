@@ -4,6 +4,7 @@
 
 mod ask;
 mod assignments;
+mod at_rules;
 mod callees;
 mod calls;
 mod choosing;
@@ -17,6 +18,7 @@ mod look;
 mod loops;
 mod messages;
 mod places;
+mod special;
 mod styles;
 mod texts;
 mod top;

@@ -1,6 +1,7 @@
 // Rules and declarations.
 ghost use Rattle.sw_eval.specs.Going.{Goes_on};
-ghost use Rattle.sw_eval.specs.Statements.{property, valued, declaration, raw_text, custom, maybe_valued, rule, properties};
+ghost use Rattle.sw_eval.specs.Statements.{property, valued, declaration, custom, maybe_valued, rule, properties};
+ghost use Rattle.sw_eval.specs.AtRules.{raw_text};
 ghost use Rattle.sw_eval.specs.Means.{value_to, does_to};
 
 use crate::level::Level;
@@ -41,7 +42,7 @@ impl Walk {
         self.state.written(self.alloc, name, &value, &e.span, at)
     }
 
-    // A declaration, which stands in a rule.
+    // A declaration, which stands in a rule or an at-rule.
     #[cycle(walk)]
     pub(crate) fn declaration<W: World>(
         &mut self,
@@ -52,7 +53,7 @@ impl Walk {
         ensures { Goes_on W.gives (declaration (value_to inner) statement.now) self.old world.old result
             self.new world.new }
     {
-        if !self.state.css.is_open() {
+        if !self.state.nesting.takes_lines() {
             return fails(FaultCode::BadPlace, &statement.span);
         }
         let name = self.property(inner, &statement.property, world)?;
@@ -60,9 +61,9 @@ impl Walk {
         Ok(None)
     }
 
-    // The text of a custom property.
+    // A text that may be left out.
     #[cycle(walk)]
-    fn raw_text<W: World>(
+    pub(crate) fn raw_text<W: World>(
         &mut self,
         inner: u32,
         it: &Option<Text>,
@@ -86,7 +87,7 @@ impl Walk {
     ) -> Result<Option<Value>, Stop>
         ensures { Goes_on W.gives (custom (value_to inner) statement.now) self.old world.old result self.new world.new }
     {
-        if !self.state.css.is_open() {
+        if !self.state.nesting.takes_lines() {
             return fails(FaultCode::BadPlace, &statement.span);
         }
         let name = self.property(inner, &statement.property, world)?;
@@ -129,10 +130,14 @@ impl Walk {
             return fails(FaultCode::BadPlace, &statement.span);
         }
         let text = self.statement_text(inner, &statement.selector, world)?;
-        self.state.enter_rule(self.alloc, &text, &statement.selector.span, &statement.span)?;
-        let value = self.framed(inner, FrameKind::Block, statement.block.as_slice(), world)?;
-        self.state.leave_rule();
-        Ok(value)
+        self.state.enter_rule(
+            self.alloc,
+            false,
+            &text,
+            &statement.selector.span,
+            &statement.span,
+        )?;
+        self.nested_block(inner, statement.block.as_slice(), world)
     }
 
     // Nested properties: the value, and then those in the block.
@@ -146,7 +151,7 @@ impl Walk {
         ensures { Goes_on W.gives (properties (value_to inner) (does_to inner) statement.now) self.old world.old
             result self.new world.new }
     {
-        if !self.state.css.is_open() {
+        if !self.state.nesting.takes_lines() {
             return fails(FaultCode::BadPlace, &statement.span);
         }
         let name = self.property(inner, &statement.property, world)?;

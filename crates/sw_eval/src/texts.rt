@@ -1,7 +1,7 @@
 // Texts of a sheet in which values stand.
 ghost use Rattle.sw_literals.specs.Answers.{Returns};
 ghost use Rattle.sw_eval.specs.Going.{Goes_on};
-ghost use Rattle.sw_eval.specs.Texts.{spelled, spelled_value, piece, pieces, mixed, text};
+ghost use Rattle.sw_eval.specs.Texts.{spelled, spelled_value, plain_spelled, piece, pieces, mixed, text};
 ghost use Rattle.sw_eval.specs.Means.{value_to};
 ghost use Rattle.std.specs.Prelude.{[]};
 
@@ -50,6 +50,21 @@ impl Walk {
         stopped(spelled(self.alloc, kind, &value, &e.span))
     }
 
+    // A value that stands without `#{}` in a text keeps its quotes.
+    #[cycle(walk)]
+    fn plain_spelled<W: World>(
+        &mut self,
+        level: Level,
+        e: &Expr,
+        world: &mut W,
+    ) -> Result<Name, Stop>
+        ensures { Goes_on W.gives (plain_spelled (value_to level.depth) level.parens e.now) self.old world.old result
+            self.new world.new }
+    {
+        let value = self.value(level.deeper(), e, world)?;
+        stopped(css_text(self.alloc, true, &value, &e.span))
+    }
+
     #[cycle(walk)]
     fn piece<W: World>(
         &mut self,
@@ -64,13 +79,13 @@ impl Walk {
         match one {
             Piece::Text(text) => Ok(text.share()?),
             Piece::Inserted(e) => self.spelled_value(level, kind, e, world),
-            Piece::Value(e) => self.spelled_value(level, kind, e, world),
+            Piece::Value(e) => self.plain_spelled(level, e, world),
         }
     }
 
     // The texts of pieces.
     #[cycle(walk)]
-    fn pieces<W: World>(
+    pub(crate) fn pieces<W: World>(
         &mut self,
         level: Level,
         kind: TextKind,

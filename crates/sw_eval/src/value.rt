@@ -43,8 +43,8 @@ impl Walk {
 
     #[cycle(walk)]
     fn value_one<W: World>(&mut self, level: Level, e: &Expr, world: &mut W) -> Result<Value, Stop>
-        ensures { Goes_on W.gives (value_one (value_to level.depth) (enter_to level.depth) level.parens e.now) self.old world.old result
-            self.new world.new }
+        ensures { Goes_on W.gives (value_one (value_to level.depth) (enter_to level.depth) level.parens e.now) self.old
+            world.old result self.new world.new }
     {
         match &e.kind {
             ExprKind::Number(number) => stopped(number_value(number, &e.span)),
@@ -83,7 +83,7 @@ impl Walk {
             ExprKind::Call { callee, arguments } => {
                 self.call(level, callee.get(), arguments.as_slice(), &e.span, world)
             }
-            ExprKind::Special(_) => fails(FaultCode::BadPlace, &e.span),
+            ExprKind::Special(parts) => self.special(level, parts, &e.span, world),
         }
     }
 

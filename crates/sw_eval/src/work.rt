@@ -128,6 +128,12 @@ impl Walk {
             } => self.include(inner, mixin, content, span, world),
             Statement::Content(one) => self.content(inner, one, world),
             Statement::Return(one) => self.returning(inner, one, world),
+            Statement::Media(one) => self.media(inner, one, world),
+            Statement::Supports(one) => self.supports(inner, one, world),
+            Statement::AtRoot(one) => self.at_root(inner, one, world),
+            Statement::Import(one) => self.import(inner, one, world),
+            Statement::Extend(one) => fails(FaultCode::Extend, &one.span),
+            Statement::AtRule(one) => self.at_rule(inner, one, world),
             Statement::If {
                 branches,
                 otherwise,
@@ -139,15 +145,10 @@ impl Walk {
             Statement::Say(one) => self.saying(inner, one, world),
             Statement::Charset(_) => Ok(None),
             Statement::Comment(text) => self.comment(inner, text, world),
-            Statement::Use(_)
-            | Statement::Forward(_)
-            | Statement::Callable(_)
-            | Statement::Media(_)
-            | Statement::Supports(_)
-            | Statement::AtRoot(_)
-            | Statement::Import(_)
-            | Statement::Extend(_)
-            | Statement::AtRule(_) => fails(FaultCode::BadPlace, place_of(statement)),
+            Statement::Use(_) | Statement::Forward(_) | Statement::Callable(_) => fails(
+                FaultCode::BadPlace,
+                place_of(statement),
+            ),
         }
     }
 }

@@ -7,13 +7,13 @@ use Rattle.sw_eval.specs.Statements.{rule, properties, does_one, property, value
 use Rattle.sw_eval.specs.Means.{value_to, does_to, enter_to}
 use Rattle.sw_talk.proofs.Steps.{no_memory_by, gives_state, did_value, did_err, did_then, did_plain, ran_then, ran_did, no_memory}
 use Rattle.sw_eval.proofs.Depth.{one_level_does, one_level, one_level_enter}
-use Rattle.sw_eval.proofs.Opens.{out_Rule, out_Properties, out_If, out_While, out_Each, out_For, out_Include}
+use Rattle.sw_eval.proofs.Opens.{out_Rule, out_Media, out_Supports, out_AtRoot, out_AtRule, out_Properties, out_If, out_While, out_Each, out_For, out_Include}
 use Rattle.sw_talk.proofs.Loops.{loop_at, loop_end}
 use Rattle.sw_talk.proofs.Choices.{did_yes, did_no}
 use Rattle.sw_talk.proofs.Counts.{turn_at, turn_end}
 use Rattle.sw_talk.proofs.Upward.{up_at, up_next, up_end, is_less, not_less}
 use Rattle.sw_syntax_tree.specs.declared.statement.Statement as S
-use Rattle.sw_eval.specs.Texts.{spelled_value, piece, pieces, mixed, text, plain_value}
+use Rattle.sw_eval.specs.Texts.{spelled_value, plain_spelled, piece, pieces, mixed, text, plain_value}
 use Rattle.sw_eval.specs.Expressions.{string, word, signed, linked, links, chain, items, pairs, map, value_one}
 use Rattle.sw_talk.proofs.Refusals.{did_answer, did_refused, did_stopped}
 use Rattle.sw_eval.proofs.ExprOpens.{out_Prefixed, out_Chain, out_List, out_Paren, out_Map, out_Mixed, out_Call}
@@ -22,10 +22,10 @@ use Rattle.sw_syntax_tree.specs.declared.text.Parts as T
 use Rattle.sw_syntax_tree.specs.declared.text.Piece as C
 use Rattle.sw_eval.specs.Messages.{saying}
 use Rattle.sw_eval.specs.Passing.{arguments, fill}
-use Rattle.sw_eval.specs.Calls.{run_body, sheet_call, built_in_call, call_value, included, include, content_run}
-use Rattle.sw_eval.specs.Functions.{css_called, one_of, chosen, if_called}
+use Rattle.sw_eval.specs.Calls.{run_body, sheet_call, built_in_call, call_value, included, include, content_run, content}
+use Rattle.sw_eval.specs.Functions.{css_called, one_of, chosen, if_called, value_behind, piece_value, piece_values, extremum_called, special_text, special}
+use Rattle.sw_eval.specs.AtRules.{nested_block, media, supports, root_with, root_without, at_root, at_rule, inserted_pieces, inserted_texts, plain_import, import}
 use Rattle.sw_eval.proofs.IfCalls.{no_if}
-use Rattle.sw_eval.proofs.Cases.{content_some, content_none}
 use Rattle.sw_eval.proofs.walk.Walk.+walk.Goals as goal
 
 pub does-returns-then-depth-eq0 : goal.does-returns-then-depth-eq0
@@ -97,6 +97,31 @@ pub does_one-returns-in-Rule : goal.does_one-returns-in-Rule
 unfolding does_one
 does_one-returns-in-Rule g t c = rw (c.in-Rule.is, out_Rule) c.rule.ensures
 
+pub does_one-returns-in-Media : goal.does_one-returns-in-Media
+unfolding does_one
+does_one-returns-in-Media g t c = rw (c.in-Media.is, out_Media) c.media.ensures
+
+pub does_one-returns-in-Supports : goal.does_one-returns-in-Supports
+unfolding does_one
+does_one-returns-in-Supports g t c = rw (c.in-Supports.is, out_Supports) c.supports.ensures
+
+pub does_one-returns-in-AtRoot : goal.does_one-returns-in-AtRoot
+unfolding does_one
+does_one-returns-in-AtRoot g t c = rw (c.in-AtRoot.is, out_AtRoot) c.at_root.ensures
+
+pub does_one-returns-in-AtRule : goal.does_one-returns-in-AtRule
+unfolding does_one
+does_one-returns-in-AtRule g t c = rw (c.in-AtRule.is, out_AtRule) c.at_rule.ensures
+
+pub does_one-returns-in-Import : goal.does_one-returns-in-Import
+unfolding does_one S.out-Statement denote.Hole.Carrier.out
+does_one-returns-in-Import g t c = rw c.in-Import.is c.import.ensures
+
+pub does_one-returns-in-Extend : goal.does_one-returns-in-Extend
+unfolding does_one S.out-Statement denote.Hole.Carrier.out
+does_one-returns-in-Extend g t c =
+    rw c.in-Extend.is (did_plain _ c.args.self.now.state _ _ _ (c.fails.ensures c.args.self.now.state))
+
 pub rule-returns-then-is_some : goal.rule-returns-then-is_some
 unfolding rule
 rule-returns-then-is_some g t c =
@@ -112,45 +137,48 @@ unfolding rule
 rule-returns-in_err-enter_rule g t c =
     rw (← c.is_some.ensures, c.if-is_some.false) (did_then _ c.in_ok-text.ensures (did_err _ (did_plain _ _ _ _ _ c.in_err-enter_rule.ensures) c.from_residual-in_err-enter_rule.ensures))
 
-pub rule-returns-in_err-value : goal.rule-returns-in_err-value
-unfolding rule
-rule-returns-in_err-value g t c =
-    rw (← c.is_some.ensures, c.if-is_some.false) (did_then _ c.in_ok-text.ensures (did_then _ (did_plain _ _ _ _ _ c.in_ok-enter_rule.ensures) (did_err _ (rw c.as_slice.ensures at c.in_err-value.ensures) c.from_residual-in_err-value.ensures)))
-
 pub rule-returns : goal.rule-returns
 unfolding rule
 rule-returns g t c =
-    rw (← c.is_some.ensures, c.if-is_some.false) (did_then _ c.in_ok-text.ensures (did_then _ (did_plain _ _ _ _ _ c.in_ok-enter_rule.ensures) (did_then _ (rw c.as_slice.ensures at c.in_ok-value.ensures) (rw c.leave_rule.ensures (did_value _ _ _ _)))))
+    rw (← c.is_some.ensures, c.if-is_some.false) (did_then _ c.in_ok-text.ensures (did_then _ (did_plain _ _ _ _ _ c.in_ok-enter_rule.ensures) (rw c.as_slice.ensures at c.nested_block.ensures)))
 
-pub properties-returns-then-not-is_open : goal.properties-returns-then-not-is_open
+pub nested_block-returns-in_err-value : goal.nested_block-returns-in_err-value
+unfolding nested_block
+nested_block-returns-in_err-value g t c = did_err _ c.in_err-value.ensures c.from_residual.ensures
+
+pub nested_block-returns : goal.nested_block-returns
+unfolding nested_block
+nested_block-returns g t c = did_then _ c.in_ok-value.ensures (rw c.leave_rule.ensures (did_value _ _ _ _))
+
+pub properties-returns-then-not-takes_lines : goal.properties-returns-then-not-takes_lines
 unfolding properties
-properties-returns-then-not-is_open g t c =
-    rw (← c.is_open.ensures, c.if-not-is_open.true) (did_plain _ c.args.self.now.state _ _ _ (c.fails.ensures c.args.self.now.state))
+properties-returns-then-not-takes_lines g t c =
+    rw (← c.takes_lines.ensures, c.if-not-takes_lines.true) (did_plain _ c.args.self.now.state _ _ _ (c.fails.ensures c.args.self.now.state))
 
 pub properties-returns-in_err-name : goal.properties-returns-in_err-name
 unfolding properties
 properties-returns-in_err-name g t c =
-    rw (← c.is_open.ensures, c.if-not-is_open.false) (did_err _ c.in_err-name.ensures c.from_residual.ensures)
+    rw (← c.takes_lines.ensures, c.if-not-takes_lines.false) (did_err _ c.in_err-name.ensures c.from_residual.ensures)
 
 pub properties-returns-in_err-maybe_valued : goal.properties-returns-in_err-maybe_valued
 unfolding properties
 properties-returns-in_err-maybe_valued g t c =
-    rw (← c.is_open.ensures, c.if-not-is_open.false) (did_then _ c.in_ok-name.ensures (did_err _ c.in_err-maybe_valued.ensures c.from_residual-in_err-maybe_valued.ensures))
+    rw (← c.takes_lines.ensures, c.if-not-takes_lines.false) (did_then _ c.in_ok-name.ensures (did_err _ c.in_err-maybe_valued.ensures c.from_residual-in_err-maybe_valued.ensures))
 
 pub properties-returns-in_err-enter_properties : goal.properties-returns-in_err-enter_properties
 unfolding properties
 properties-returns-in_err-enter_properties g t c =
-    rw (← c.is_open.ensures, c.if-not-is_open.false) (did_then _ c.in_ok-name.ensures (did_then _ c.in_ok-maybe_valued.ensures (no_memory_by _ _ _ _ _ _ _ _ c.in_err-enter_properties.ensures c.from_residual-in_err-enter_properties.ensures)))
+    rw (← c.takes_lines.ensures, c.if-not-takes_lines.false) (did_then _ c.in_ok-name.ensures (did_then _ c.in_ok-maybe_valued.ensures (no_memory_by _ _ _ _ _ _ _ _ c.in_err-enter_properties.ensures c.from_residual-in_err-enter_properties.ensures)))
 
 pub properties-returns-in_err-value : goal.properties-returns-in_err-value
 unfolding properties
 properties-returns-in_err-value g t c =
-    rw (← c.is_open.ensures, c.if-not-is_open.false) (did_then _ c.in_ok-name.ensures (did_then _ c.in_ok-maybe_valued.ensures (rw (gives_state c.in_ok-enter_properties.ensures) (did_err _ (rw c.as_slice.ensures at c.in_err-value.ensures) c.from_residual-in_err-value.ensures))))
+    rw (← c.takes_lines.ensures, c.if-not-takes_lines.false) (did_then _ c.in_ok-name.ensures (did_then _ c.in_ok-maybe_valued.ensures (rw (gives_state c.in_ok-enter_properties.ensures) (did_err _ (rw c.as_slice.ensures at c.in_err-value.ensures) c.from_residual-in_err-value.ensures))))
 
 pub properties-returns : goal.properties-returns
 unfolding properties
 properties-returns g t c =
-    rw (← c.is_open.ensures, c.if-not-is_open.false) (did_then _ c.in_ok-name.ensures (did_then _ c.in_ok-maybe_valued.ensures (rw (gives_state c.in_ok-enter_properties.ensures) (did_then _ (rw c.as_slice.ensures at c.in_ok-value.ensures) (rw c.unnest.ensures (did_value _ _ _ _))))))
+    rw (← c.takes_lines.ensures, c.if-not-takes_lines.false) (did_then _ c.in_ok-name.ensures (did_then _ c.in_ok-maybe_valued.ensures (rw (gives_state c.in_ok-enter_properties.ensures) (did_then _ (rw c.as_slice.ensures at c.in_ok-value.ensures) (rw c.unnest.ensures (did_value _ _ _ _))))))
 
 pub framed-returns-in_err-enter : goal.framed-returns-in_err-enter
 framed-returns-in_err-enter g t c = no_memory_by _ _ _ _ _ _ _ _ c.in_err-enter.ensures c.from_residual.ensures
@@ -422,24 +450,24 @@ pub valued-returns : goal.valued-returns
 unfolding valued
 valued-returns g t c = did_then _ (rw c.outside.ensures at c.in_ok-value.ensures) (did_plain _ _ _ _ _ (rw c.in_ok-name.ensures at c.written.ensures))
 
-pub declaration-returns-then-not-is_open : goal.declaration-returns-then-not-is_open
+pub declaration-returns-then-not-takes_lines : goal.declaration-returns-then-not-takes_lines
 unfolding declaration
-declaration-returns-then-not-is_open g t c = rw (← c.is_open.ensures, c.if-not-is_open.true) (did_plain _ c.args.self.now.state _ _ _ (c.fails.ensures c.args.self.now.state))
+declaration-returns-then-not-takes_lines g t c = rw (← c.takes_lines.ensures, c.if-not-takes_lines.true) (did_plain _ c.args.self.now.state _ _ _ (c.fails.ensures c.args.self.now.state))
 
 pub declaration-returns-in_err-name : goal.declaration-returns-in_err-name
 unfolding declaration
 declaration-returns-in_err-name g t c =
-    rw (← c.is_open.ensures, c.if-not-is_open.false) (did_err _ c.in_err-name.ensures c.from_residual.ensures)
+    rw (← c.takes_lines.ensures, c.if-not-takes_lines.false) (did_err _ c.in_err-name.ensures c.from_residual.ensures)
 
 pub declaration-returns-in_err-valued : goal.declaration-returns-in_err-valued
 unfolding declaration
 declaration-returns-in_err-valued g t c =
-    rw (← c.is_open.ensures, c.if-not-is_open.false) (did_then _ c.in_ok-name.ensures (did_err _ c.in_err-valued.ensures c.from_residual-in_err-valued.ensures))
+    rw (← c.takes_lines.ensures, c.if-not-takes_lines.false) (did_then _ c.in_ok-name.ensures (did_err _ c.in_err-valued.ensures c.from_residual-in_err-valued.ensures))
 
 pub declaration-returns : goal.declaration-returns
 unfolding declaration
 declaration-returns g t c =
-    rw (← c.is_open.ensures, c.if-not-is_open.false) (did_then _ c.in_ok-name.ensures (did_then _ c.in_ok-valued.ensures (did_value _ _ _ _)))
+    rw (← c.takes_lines.ensures, c.if-not-takes_lines.false) (did_then _ c.in_ok-name.ensures (did_then _ c.in_ok-valued.ensures (did_value _ _ _ _)))
 
 pub raw_text-returns-in-Some : goal.raw_text-returns-in-Some
 raw_text-returns-in-Some g t c = rw c.in-Some.is c.statement_text.ensures
@@ -450,29 +478,29 @@ raw_text-returns-in_err-new-in-None g t c = no_memory _ c.args.self.now.state _ 
 pub raw_text-returns-in_ok-new-in-None : goal.raw_text-returns-in_ok-new-in-None
 raw_text-returns-in_ok-new-in-None g t c = rw (c.in-None.is, c.in_ok-new-in-None.ensures) (did_value _ c.args.self.now.state _ _)
 
-pub custom-returns-then-not-is_open : goal.custom-returns-then-not-is_open
+pub custom-returns-then-not-takes_lines : goal.custom-returns-then-not-takes_lines
 unfolding custom
-custom-returns-then-not-is_open g t c = rw (← c.is_open.ensures, c.if-not-is_open.true) (did_plain _ c.args.self.now.state _ _ _ (c.fails.ensures c.args.self.now.state))
+custom-returns-then-not-takes_lines g t c = rw (← c.takes_lines.ensures, c.if-not-takes_lines.true) (did_plain _ c.args.self.now.state _ _ _ (c.fails.ensures c.args.self.now.state))
 
 pub custom-returns-in_err-name : goal.custom-returns-in_err-name
 unfolding custom
 custom-returns-in_err-name g t c =
-    rw (← c.is_open.ensures, c.if-not-is_open.false) (did_err _ c.in_err-name.ensures c.from_residual.ensures)
+    rw (← c.takes_lines.ensures, c.if-not-takes_lines.false) (did_err _ c.in_err-name.ensures c.from_residual.ensures)
 
 pub custom-returns-in_err-text : goal.custom-returns-in_err-text
 unfolding custom
 custom-returns-in_err-text g t c =
-    rw (← c.is_open.ensures, c.if-not-is_open.false) (did_then _ c.in_ok-name.ensures (did_err _ c.in_err-text.ensures c.from_residual-in_err-text.ensures))
+    rw (← c.takes_lines.ensures, c.if-not-takes_lines.false) (did_then _ c.in_ok-name.ensures (did_err _ c.in_err-text.ensures c.from_residual-in_err-text.ensures))
 
 pub custom-returns-in_err-declaring : goal.custom-returns-in_err-declaring
 unfolding custom
 custom-returns-in_err-declaring g t c =
-    rw (← c.is_open.ensures, c.if-not-is_open.false) (did_then _ c.in_ok-name.ensures (did_then _ c.in_ok-text.ensures (did_err _ (did_plain _ _ _ _ _ c.in_err-declaring.ensures) c.from_residual-in_err-declaring.ensures)))
+    rw (← c.takes_lines.ensures, c.if-not-takes_lines.false) (did_then _ c.in_ok-name.ensures (did_then _ c.in_ok-text.ensures (did_err _ (did_plain _ _ _ _ _ c.in_err-declaring.ensures) c.from_residual-in_err-declaring.ensures)))
 
 pub custom-returns : goal.custom-returns
 unfolding custom
 custom-returns g t c =
-    rw (← c.is_open.ensures, c.if-not-is_open.false) (did_then _ c.in_ok-name.ensures (did_then _ c.in_ok-text.ensures (did_then _ (did_plain _ _ _ _ _ c.in_ok-declaring.ensures) (did_value _ _ _ _))))
+    rw (← c.takes_lines.ensures, c.if-not-takes_lines.false) (did_then _ c.in_ok-name.ensures (did_then _ c.in_ok-text.ensures (did_then _ (did_plain _ _ _ _ _ c.in_ok-declaring.ensures) (did_value _ _ _ _))))
 
 pub maybe_valued-returns-in-Some : goal.maybe_valued-returns-in-Some
 maybe_valued-returns-in-Some g t c = rw c.in-Some.is c.valued.ensures
@@ -728,7 +756,7 @@ value_one-returns-in-Call g t c =
 
 pub value_one-returns-in-Special : goal.value_one-returns-in-Special
 unfolding value_one E.out-ExprKind denote.Hole.Carrier.out
-value_one-returns-in-Special g t c = rw c.in-Special.is (did_plain _ c.args.self.now.state _ _ _ (c.fails.ensures c.args.self.now.state))
+value_one-returns-in-Special g t c = rw c.in-Special.is c.special.ensures
 
 pub spelled_value-returns-in_err-value : goal.spelled_value-returns-in_err-value
 unfolding spelled_value
@@ -757,7 +785,7 @@ piece-returns-in-Inserted g t c =
 pub piece-returns-in-Value : goal.piece-returns-in-Value
 unfolding piece C.out-Piece denote.Hole.Carrier.out
 piece-returns-in-Value g t c =
-    rw (c.in-Value.is) c.spelled_value-in-Value.ensures
+    rw (c.in-Value.is) c.plain_spelled.ensures
 
 pub pieces-loop-one-init : goal.pieces-loop-one-init
 pieces-loop-one-init g t c =
@@ -1078,12 +1106,12 @@ unfolding built_in_call
 built_in_call-returns g t c =
     did_then _ (rw c.deeper.ensures at c.in_ok-passed.ensures) c.built_in_called.ensures
 
-pub built_in_by-returns-then-has_spread : goal.built_in_by-returns-then-has_spread
-built_in_by-returns-then-has_spread g t c =
+pub built_in_by-returns-then-has_spread-in-If : goal.built_in_by-returns-then-has_spread-in-If
+built_in_by-returns-then-has_spread-in-If g t c =
     rw c.in-If.is (did_yes _ _ _ (sym c.has_spread.ensures ∙ c.if-has_spread.true) (rw c.in-If.is at c.built_in_call.ensures))
 
-pub built_in_by-returns-else-has_spread : goal.built_in_by-returns-else-has_spread
-built_in_by-returns-else-has_spread g t c =
+pub built_in_by-returns-in-If : goal.built_in_by-returns-in-If
+built_in_by-returns-in-If g t c =
     rw c.in-If.is (did_no _ _ _ (sym c.has_spread.ensures ∙ c.if-has_spread.false) c.if_called.ensures)
 
 pub built_in_by-returns-in_default : goal.built_in_by-returns-in_default
@@ -1105,9 +1133,9 @@ unfolding call_value
 call-returns-in-BuiltIn g t c =
     did_then _ (rw c.in-BuiltIn.is at c.in_ok-called.ensures) c.built_in_by.ensures
 
-pub call-returns : goal.call-returns
+pub call-returns-in-Css : goal.call-returns-in-Css
 unfolding call_value
-call-returns g t c =
+call-returns-in-Css g t c =
     did_then _ (rw c.in-Css.is at c.in_ok-called.ensures) c.css_called.ensures
 
 pub included-returns-in_err-passed : goal.included-returns-in_err-passed
@@ -1155,12 +1183,14 @@ content-returns-in_err-here g t c =
     no_memory _ c.args.self.now.state _ _ _ c.from_residual.ensures
 
 pub content-returns-in-Some : goal.content-returns-in-Some
+unfolding content
 content-returns-in-Some g t c =
-    rw (content_some (value_to c.args.inner) (enter_to c.args.inner) c.args.statement.now c.in-Some.block c.args.self.now.state (rw c.in_ok-here.ensures at c.in-Some.is)) (rw (c.get.ensures, c.as_slice-arguments.ensures) at c.content_run.ensures)
+    rw (← c.in_ok-here.ensures, c.in-Some.is) (rw (c.get.ensures, c.as_slice-arguments.ensures) at c.content_run.ensures)
 
-pub content-returns : goal.content-returns
-content-returns g t c =
-    rw (content_none (value_to c.args.inner) (enter_to c.args.inner) c.args.statement.now c.args.self.now.state (rw c.in_ok-here.ensures at c.in-None.is)) (did_value _ c.args.self.now.state _ _)
+pub content-returns-in-None : goal.content-returns-in-None
+unfolding content
+content-returns-in-None g t c =
+    rw (← c.in_ok-here.ensures, c.in-None.is) (did_value _ c.args.self.now.state _ _)
 
 pub css_called-returns-in_err-name : goal.css_called-returns-in_err-name
 unfolding css_called
@@ -1211,3 +1241,302 @@ pub if_called-returns-in-None : goal.if_called-returns-in-None
 unfolding if_called
 if_called-returns-in-None g t c =
     rw (← c.in-None.ensures) (did_plain _ c.args.self.now.state _ _ _ (c.fails.ensures c.args.self.now.state))
+
+-- ---- at-rules
+
+pub media-returns-then-is_some : goal.media-returns-then-is_some
+unfolding media
+media-returns-then-is_some g t c =
+    rw (← c.is_some.ensures, c.if-is_some.true) (did_plain _ c.args.self.now.state _ _ _ (c.fails.ensures c.args.self.now.state))
+
+pub media-returns-in_err-text : goal.media-returns-in_err-text
+unfolding media
+media-returns-in_err-text g t c =
+    rw (← c.is_some.ensures, c.if-is_some.false) (did_err _ c.in_err-text.ensures c.from_residual.ensures)
+
+pub media-returns-in_err-goes_on : goal.media-returns-in_err-goes_on
+unfolding media
+media-returns-in_err-goes_on g t c =
+    rw (← c.is_some.ensures, c.if-is_some.false) (did_then _ c.in_ok-text.ensures (did_err _ (did_plain _ _ _ _ _ c.in_err-goes_on.ensures) c.from_residual-in_err-goes_on.ensures))
+
+pub media-returns-then-not-goes_on : goal.media-returns-then-not-goes_on
+unfolding media
+media-returns-then-not-goes_on g t c =
+    rw (← c.is_some.ensures, c.if-is_some.false) (did_then _ c.in_ok-text.ensures (did_then _ (did_plain _ _ _ _ _ c.in_ok-goes_on.ensures) (did_no _ _ _ c.if-not-goes_on.true (did_value _ _ _ _))))
+
+pub media-returns : goal.media-returns
+unfolding media
+media-returns g t c =
+    rw (← c.is_some.ensures, c.if-is_some.false) (did_then _ c.in_ok-text.ensures (did_then _ (did_plain _ _ _ _ _ c.in_ok-goes_on.ensures) (did_yes _ _ _ c.if-not-goes_on.false (rw c.as_slice.ensures at c.nested_block.ensures))))
+
+pub supports-returns-then-is_some : goal.supports-returns-then-is_some
+unfolding supports
+supports-returns-then-is_some g t c =
+    rw (← c.is_some.ensures, c.if-is_some.true) (did_plain _ c.args.self.now.state _ _ _ (c.fails.ensures c.args.self.now.state))
+
+pub supports-returns-in_err-text : goal.supports-returns-in_err-text
+unfolding supports
+supports-returns-in_err-text g t c =
+    rw (← c.is_some.ensures, c.if-is_some.false) (did_err _ c.in_err-text.ensures c.from_residual.ensures)
+
+pub supports-returns-in_err-name : goal.supports-returns-in_err-name
+unfolding supports
+supports-returns-in_err-name g t c =
+    rw (← c.is_some.ensures, c.if-is_some.false) (did_then _ c.in_ok-text.ensures (no_memory _ _ _ _ _ c.from_residual-in_err-name.ensures))
+
+pub supports-returns-in_err-enter_at_rule : goal.supports-returns-in_err-enter_at_rule
+unfolding supports
+supports-returns-in_err-enter_at_rule g t c =
+    rw (← c.is_some.ensures, c.if-is_some.false) (did_then _ c.in_ok-text.ensures (did_err _ (did_plain _ _ _ _ _ (rw c.in_ok-name.ensures at c.in_err-enter_at_rule.ensures)) c.from_residual-in_err-enter_at_rule.ensures))
+
+pub supports-returns : goal.supports-returns
+unfolding supports
+supports-returns g t c =
+    rw (← c.is_some.ensures, c.if-is_some.false) (did_then _ c.in_ok-text.ensures (did_then _ (did_plain _ _ _ _ _ (rw c.in_ok-name.ensures at c.in_ok-enter_at_rule.ensures)) (rw c.as_slice.ensures at c.nested_block.ensures)))
+
+pub root_with-returns-in_err-text : goal.root_with-returns-in_err-text
+unfolding root_with
+root_with-returns-in_err-text g t c =
+    did_err _ c.in_err-text.ensures c.from_residual.ensures
+
+pub root_with-returns-in_err-enter_rule : goal.root_with-returns-in_err-enter_rule
+unfolding root_with
+root_with-returns-in_err-enter_rule g t c =
+    did_then _ c.in_ok-text.ensures (did_err _ (did_plain _ _ _ _ _ c.in_err-enter_rule.ensures) c.from_residual-in_err-enter_rule.ensures)
+
+pub root_with-returns : goal.root_with-returns
+unfolding root_with
+root_with-returns g t c =
+    did_then _ c.in_ok-text.ensures (did_then _ (did_plain _ _ _ _ _ c.in_ok-enter_rule.ensures) c.nested_block.ensures)
+
+pub root_without-returns-in_err-enter_root : goal.root_without-returns-in_err-enter_root
+unfolding root_without
+root_without-returns-in_err-enter_root g t c =
+    no_memory_by _ _ _ _ _ _ _ _ c.in_err-enter_root.ensures c.from_residual.ensures
+
+pub root_without-returns : goal.root_without-returns
+unfolding root_without
+root_without-returns g t c =
+    rw (gives_state c.in_ok-enter_root.ensures) c.nested_block.ensures
+
+pub at_root-returns-then-is_some : goal.at_root-returns-then-is_some
+unfolding at_root
+at_root-returns-then-is_some g t c =
+    rw (← c.is_some.ensures, c.if-is_some.true) (did_plain _ c.args.self.now.state _ _ _ (c.fails.ensures c.args.self.now.state))
+
+pub at_root-returns-in-Some : goal.at_root-returns-in-Some
+unfolding at_root
+at_root-returns-in-Some g t c =
+    rw (← c.is_some.ensures, c.if-is_some.false) (rw c.in-Some.is (rw c.as_slice-block.ensures at c.root_with.ensures))
+
+pub at_root-returns-in-None : goal.at_root-returns-in-None
+unfolding at_root
+at_root-returns-in-None g t c =
+    rw (← c.is_some.ensures, c.if-is_some.false) (rw c.in-None.is (rw c.as_slice-block.ensures at c.root_without.ensures))
+
+pub block_by-returns-in_err-enter_at_rule-in-Some : goal.block_by-returns-in_err-enter_at_rule-in-Some
+block_by-returns-in_err-enter_at_rule-in-Some g t c =
+    rw c.in-Some.is (did_err _ (did_plain _ c.args.self.now.state _ _ _ c.in_err-enter_at_rule-in-Some.ensures) c.from_residual.ensures)
+
+pub block_by-returns-in_ok-enter_at_rule-in-Some : goal.block_by-returns-in_ok-enter_at_rule-in-Some
+block_by-returns-in_ok-enter_at_rule-in-Some g t c =
+    rw c.in-Some.is (did_then _ (did_plain _ c.args.self.now.state _ _ _ c.in_ok-enter_at_rule-in-Some.ensures) (rw c.as_slice-in-Some.ensures at c.nested_block-in-Some.ensures))
+
+pub block_by-returns-in_err-line_at_rule-in-None : goal.block_by-returns-in_err-line_at_rule-in-None
+block_by-returns-in_err-line_at_rule-in-None g t c =
+    rw c.in-None.is (did_err _ (did_plain _ c.args.self.now.state _ _ _ c.in_err-line_at_rule-in-None.ensures) c.from_residual-in_err-line_at_rule-in-None.ensures)
+
+pub block_by-returns-in_ok-line_at_rule-in-None : goal.block_by-returns-in_ok-line_at_rule-in-None
+block_by-returns-in_ok-line_at_rule-in-None g t c =
+    rw c.in-None.is (did_then _ (did_plain _ c.args.self.now.state _ _ _ c.in_ok-line_at_rule-in-None.ensures) (did_value _ _ _ _))
+
+pub at_rule-returns-then-is_some : goal.at_rule-returns-then-is_some
+unfolding at_rule
+at_rule-returns-then-is_some g t c =
+    rw (← c.is_some.ensures, c.if-is_some.true) (did_plain _ c.args.self.now.state _ _ _ (c.fails.ensures c.args.self.now.state))
+
+pub at_rule-returns-in_err-name : goal.at_rule-returns-in_err-name
+unfolding at_rule
+at_rule-returns-in_err-name g t c =
+    rw (← c.is_some.ensures, c.if-is_some.false) (did_err _ c.in_err-name.ensures c.from_residual.ensures)
+
+pub at_rule-returns-in_err-prelude : goal.at_rule-returns-in_err-prelude
+unfolding at_rule
+at_rule-returns-in_err-prelude g t c =
+    rw (← c.is_some.ensures, c.if-is_some.false) (did_then _ c.in_ok-name.ensures (did_err _ c.in_err-prelude.ensures c.from_residual-in_err-prelude.ensures))
+
+pub at_rule-returns-in_err-bare : goal.at_rule-returns-in_err-bare
+unfolding at_rule
+at_rule-returns-in_err-bare g t c =
+    rw (← c.is_some.ensures, c.if-is_some.false) (did_then _ c.in_ok-name.ensures (did_then _ c.in_ok-prelude.ensures (no_memory _ _ _ _ _ c.from_residual-in_err-bare.ensures)))
+
+pub at_rule-returns : goal.at_rule-returns
+unfolding at_rule
+at_rule-returns g t c =
+    rw (← c.is_some.ensures, c.if-is_some.false) (did_then _ c.in_ok-name.ensures (did_then _ c.in_ok-prelude.ensures (rw c.in_ok-bare.ensures at c.block_by.ensures)))
+
+pub inserted_texts-returns-in-Plain : goal.inserted_texts-returns-in-Plain
+unfolding inserted_texts T.out-Parts denote.Hole.Carrier.out
+inserted_texts-returns-in-Plain g t c =
+    rw (c.in-Plain.is, c.new.ensures) (did_value _ c.args.self.now.state _ _)
+
+pub inserted_texts-returns-in-Mixed : goal.inserted_texts-returns-in-Mixed
+unfolding inserted_texts
+inserted_texts-returns-in-Mixed g t c =
+    rw (c.in-Mixed.is, out_Mixed) (rw c.as_slice.ensures at c.inserted_pieces.ensures)
+
+pub inserted_pieces-returns-in_err-texts : goal.inserted_pieces-returns-in_err-texts
+unfolding inserted_pieces
+inserted_pieces-returns-in_err-texts g t c =
+    did_err _ (rw c.outside.ensures at c.in_err-texts.ensures) c.from_residual.ensures
+
+pub inserted_pieces-returns-in_err-values : goal.inserted_pieces-returns-in_err-values
+unfolding inserted_pieces
+inserted_pieces-returns-in_err-values g t c =
+    did_then _ (rw c.outside.ensures at c.in_ok-texts.ensures) (no_memory _ _ _ _ _ c.from_residual-in_err-values.ensures)
+
+pub inserted_pieces-returns : goal.inserted_pieces-returns
+unfolding inserted_pieces
+inserted_pieces-returns g t c =
+    did_then _ (rw c.outside.ensures at c.in_ok-texts.ensures) (rw (c.in_ok-values.ensures, c.as_slice.ensures) (did_value _ _ _ _))
+
+pub plain_import-returns-in_err-values : goal.plain_import-returns-in_err-values
+unfolding plain_import
+plain_import-returns-in_err-values g t c =
+    did_err _ c.in_err-values.ensures c.from_residual.ensures
+
+pub plain_import-returns-in_err-texts : goal.plain_import-returns-in_err-texts
+unfolding plain_import
+plain_import-returns-in_err-texts g t c =
+    did_then _ c.in_ok-values.ensures (did_refused _ _ _ _ _ _ _ (rw c.as_slice.ensures at c.in_err-texts.ensures) c.from_residual-in_err-texts.ensures)
+
+pub plain_import-returns-in_err-import_all : goal.plain_import-returns-in_err-import_all
+unfolding plain_import
+plain_import-returns-in_err-import_all g t c =
+    did_then _ c.in_ok-values.ensures (did_then _ (did_answer _ _ _ _ _ (rw c.as_slice.ensures at c.in_ok-texts.ensures)) (did_err _ (did_plain _ _ _ _ _ (rw c.as_slice-2.ensures at c.in_err-import_all.ensures)) c.from_residual-in_err-import_all.ensures))
+
+pub plain_import-returns : goal.plain_import-returns
+unfolding plain_import
+plain_import-returns g t c =
+    did_then _ c.in_ok-values.ensures (did_then _ (did_answer _ _ _ _ _ (rw c.as_slice.ensures at c.in_ok-texts.ensures)) (did_then _ (did_plain _ _ _ _ _ (rw c.as_slice-2.ensures at c.in_ok-import_all.ensures)) (did_value _ _ _ _)))
+
+pub import-returns-then-is_some : goal.import-returns-then-is_some
+unfolding import
+import-returns-then-is_some g t c =
+    rw (← c.is_some.ensures, c.if-is_some.true) (did_plain _ c.args.self.now.state _ _ _ (c.fails.ensures c.args.self.now.state))
+
+pub import-returns-in_err-template : goal.import-returns-in_err-template
+unfolding import
+import-returns-in_err-template g t c =
+    rw (← c.is_some.ensures, c.if-is_some.false) (did_refused _ _ _ _ c.args.self.now.state _ _ c.in_err-template.ensures c.from_residual.ensures)
+
+pub import-returns-in_err-parts : goal.import-returns-in_err-parts
+unfolding import
+import-returns-in_err-parts g t c =
+    rw (← c.is_some.ensures, c.if-is_some.false) (no_memory _ c.args.self.now.state _ _ _ c.from_residual-in_err-parts.ensures)
+
+pub import-returns : goal.import-returns
+unfolding import
+import-returns g t c =
+    rw (← c.is_some.ensures, c.if-is_some.false) (did_then _ (did_answer _ _ c.args.self.now.state _ _ c.in_ok-template.ensures) (rw (c.as_slice.ensures, c.in_ok-parts.ensures, c.as_str.ensures) at c.import_by.ensures))
+
+pub import_by-returns-then-not-all_plain : goal.import_by-returns-then-not-all_plain
+import_by-returns-then-not-all_plain g t c =
+    did_no _ _ _ (sym c.all_plain.ensures ∙ c.if-not-all_plain.true) (did_plain _ c.args.self.now.state _ _ _ (c.fails.ensures c.args.self.now.state))
+
+pub import_by-returns : goal.import_by-returns
+import_by-returns g t c =
+    did_yes _ _ _ (sym c.all_plain.ensures ∙ c.if-not-all_plain.false) c.plain_import.ensures
+
+-- ---- special text
+
+pub plain_spelled-returns-in_err-value : goal.plain_spelled-returns-in_err-value
+unfolding plain_spelled
+plain_spelled-returns-in_err-value g t c =
+    did_err _ (rw c.deeper.ensures at c.in_err-value.ensures) c.from_residual.ensures
+
+pub plain_spelled-returns : goal.plain_spelled-returns
+unfolding plain_spelled
+plain_spelled-returns g t c =
+    did_then _ (rw c.deeper.ensures at c.in_ok-value.ensures) (did_stopped _ _ _ c.value.new.self.state _ _ c.css_text.ensures c.stopped.ensures)
+
+pub value_behind-returns-in_err-value : goal.value_behind-returns-in_err-value
+unfolding value_behind
+value_behind-returns-in_err-value g t c =
+    did_err _ (rw c.deeper.ensures at c.in_err-value.ensures) c.from_residual.ensures
+
+pub value_behind-returns-in_err-push : goal.value_behind-returns-in_err-push
+unfolding value_behind
+value_behind-returns-in_err-push g t c =
+    did_then _ (rw c.deeper.ensures at c.in_ok-value.ensures) (no_memory _ _ _ _ _ c.from_residual-in_err-push.ensures)
+
+pub value_behind-returns : goal.value_behind-returns
+unfolding value_behind
+value_behind-returns g t c =
+    did_then _ (rw c.deeper.ensures at c.in_ok-value.ensures) (rw c.in_ok-push.ensures.ok (did_value _ _ _ _))
+
+pub piece_value-returns-in-Text : goal.piece_value-returns-in-Text
+unfolding piece_value C.out-Piece denote.Hole.Carrier.out
+piece_value-returns-in-Text g t c =
+    rw c.in-Text.is (did_value _ c.args.self.now.state _ _)
+
+pub piece_value-returns-in-Inserted : goal.piece_value-returns-in-Inserted
+unfolding piece_value C.out-Piece denote.Hole.Carrier.out
+piece_value-returns-in-Inserted g t c =
+    rw c.in-Inserted.is (did_value _ c.args.self.now.state _ _)
+
+pub piece_value-returns-in-Value : goal.piece_value-returns-in-Value
+unfolding piece_value C.out-Piece denote.Hole.Carrier.out
+piece_value-returns-in-Value g t c =
+    rw c.in-Value.is c.value_behind.ensures
+
+pub piece_values-loop-one-init : goal.piece_values-loop-one-init
+piece_values-loop-one-init g t c =
+    rw c.new-done.ensures (still _ _ _)
+
+pub piece_values-returns-in_err-done : goal.piece_values-returns-in_err-done
+piece_values-returns-in_err-done g t c =
+    ran_did (loop_at (λ l s. piece_values (value_to c.args.level.depth) c.args.level.parens l c.loop-one.done s) c.args.all.now c.loop-one.one-index c.one-item.result c.loop-one.self.state c.loop-one-test.true c.one-item.is c.loop-one.invariant) (did_err _ c.in_err-done.ensures c.from_residual.ensures)
+
+pub piece_values-loop-one-preserved : goal.piece_values-loop-one-preserved
+piece_values-loop-one-preserved g t c =
+    ran_then _ (loop_at (λ l s. piece_values (value_to c.args.level.depth) c.args.level.parens l c.loop-one.done s) c.args.all.now c.loop-one.one-index c.one-item.result c.loop-one.self.state c.loop-one-test.true c.one-item.is c.loop-one.invariant) c.in_ok-done.ensures
+
+pub piece_values-returns : goal.piece_values-returns
+piece_values-returns g t c =
+    ran_did (loop_end (λ l s. piece_values (value_to c.args.level.depth) c.args.level.parens l c.loop-one.done s) c.args.all.now c.loop-one.one-index c.loop-one.self.state (omega arith) c.loop-one.invariant) (did_value _ _ _ _)
+
+pub extremum_called-returns-in_err-values : goal.extremum_called-returns-in_err-values
+unfolding extremum_called
+extremum_called-returns-in_err-values g t c =
+    did_err _ c.in_err-values.ensures c.from_residual.ensures
+
+pub extremum_called-returns : goal.extremum_called-returns
+unfolding extremum_called
+extremum_called-returns g t c =
+    did_then _ c.in_ok-values.ensures (did_stopped _ _ _ c.piece_values.new.self.state _ _ (rw c.as_slice.ensures at c.extremum_value.ensures) c.stopped.ensures)
+
+pub special_text-returns-in_err-texts : goal.special_text-returns-in_err-texts
+unfolding special_text
+special_text-returns-in_err-texts g t c =
+    did_err _ c.in_err-texts.ensures c.from_residual.ensures
+
+pub special_text-returns : goal.special_text-returns
+unfolding special_text
+special_text-returns g t c =
+    did_then _ c.in_ok-texts.ensures (did_stopped _ _ _ c.pieces.new.self.state _ _ (rw c.as_slice.ensures at c.special_value.ensures) c.stopped.ensures)
+
+pub special-returns-in-Plain : goal.special-returns-in-Plain
+unfolding special T.out-Parts denote.Hole.Carrier.out
+special-returns-in-Plain g t c =
+    rw c.in-Plain.is (did_stopped _ _ _ c.args.self.now.state _ _ c.plain_special.ensures c.stopped.ensures)
+
+pub special-returns-in-Mixed-Some : goal.special-returns-in-Mixed-Some
+unfolding special
+special-returns-in-Mixed-Some g t c =
+    rw (c.in-Mixed.is, out_Mixed) (rw (rw c.as_slice.ensures at c.in-Some.is) c.extremum_called.ensures)
+
+pub special-returns-in-Mixed-None : goal.special-returns-in-Mixed-None
+unfolding special
+special-returns-in-Mixed-None g t c =
+    rw (c.in-Mixed.is, out_Mixed) (rw (rw c.as_slice.ensures at c.in-None.is) c.special_text.ensures)

@@ -5,6 +5,7 @@ use Rattle.sw_eval.specs.Flow.{block, branches, repeat, repeats}
 use Rattle.sw_eval.specs.Loops.{each, count, counts}
 use Rattle.sw_eval.specs.Means.{value_to, does_to}
 use Rattle.sw_eval.specs.Texts.{pieces}
+use Rattle.sw_eval.specs.Functions.{piece_values}
 use Rattle.sw_eval.specs.Expressions.{links, items, pairs}
 use Rattle.sw_scope.specs.Passed.{none_passed}
 use Rattle.sw_eval.specs.Passing.{arguments, fill}
@@ -211,6 +212,66 @@ decreases-rule g l = 64 * l.inner + 30
 abbrev pub decreases-properties : goal.decreases-properties
 decreases-properties g l = 64 * l.inner + 30
 
+abbrev pub decreases-nested_block : goal.decreases-nested_block
+decreases-nested_block g l = 64 * l.inner + 25
+
+abbrev pub decreases-media : goal.decreases-media
+decreases-media g l = 64 * l.inner + 30
+
+abbrev pub decreases-supports : goal.decreases-supports
+decreases-supports g l = 64 * l.inner + 30
+
+abbrev pub decreases-root_with : goal.decreases-root_with
+decreases-root_with g l = 64 * l.inner + 26
+
+abbrev pub decreases-root_without : goal.decreases-root_without
+decreases-root_without g l = 64 * l.inner + 26
+
+abbrev pub decreases-at_root : goal.decreases-at_root
+decreases-at_root g l = 64 * l.inner + 30
+
+abbrev pub decreases-block_by : goal.decreases-block_by
+decreases-block_by g l = 64 * l.inner + 26
+
+abbrev pub decreases-at_rule : goal.decreases-at_rule
+decreases-at_rule g l = 64 * l.inner + 30
+
+abbrev pub decreases-inserted_pieces : goal.decreases-inserted_pieces
+decreases-inserted_pieces g l = 64 * l.inner + 16
+
+abbrev pub decreases-inserted_texts : goal.decreases-inserted_texts
+decreases-inserted_texts g l = 64 * l.inner + 17
+
+abbrev pub decreases-plain_import : goal.decreases-plain_import
+decreases-plain_import g l = 64 * l.inner + 18
+
+abbrev pub decreases-import_by : goal.decreases-import_by
+decreases-import_by g l = 64 * l.inner + 19
+
+abbrev pub decreases-import : goal.decreases-import
+decreases-import g l = 64 * l.inner + 30
+
+abbrev pub decreases-plain_spelled : goal.decreases-plain_spelled
+decreases-plain_spelled g l = 64 * l.level.depth + 9
+
+abbrev pub decreases-value_behind : goal.decreases-value_behind
+decreases-value_behind g l = 64 * l.level.depth + 9
+
+abbrev pub decreases-piece_value : goal.decreases-piece_value
+decreases-piece_value g l = 64 * l.level.depth + 10
+
+abbrev pub decreases-piece_values : goal.decreases-piece_values
+decreases-piece_values g l = 64 * l.level.depth + 11
+
+abbrev pub decreases-extremum_called : goal.decreases-extremum_called
+decreases-extremum_called g l = 64 * l.level.depth + 12
+
+abbrev pub decreases-special_text : goal.decreases-special_text
+decreases-special_text g l = 64 * l.level.depth + 12
+
+abbrev pub decreases-special : goal.decreases-special
+decreases-special g l = 64 * l.level.depth + 14
+
 abbrev pub invariant-block-loop-one : goal.invariant-block-loop-one
 invariant-block-loop-one g l =
     Ran g.W.World.gives (block (does_to l.inner) l.all l.fn.self.state) (stand l.fn.self.asked) l.fn.world (block (does_to l.inner) (drop l.one-index l.all) l.self.state) (stand l.self.asked) l.world
@@ -260,3 +321,7 @@ invariant-arguments-loop-one g l =
 abbrev pub invariant-fill-loop-one : goal.invariant-fill-loop-one
 invariant-fill-loop-one g l =
     Ran g.W.World.gives (fill (value_to l.inner) l.params l.slots l.fn.self.state) (stand l.fn.self.asked) l.fn.world (fill (value_to l.inner) l.params (drop l.one-index l.slots) l.self.state) (stand l.self.asked) l.world
+
+abbrev pub invariant-piece_values-loop-one : goal.invariant-piece_values-loop-one
+invariant-piece_values-loop-one g l =
+    Ran g.W.World.gives (piece_values (value_to l.level.depth) l.level.parens l.all [] l.fn.self.state) (stand l.fn.self.asked) l.fn.world (piece_values (value_to l.level.depth) l.level.parens (drop l.one-index l.all) l.done l.self.state) (stand l.self.asked) l.world

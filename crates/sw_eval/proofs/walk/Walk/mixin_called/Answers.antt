@@ -1,10 +1,12 @@
-use Rattle.sw_eval.proofs.Cases.{called_plain, called_member}
+use Rattle.sw_eval.specs.Callees.{mixin_called}
 use Rattle.sw_eval.proofs.walk.Walk.mixin_called.Goals as goal
 
 pub returns-in-None : goal.returns-in-None
+unfolding mixin_called
 returns-in-None g c =
-    rw (called_plain c.args.mixin.now c.args.at.now c.args.self.now.state c.in-None.is) c.plain_mixin.ensures
+    rw c.in-None.is c.plain_mixin.ensures
 
 pub returns-in-Some : goal.returns-in-Some
+unfolding mixin_called
 returns-in-Some g c =
-    rw (called_member c.args.mixin.now c.in-Some.space c.args.at.now c.args.self.now.state c.in-Some.is) c.member_mixin.ensures
+    rw c.in-Some.is c.member_mixin.ensures

@@ -1,0 +1,10 @@
+use Rattle.sw_state.specs.AtRules.{root_entered}
+use Rattle.sw_state.proofs.Answering.{out_of_memory}
+use Rattle.sw_state.proofs.state.State.enter_root.Goals as goal
+
+pub returns-in_err-around : goal.returns-in_err-around
+returns-in_err-around c = out_of_memory _ _ _ c.from_residual.ensures
+
+pub returns : goal.returns
+unfolding root_entered
+returns c = rw (c.in_root.ensures, c.in_ok-around.ensures) at c.nest.ensures
