@@ -11,4 +11,9 @@ pub mod Written
 pub mod Filled
 pub mod Words
 pub mod Declared
+pub mod Imported
+pub mod Frames
+pub mod Spaced
+pub mod Extremes
 pub mod Named
+pub mod ImportLines

@@ -5,16 +5,10 @@ use Rattle.sw_text.specs.declared.fault.FaultCode.{FaultCode}
 use Rattle.sw_text.specs.declared.fault.FaultCode.TheVariants as C
 use Rattle.sw_text.specs.declared.place.Span.{Span}
 use Rattle.sw_syntax_tree.specs.declared.callable.Param.{Param}
-use Rattle.sw_syntax_tree.specs.declared.expr.Argument.{Argument}
-use Rattle.sw_syntax_tree.specs.declared.expr.Callee.{Callee}
 use Rattle.sw_syntax_tree.specs.declared.expr.Expr.{Expr}
-use Rattle.sw_syntax_tree.specs.declared.expr.ExprKind.{ExprKind, out-ExprKind}
+use Rattle.sw_syntax_tree.specs.declared.expr.ExprKind.{out-ExprKind}
 use Rattle.sw_syntax_tree.specs.declared.expr.ExprKind.TheOpen.{ExprKind-F, Parts-F}
-use Rattle.sw_syntax_tree.specs.declared.expr.Link.{Link}
-use Rattle.sw_syntax_tree.specs.declared.expr.Pair.{Pair}
-use Rattle.sw_syntax_tree.specs.declared.text.Parts.{Parts, out-Parts}
-use Rattle.sw_syntax_tree.specs.declared.text.Piece.{Piece}
-use Rattle.sw_syntax_tree.specs.declared.text.Text.{Text}
+use Rattle.sw_syntax_tree.specs.declared.text.Parts.{out-Parts}
 use Rattle.sw_values.specs.declared.plain.Plain.{Plain}
 use Rattle.sw_values.specs.declared.plain.Plain.TheVariants as N
 use Rattle.sw_scope.specs.declared.passed.Passed.{Passed}
@@ -30,6 +24,7 @@ use Rattle.sw_builtins.specs.Tables.{variable_of}
 use Rattle.sw_literals.specs.Answers.{Answer, refused, with}
 use Rattle.sw_literals.specs.Literals.{number_value, word_value, constant_value}
 use Rattle.sw_literals.specs.Quotients.{plain_at}
+use Rattle.sw_state.specs.Layers.{Kinds, Texts}
 use Rattle.sw_state.specs.Passing.{Slots, plain_passed, bound_by, default_at}
 
 -- the faults of functions; none of their meanings is want of memory
@@ -51,10 +46,7 @@ of_fn at (Err why) = refused (code_of why) at
 
 -- ---- arguments
 
-abbrev pub Kinds : Type 0
-Kinds = ExprKind-F ExprKind Parts Piece Argument Callee Expr Link Pair Text
-
-abbrev pub word_by : Parts-F ExprKind Parts Piece Argument Callee Expr Link Pair Text → Span → Answer Plain
+abbrev pub word_by : Texts → Span → Answer Plain
 word_by (Parts-F.Plain text) at = word_value text at
 word_by (Parts-F.Mixed ps) at = Ok N.Null
 

@@ -110,4 +110,5 @@ given_entry f content slots s =
 unfoldable pub mixin_entry : Found → Option Content → Passed → Span → Eval Entry
 mixin_entry f content p at s =
     if is_lost content f.callable then Fails (fault C.ArgumentFault at)
-    else bind (answer (bound f.callable.params p at) s) (λ slots. Gives (given_entry f content slots.0 slots.1, slots.1))
+    else bind (answer (bound f.callable.params p at) s)
+    (λ slots. Gives (given_entry f content slots.0 slots.1, slots.1))

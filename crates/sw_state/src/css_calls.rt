@@ -16,8 +16,8 @@ pub fn names_any(passed: &Passed) -> bool
     passed.faulty || !passed.named.is_empty()
 }
 
-// A comma behind texts, where there are any.
-fn add_comma(alloc: Global, done: &mut List<Name>) -> Result<(), Memory>
+/// A comma behind texts, where there are any.
+pub(crate) fn add_comma(alloc: Global, done: &mut List<Name>) -> Result<(), Memory>
     ensures { OnOk result (done.new ≡ done.old ++ comma_behind done.old) }
 {
     if done.is_empty() {
