@@ -26,7 +26,15 @@ pub record DoesNothing (status : ℕ) (old new : Surroundings) : Type 0 where
   pub seven : status ≡ 7
   pub left : new.left ≡ old.left
   pub written : new.written ≡ old.written
+  pub course : new.course ≡ old.course
   pub ran : new.ran ≡ old.ran
+
+-- a session without functions of a host, in which the disk isn't asked
+pub record Serves {State : Type 0} (setting : Setting) (hears : Hearing Reply State) (status : ℕ)
+    (old new : Surroundings) (before now : State) : Type 0 where
+  pub served : session.ServedWith setting hears status (session.surroundings old.left old.written old.ran [])
+      (session.surroundings new.left new.written new.ran []) before now
+  pub course : new.course ≡ old.course
 
 -- one compile of a disk's folder, without a look at the source
 pub record CompilesOnce {State : Type 0} (setting : Setting) (target : Target) (hears : Hearing Reply State)
@@ -42,9 +50,7 @@ pub record CompilesOnce {State : Type 0} (setting : Setting) (target : Target) (
 abbrev pub Runs : {State : Type 0} → Setting → Hearing Reply State → Option Form → ℕ → Surroundings → Surroundings
     → State → State → Type 0
 Runs setting hears None status old new before now = DoesNothing status old new × (now ≡ before)
-Runs setting hears (Some Session) status old new before now =
-    session.ServedWith setting hears status (session.surroundings old.left old.written old.ran [])
-    (session.surroundings new.left new.written new.ran []) before now
+Runs setting hears (Some Session) status old new before now = Serves setting hears status old new before now
 Runs setting hears (Some (Once target)) status old new before now =
     CompilesOnce setting target hears status old new before now
 Runs setting hears (Some (Poll target)) status old new before now =

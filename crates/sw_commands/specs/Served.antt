@@ -37,9 +37,9 @@ pub record Served (setting : Setting) (target : Target) (most : ℕ) (stop : Sto
 pub record ServedAndHeard {State : Type 0} (setting : Setting) (target : Target) (hears : Hearing Reply State)
     (most : ℕ) (stop : Stop) (old new : Surroundings) (before now : State) : Type 0 where
   pub served : Served setting target most stop old new
-  pub heard : HeardBy stop hears
+  pub heard : HeardBy (poll setting) stop hears served.served.marks
       (turns (poll setting) (held target old.course []) (script grammar most served.served.taken).events
-      served.served.marks) before now
+      served.served.marks) served.served.out before now
 
 -- a poll of at most 1,000,000 scans ended with this status
 abbrev pub ServedWith : {State : Type 0} → Setting → Target → Hearing Reply State → ℕ → Surroundings → Surroundings

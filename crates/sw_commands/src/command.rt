@@ -1,7 +1,7 @@
 // The command line.
-ghost use Rattle.std.specs.Prelude.{◌≡◌};
+ghost use Rattle.std.specs.Prelude.{◌≡◌, None, Some};
 ghost use Rattle.sw_io.specs.Causes.{Rose};
-ghost use Rattle.sw_command_line.specs.Forms.{form_of};
+ghost use Rattle.sw_command_line.specs.Forms.{form_of, Target, Session, Once};
 ghost use Rattle.sw_session.specs.Sheets.{hostless};
 ghost use Rattle.sw_commands.specs.Run.{surroundings, Runs};
 
@@ -10,7 +10,7 @@ use std::alloc::Global;
 use sw_command_line::{Command, command_of};
 use sw_disk_compile::once;
 use sw_io::{Disk, Sink, Source};
-use sw_protocol::Audience;
+use sw_protocol::{Audience, Output};
 use sw_record::Reply;
 use sw_session::{SheetReader, serve};
 use sw_text::Name;
@@ -28,27 +28,28 @@ pub fn run<S: Source, K: Sink, D: Disk, E: Engine, T: Audience<Reply>>(
     alloc: Global,
     words: &[Name],
     source: &mut S,
-    sink: &mut K,
+    output: &mut Output<K, T>,
     disk: &mut D,
     engine: &mut E,
-    audience: &mut T,
 ) -> u8
     ensures runs { Runs (hostless E.body) T.hears (form_of words.now) result
-        (surroundings (S.left source.old) (K.written sink.old) (D.course disk.old) (E.ran engine.old))
-        (surroundings (S.left source.new) (K.written sink.new) (D.course disk.new) (E.ran engine.new))
-        (T.state audience.old) (T.state audience.new) }
+        (surroundings (S.left source.old) (K.written output.old.sink) (D.course disk.old) (E.ran engine.old))
+        (surroundings (S.left source.new) (K.written output.new.sink) (D.course disk.new) (E.ran engine.new))
+        (T.state output.old.audience) (T.state output.new.audience) }
+    ensures no_command { form_of words.now ≡ None
+        → (source.new ≡ source.old) × (output.new ≡ output.old) × (disk.new ≡ disk.old) × (engine.new ≡ engine.old) }
+    ensures no_disk { form_of words.now ≡ Some Session → disk.new ≡ disk.old }
+    ensures no_source { (target : Target) → form_of words.now ≡ Some (Once target) → source.new ≡ source.old }
     ensures source_fault { result ≡ 4 → Rose (S.faults source.old) (S.faults source.new) }
-    ensures sink_fault { result ≡ 5 → Rose (K.faults sink.old) (K.faults sink.new) }
+    ensures sink_fault { result ≡ 5 → Rose (K.faults output.old.sink) (K.faults output.new.sink) }
     ensures disk_fault { result ≡ 8 → Rose (D.faults disk.old) (D.faults disk.new) }
 {
     match command_of(words) {
         None => NO_COMMAND,
-        Some(Command::Session) => serve(alloc, source, sink, engine, &mut NoHosts, audience),
+        Some(Command::Session) => serve(alloc, source, output, engine, &mut NoHosts),
         Some(Command::Once(target)) => {
-            once(alloc, &SheetReader, &target, sink, disk, engine, audience).status()
+            once(alloc, &SheetReader, &target, output, disk, engine).status()
         }
-        Some(Command::Poll(target)) => poll_folder(
-            alloc, &target, source, sink, disk, engine, audience,
-        ),
+        Some(Command::Poll(target)) => poll_folder(alloc, &target, source, output, disk, engine),
     }
 }

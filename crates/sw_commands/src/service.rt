@@ -10,7 +10,7 @@ use std::alloc::Global;
 use sw_command_line::Target;
 use sw_disk_compile::Watched;
 use sw_io::{Disk, Sink, Source};
-use sw_protocol::{Audience, Lines, Service, Stop};
+use sw_protocol::{Audience, Lines, Output, Service, Stop};
 use sw_record::Reply;
 use sw_session::SheetReader;
 use sw_world::Engine;
@@ -26,22 +26,21 @@ pub fn poll_folder<S: Source, K: Sink, D: Disk, E: Engine, T: Audience<Reply>>(
     alloc: Global,
     target: &Target<'_>,
     source: &mut S,
-    sink: &mut K,
+    output: &mut Output<K, T>,
     disk: &mut D,
     engine: &mut E,
-    audience: &mut T,
 ) -> u8
     ensures served { ServedWith (hostless E.body) (target_seen target.now) T.hears result
-        (surroundings (S.left source.old) (K.written sink.old) (D.course disk.old target.now.dir.now)
+        (surroundings (S.left source.old) (K.written output.old.sink) (D.course disk.old target.now.dir.now)
         (E.ran engine.old))
-        (surroundings (S.left source.new) (K.written sink.new) (D.course disk.new target.now.dir.now)
+        (surroundings (S.left source.new) (K.written output.new.sink) (D.course disk.new target.now.dir.now)
         (E.ran engine.new))
-        (T.state audience.old) (T.state audience.new) }
+        (T.state output.old.audience) (T.state output.new.audience) }
     ensures source_fault { result ≡ 4 → Rose (S.faults source.old) (S.faults source.new) }
-    ensures sink_fault { result ≡ 5 → Rose (K.faults sink.old) (K.faults sink.new) }
+    ensures sink_fault { result ≡ 5 → Rose (K.faults output.old.sink) (K.faults output.new.sink) }
     ensures disk_fault { result ≡ 8 → Rose (D.faults disk.old) (D.faults disk.new) }
 {
-    polled(alloc, target, source, sink, disk, engine, audience).status()
+    polled(alloc, target, source, output, disk, engine).status()
 }
 
 // The same, and tells how the poll ended.
@@ -49,19 +48,18 @@ fn polled<S: Source, K: Sink, D: Disk, E: Engine, T: Audience<Reply>>(
     alloc: Global,
     target: &Target<'_>,
     source: &mut S,
-    sink: &mut K,
+    output: &mut Output<K, T>,
     disk: &mut D,
     engine: &mut E,
-    audience: &mut T,
 ) -> Stop
     ensures served { ServedAndHeard (hostless E.body) (target_seen target.now) T.hears 1000000 result
-        (surroundings (S.left source.old) (K.written sink.old) (D.course disk.old target.now.dir.now)
+        (surroundings (S.left source.old) (K.written output.old.sink) (D.course disk.old target.now.dir.now)
         (E.ran engine.old))
-        (surroundings (S.left source.new) (K.written sink.new) (D.course disk.new target.now.dir.now)
+        (surroundings (S.left source.new) (K.written output.new.sink) (D.course disk.new target.now.dir.now)
         (E.ran engine.new))
-        (T.state audience.old) (T.state audience.new) }
+        (T.state output.old.audience) (T.state output.new.audience) }
     ensures source_fault { result ≡ Stop.SourceFailed → Rose (S.faults source.old) (S.faults source.new) }
-    ensures sink_fault { result ≡ Stop.SinkFailed → Rose (K.faults sink.old) (K.faults sink.new) }
+    ensures sink_fault { result ≡ Stop.SinkFailed → Rose (K.faults output.old.sink) (K.faults output.new.sink) }
     ensures disk_fault { result ≡ Stop.OutsideFailed → Rose (D.faults disk.old) (D.faults disk.new) }
 {
     match Lines::new(alloc) {
@@ -73,7 +71,7 @@ fn polled<S: Source, K: Sink, D: Disk, E: Engine, T: Audience<Reply>>(
                 alloc,
             };
             let mut service = Service { lines, protocol };
-            service.answer_all(MOST_REQUESTS, source, sink, engine, disk, audience)
+            service.answer_all(MOST_REQUESTS, source, output, engine, disk)
         }
     }
 }

@@ -10,7 +10,7 @@ use Rattle.sw_record.specs.declared.reply.Reply.{Reply}
 use Rattle.sw_record.specs.declared.reply.Outcome.{Outcome}
 use Rattle.sw_record.specs.declared.reply.Outcome.TheVariants.{Css, Error}
 use Rattle.sw_protocol.specs.Heard.{Hearing}
-use Rattle.sw_keeper.specs.Compile.{compiled, CompilesTo}
+use Rattle.sw_keeper.specs.Compile.{compiled, CompilesTo, paths_of}
 use Rattle.sw_keeper.specs.Keeping.{Keeping}
 use Rattle.sw_disk_compile.specs.declared.ending.Ending.{Ending}
 use Rattle.sw_disk_compile.specs.declared.ending.Ending.TheVariants.{Css as Css_end, Error as Error_end, SinkFailed, Memory, DiskFailed}
@@ -39,5 +39,5 @@ module _ {State : Type 0} (setting : Setting) (target : Target) (hears : Hearing
   ends_by Error_end (Css bytes) e c w h = absurd w
   ends_by Error_end (Error fault) e c w h = (fault, record { reply = reply; compiles = c; is = e; sends = w; heard = h })
   ends_by SinkFailed outcome e c w h = (record { reply = reply; compiles = c; front = w.0; back = w.1; parts = ap text_of e ∙ w.2; sends = w.3 }, h)
-  ends_by Memory outcome e c w h = (record { read = read_on old.course new.course c.folder c.read; sends = w }, h)
+  ends_by Memory outcome e c w h = (record { read = read_on old.course new.course c.folder c.read; more = paths_of reply.ran; told = c.told; sends = w }, h)
   ends_by DiskFailed outcome e c w h = absurd w

@@ -71,9 +71,11 @@ pub record Breaks (setting : Setting) (target : Target) (old new : Surroundings)
   pub parts : text_of reply.outcome ≡ front ++ back
   pub sends : Appends old.written new.written front
 
--- nothing was written
+-- nothing was written; the bodies that ran are told
 pub record Forgets (old new : Surroundings) : Type 0 where
   pub read : IsBrokenOff old.course new.course
+  pub more : List (List ℕ)
+  pub told : new.ran ≡ old.ran ++ more
   pub sends : Appends old.written new.written []
 
 -- a front of these bytes was written

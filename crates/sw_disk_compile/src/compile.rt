@@ -11,7 +11,7 @@ use sw_command_line::Target;
 use sw_folders::read_folder;
 use sw_io::{Disk, DiskEnd, Sink};
 use sw_keeper::Reader;
-use sw_protocol::{Audience, send};
+use sw_protocol::{Audience, Output, send};
 use sw_record::{Outcome, Reply};
 use sw_text::{Fault, List, Memory};
 use sw_wire::write_reply;
@@ -24,16 +24,15 @@ pub fn once<R: Reader, K: Sink, D: Disk, E: Engine, T: Audience<Reply>>(
     alloc: Global,
     reader: &R,
     target: &Target<'_>,
-    sink: &mut K,
+    output: &mut Output<K, T>,
     disk: &mut D,
     engine: &mut E,
-    audience: &mut T,
 ) -> Ending
     ensures ends { EndsBy result (hostless R.reads E.body) (target_seen target.now) T.hears
-        (surroundings (D.course disk.old target.now.dir.now) (K.written sink.old) (E.ran engine.old))
-        (surroundings (D.course disk.new target.now.dir.now) (K.written sink.new) (E.ran engine.new))
-        (T.state audience.old) (T.state audience.new) }
-    ensures sink_fault { result ≡ Ending.SinkFailed → Rose (K.faults sink.old) (K.faults sink.new) }
+        (surroundings (D.course disk.old target.now.dir.now) (K.written output.old.sink) (E.ran engine.old))
+        (surroundings (D.course disk.new target.now.dir.now) (K.written output.new.sink) (E.ran engine.new))
+        (T.state output.old.audience) (T.state output.new.audience) }
+    ensures sink_fault { result ≡ Ending.SinkFailed → Rose (K.faults output.old.sink) (K.faults output.new.sink) }
     ensures disk_fault { result ≡ Ending.DiskFailed → Rose (D.faults disk.old) (D.faults disk.new) }
 {
     let mut watched = Watched::<R, E>::new(alloc);
@@ -43,8 +42,8 @@ pub fn once<R: Reader, K: Sink, D: Disk, E: Engine, T: Audience<Reply>>(
         Ok(()) => match watched.compile(reader, target.entry, target.paths, engine) {
             Err(Memory) => Ending::Memory,
             Ok(reply) => {
-                let ending = write_outcome(alloc, &reply.outcome, sink);
-                tell_written(ending, &reply, audience);
+                let ending = write_outcome(alloc, &reply.outcome, &mut output.sink);
+                tell_written(ending, &reply, &mut output.audience);
                 ending
             }
         },

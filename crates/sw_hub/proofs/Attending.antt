@@ -7,7 +7,7 @@ use Rattle.sw_record.specs.declared.reply.Reply.{Reply}
 use Rattle.sw_io.specs.Causes.{Rose}
 use Rattle.sw_protocol.specs.Heard.{HearsAll}
 use Rattle.sw_hub.specs.Hearing.{with_reply}
-use Rattle.sw_hub.specs.Hubs.{Known, HasHeard, FallsSilent, Called, Told, Each, Tells, with_all, HeardAll, FellSilent, Attended}
+use Rattle.sw_hub.specs.Hubs.{Known, HasHeard, FallsSilent, Called, Told, Each, Tells, with_all, counted_all, HeardAll, FellSilent, Attended}
 
 none_more : (heard : Option (List Reply)) → heard ≡ with_all [] heard
 none_more None = refl
@@ -20,7 +20,7 @@ one_more reply replies (Some heard) = ap (λ (x : List Reply). Some x) (append_a
 -- nothing was told
 stays : (b c : Bool) (x : Known) → b ≡ c → Attended b c [] x x
 stays true c x e = refl
-stays false false x e = (refl, record { heard = none_more x.heard; faults = omega arith })
+stays false false x e = (refl, record { heard = none_more x.heard; count = refl; faults = omega arith })
 stays false true x e = cc
 
 -- one reply, and then the others
@@ -30,6 +30,7 @@ module _ (reply : Reply) (replies : List Reply) (old mid new : Known) where
     more.0 ∙ one.0,
     record {
       heard = more.1.heard ∙ ap (with_all replies) one.1.heard ∙ one_more reply replies old.heard;
+      count = more.1.count ∙ ap (counted_all replies) one.1.count;
       faults = omega (arith, one.1.faults, more.1.faults);
     },
   )
@@ -40,6 +41,7 @@ module _ (reply : Reply) (replies : List Reply) (old mid new : Known) where
       back = more.1.back;
       order = ap (λ (x : List Reply). reply ∷ x) more.1.order;
       heard = more.1.heard ∙ ap (with_all more.1.front) one.1.heard ∙ one_more reply more.1.front old.heard;
+      count = more.1.count ∙ ap (counted_all more.1.front) one.1.count;
       cause = omega (arith, one.1.faults, more.1.cause);
     },
   )
@@ -53,6 +55,7 @@ module _ (reply : Reply) (replies : List Reply) (old mid new : Known) where
       back = reply ∷ replies;
       order = refl;
       heard = ap (λ (x : Known). x.heard) same ∙ one.1.heard ∙ none_more old.heard;
+      count = ap (λ (x : Known). x.count) same ∙ one.1.count;
       cause = subst (λ (x : Known). Rose old.faults x.faults) (sym same) one.1.cause;
     },
   )

@@ -66,9 +66,15 @@ Tells reply before now = Each before now (λ old new. Told old.silent reply old 
 abbrev pub with_all : List Reply → Option (List Reply) → Option (List Reply)
 with_all replies = option_map (λ (heard : List Reply). heard ++ replies)
 
+-- so many more, where their number is told
+abbrev pub counted_all : List Reply → Option ℕ → Option ℕ
+counted_all [] count = count
+counted_all (reply ∷ replies) count = counted_all replies (counted count)
+
 -- it heard all of these replies
 pub record HeardAll (replies : List Reply) (before now : Known) : Type 0 where
   pub heard : now.heard ≡ with_all replies before.heard
+  pub count : now.count ≡ counted_all replies before.count
   pub faults : before.faults ≤ now.faults
 
 -- it heard the first of these replies, until its own count of faults rose
@@ -77,6 +83,7 @@ pub record FellSilent (replies : List Reply) (before now : Known) : Type 0 where
   pub back : List Reply
   pub order : replies ≡ front ++ back
   pub heard : now.heard ≡ with_all front before.heard
+  pub count : now.count ≡ counted_all front before.count
   pub cause : Rose before.faults now.faults
 
 -- what came of one that is attached, by whether it was silent before and is now

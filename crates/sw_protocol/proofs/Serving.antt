@@ -10,7 +10,7 @@ use Rattle.sw_protocol.specs.Script.{Next, Whole, Closing, NoRequest, Short, End
 use Rattle.sw_protocol.specs.Protocol.{Protocol, Turn}
 use Rattle.sw_protocol.specs.Transcript.{AreMarks, AreSaid, turns, text, ran_in, held_after}
 use Rattle.sw_protocol.specs.Turns.{Place, place, Uses, Standing, Does, Answers, Breaks, Leaves, TurnEnds, LastEnds}
-use Rattle.sw_protocol.specs.Served.{Surroundings, surroundings, Served, EndsIn, Did, Tells, LeavesOff, TellsBy, AllButLast, SaidBy}
+use Rattle.sw_protocol.specs.Served.{Surroundings, surroundings, EndsIn, Did, Tells, LeavesOff, TellsBy, AllButLast, SaidBy}
 use Rattle.sw_protocol.specs.Heard.{told_in, Hearing, HearsAll, HearsButLast, HeardBy, ServedAndHeard}
 use Rattle.sw_protocol.proofs.Writing.{appends_none, appends_on}
 
@@ -309,10 +309,11 @@ module _ {Event Mark Held Reply : Type 0} (p : Protocol Event Mark Held Reply) (
     none_served : (stop : Stop) → EndsIn stop (script p.grammar most ((g.used ++ used) ++ new.ahead)).ending new.left
         → SaidBy p stop start.held (script p.grammar most ((g.used ++ used) ++ new.ahead)).events (g.marks ++ [])
         → TellsBy p stop (script p.grammar most ((g.used ++ used) ++ new.ahead)).events (g.marks ++ []) (turns p start.held (script p.grammar most ((g.used ++ used) ++ new.ahead)).events (g.marks ++ [])) ((g.used ++ used) ++ new.ahead) (text g.done ++ [])
-        → ((done : List (Turn Held Reply)) → HearsAll hears (told_in done) first now → HeardBy stop hears done first now)
+        → (HearsAll hears (told_in (turns p start.held (script p.grammar most ((g.used ++ used) ++ new.ahead)).events (g.marks ++ []))) first now
+        → HeardBy p stop hears (g.marks ++ []) (turns p start.held (script p.grammar most ((g.used ++ used) ++ new.ahead)).events (g.marks ++ [])) (text g.done ++ []) first now)
         → ServedAndHeard p hears most stop (around old start) (around new t) first now
     none_served stop ends said tells by = record {
-      heard = by _ none_heard;
+      heard = by none_heard;
       served = record {
         taken = (g.used ++ used) ++ new.ahead;
         marks = g.marks ++ [];
@@ -338,7 +339,7 @@ module _ {Event Mark Held Reply : Type 0} (p : Protocol Event Mark Held Reply) (
         → EndsIn stop ending new.left
         → ((h : Held) (events : List Event) (marks : List Mark) → AreSaid p h events marks → SaidBy p stop h events marks)
         → ((events : List Event) (marks : List Mark) (done : List (Turn Held Reply)) (taken out : List ℕ) → Tells events marks done out → TellsBy p stop events marks done taken out)
-        → ((done : List (Turn Held Reply)) → HearsAll hears (told_in done) first now → HeardBy stop hears done first now)
+        → ((marks : List Mark) (done : List (Turn Held Reply)) (out : List ℕ) → HearsAll hears (told_in done) first now → HeardBy p stop hears marks done out first now)
         → ServedAndHeard p hears most stop (around old start) (around new t) first now
     closes stop ending is ends said tells by = none_served stop
         (rw (append_assoc g.used used new.ahead, g.ending (used ++ new.ahead), is) ends)
@@ -346,11 +347,11 @@ module _ {Event Mark Held Reply : Type 0} (p : Protocol Event Mark Held Reply) (
         (tells _ _ _ _ _ (record {
           each = rw (append_assoc g.used used new.ahead) (counted g.marks _ _ (g.each (used ++ new.ahead)) (ap (λ (x : Script Event). length x.events) is));
           written = none_written;
-        })) by
+        })) (by _ _ _)
 
     -- want of memory: what was answered stays whole
     forgets : ServedAndHeard p hears most Memory (around old start) (around new t) first now
-    forgets = none_served Memory tt (inl none_said) (inl none_written) (λ done w. inl w)
+    forgets = none_served Memory tt (inl none_said) (inl none_written) (λ w. inl (none_written, w))
 
   breaks_off : {State : Type 0} (hears : Hearing Reply State) (first now : State) (n : ℕ) (s t : Standing Held) (old mid new : Place) → old.ahead ≡ []
       → (g : Going p most start (suc n) s old mid) → HearsAll hears (told_in g.done) first now → Breaks (next p.grammar) p mid s new t
@@ -387,14 +388,29 @@ module _ {Event Mark Held Reply : Type 0} (p : Protocol Event Mark Held Reply) (
 
   module _ {State : Type 0} (hears : Hearing Reply State) (first now : State) (n : ℕ) (s t : Standing Held) (old mid new : Place) (e : old.ahead ≡ [])
       (g : Going p most start (suc n) s old mid) (h : HearsAll hears (told_in g.done) first now) where
+    left_off : (stop : Stop) (b : Leaves stop (next p.grammar) p mid s new t)
+        → LeavesOff p stop (g.marks ++ b.says.does.mark ∷ []) (turns p start.held (script p.grammar most ((g.used ++ b.takes.used) ++ new.ahead)).events (g.marks ++ b.says.does.mark ∷ [])) (text g.done ++ [])
+    left_off stop b = record {
+      said = g.marks;
+      mark = b.says.does.mark;
+      marks_order = refl;
+      left = b.says.left;
+      whole = g.done;
+      unsaid = p.turn_of s.held b.event b.says.does.mark;
+      order = last_order n s t old mid g b.takes.used b.event b.takes.whole b.says.does new.ahead;
+      written = append-nil (text g.done);
+    }
+
     left_served : (stop : Stop) (b : Leaves stop (next p.grammar) p mid s new t) → EndsIn stop (script p.grammar most ((g.used ++ b.takes.used) ++ new.ahead)).ending new.left
         → ((h : Held) (events : List Event) (marks : List Mark) → AllButLast p h events marks → SaidBy p stop h events marks)
         → (LeavesOff p stop (g.marks ++ b.says.does.mark ∷ []) (turns p start.held (script p.grammar most ((g.used ++ b.takes.used) ++ new.ahead)).events (g.marks ++ b.says.does.mark ∷ [])) (text g.done ++ [])
         → TellsBy p stop (script p.grammar most ((g.used ++ b.takes.used) ++ new.ahead)).events (g.marks ++ b.says.does.mark ∷ []) (turns p start.held (script p.grammar most ((g.used ++ b.takes.used) ++ new.ahead)).events (g.marks ++ b.says.does.mark ∷ [])) ((g.used ++ b.takes.used) ++ new.ahead) (text g.done ++ []))
-        → ((done : List (Turn Held Reply)) → HearsButLast hears done first now → HeardBy stop hears done first now)
+        → (LeavesOff p stop (g.marks ++ b.says.does.mark ∷ []) (turns p start.held (script p.grammar most ((g.used ++ b.takes.used) ++ new.ahead)).events (g.marks ++ b.says.does.mark ∷ [])) (text g.done ++ [])
+        → HearsButLast hears (turns p start.held (script p.grammar most ((g.used ++ b.takes.used) ++ new.ahead)).events (g.marks ++ b.says.does.mark ∷ [])) first now
+        → HeardBy p stop hears (g.marks ++ b.says.does.mark ∷ []) (turns p start.held (script p.grammar most ((g.used ++ b.takes.used) ++ new.ahead)).events (g.marks ++ b.says.does.mark ∷ [])) (text g.done ++ []) first now)
         → ServedAndHeard p hears most stop (around old start) (around new t) first now
     left_served stop b ends said tells by = record {
-      heard = by _ (record {
+      heard = by (left_off stop b) (record {
         firsts = g.done;
         last = p.turn_of s.held b.event b.says.does.mark;
         order = last_order n s t old mid g b.takes.used b.event b.takes.whole b.says.does new.ahead;
@@ -410,45 +426,36 @@ module _ {Event Mark Held Reply : Type 0} (p : Protocol Event Mark Held Reply) (
         marked = last_marked n s t old mid g b.takes.used b.event b.takes.whole b.says.does new.ahead;
         said = said _ _ _ (last_said n s t old mid g b.takes.used b.event b.takes.whole b.says.does new.ahead);
         did = last_did n s t old mid g b.takes.used b.event b.takes.whole b.says.does new.ahead old new;
-        tells = tells (record {
-          said = g.marks;
-          mark = b.says.does.mark;
-          marks_order = refl;
-          left = b.says.left;
-          whole = g.done;
-          unsaid = p.turn_of s.held b.event b.says.does.mark;
-          order = last_order n s t old mid g b.takes.used b.event b.takes.whole b.says.does new.ahead;
-          written = append-nil (text g.done);
-        });
+        tells = tells (left_off stop b);
       };
     }
 
     pub turn_ends : (stop : Stop) → TurnEnds (next p.grammar) p stop mid s new t → ServedAndHeard p hears most stop (around old start) (around new t) first now
-    turn_ends Ended (f, r) = closes (suc n) s t old mid new f.used e g f.uses f.sends r hears first now h Ended End (script_next p.grammar n (f.used ++ new.ahead) Closing (f.means new.ahead)) refl (λ held events marks w. w) (λ events marks done taken out w. w) (λ done w. w)
-    turn_ends Wrong (f, r) = closes (suc n) s t old mid new f.used e g f.uses f.sends r hears first now h Wrong Bad (script_next p.grammar n (f.used ++ new.ahead) NoRequest (f.means new.ahead)) refl (λ held events marks w. w) (λ events marks done taken out w. w) (λ done w. w)
+    turn_ends Ended (f, r) = closes (suc n) s t old mid new f.used e g f.uses f.sends r hears first now h Ended End (script_next p.grammar n (f.used ++ new.ahead) Closing (f.means new.ahead)) refl (λ held events marks w. w) (λ events marks done taken out w. w) (λ marks done out w. w)
+    turn_ends Wrong (f, r) = closes (suc n) s t old mid new f.used e g f.uses f.sends r hears first now h Wrong Bad (script_next p.grammar n (f.used ++ new.ahead) NoRequest (f.means new.ahead)) refl (λ held events marks w. w) (λ events marks done taken out w. w) (λ marks done out w. w)
     turn_ends CutOff (f, z, r) =
-        closes (suc n) s t old mid new f.used e g f.uses f.sends r hears first now h CutOff Cut (script_next p.grammar n (f.used ++ new.ahead) Short (ap (next p.grammar) (drained f.used new.ahead f.none) ∙ f.means)) (refl, z) (λ held events marks w. w) (λ events marks done taken out w. w) (λ done w. w)
+        closes (suc n) s t old mid new f.used e g f.uses f.sends r hears first now h CutOff Cut (script_next p.grammar n (f.used ++ new.ahead) Short (ap (next p.grammar) (drained f.used new.ahead f.none) ∙ f.means)) (refl, z) (λ held events marks w. w) (λ events marks done taken out w. w) (λ marks done out w. w)
     turn_ends SourceFailed (f, r) =
-        closes (suc n) s t old mid new f.used e g f.uses f.sends r hears first now h SourceFailed Cut (script_next p.grammar n (f.used ++ new.ahead) Short (ap (next p.grammar) (drained f.used new.ahead f.none) ∙ f.means)) refl (λ held events marks w. w) (λ events marks done taken out w. w) (λ done w. w)
+        closes (suc n) s t old mid new f.used e g f.uses f.sends r hears first now h SourceFailed Cut (script_next p.grammar n (f.used ++ new.ahead) Short (ap (next p.grammar) (drained f.used new.ahead f.none) ∙ f.means)) refl (λ held events marks w. w) (λ events marks done taken out w. w) (λ marks done out w. w)
     turn_ends SinkFailed b = breaks_off hears first now n s t old mid new e g h b
     turn_ends Memory (inl (f, r)) = forgets (suc n) s t old mid new f.used e g f.uses f.sends r hears first now h
-    turn_ends Memory (inr b) = left_served Memory b tt (λ held events marks x. inr x) (λ x. inr x) (λ done x. inr x)
-    turn_ends OutsideFailed b = left_served OutsideFailed b tt (λ held events marks x. x) (λ x. x) (λ done x. x)
+    turn_ends Memory (inr b) = left_served Memory b tt (λ held events marks x. inr x) (λ x. inr x) (λ l x. inr (l, x))
+    turn_ends OutsideFailed b = left_served OutsideFailed b tt (λ held events marks x. x) (λ x. x) (λ l x. x)
     turn_ends Over_stop x = absurd x
 
   module _ {State : Type 0} (hears : Hearing Reply State) (first now : State) (s : Standing Held) (old mid new : Place) (e : old.ahead ≡ [])
       (g : Going p most start zero s old mid) (h : HearsAll hears (told_in g.done) first now) where
     pub last_ends : (stop : Stop) → LastEnds p.grammar stop mid new → ServedAndHeard p hears most stop (around old start) (around new s) first now
-    last_ends Ended f = closes zero s s old mid new f.used e g f.uses f.sends refl hears first now h Ended End (script_last p.grammar (f.used ++ new.ahead) End (f.means new.ahead)) refl (λ held events marks w. w) (λ events marks done taken out w. w) (λ done w. w)
-    last_ends Wrong f = closes zero s s old mid new f.used e g f.uses f.sends refl hears first now h Wrong Bad (script_last p.grammar (f.used ++ new.ahead) Bad (f.means new.ahead)) refl (λ held events marks w. w) (λ events marks done taken out w. w) (λ done w. w)
+    last_ends Ended f = closes zero s s old mid new f.used e g f.uses f.sends refl hears first now h Ended End (script_last p.grammar (f.used ++ new.ahead) End (f.means new.ahead)) refl (λ held events marks w. w) (λ events marks done taken out w. w) (λ marks done out w. w)
+    last_ends Wrong f = closes zero s s old mid new f.used e g f.uses f.sends refl hears first now h Wrong Bad (script_last p.grammar (f.used ++ new.ahead) Bad (f.means new.ahead)) refl (λ held events marks w. w) (λ events marks done taken out w. w) (λ marks done out w. w)
     last_ends CutOff (f, z) =
-        closes zero s s old mid new f.used e g f.uses f.sends refl hears first now h CutOff Cut (script_last p.grammar (f.used ++ new.ahead) Cut (ap (last p.grammar) (drained f.used new.ahead f.none) ∙ f.means)) (refl, z) (λ held events marks w. w) (λ events marks done taken out w. w) (λ done w. w)
+        closes zero s s old mid new f.used e g f.uses f.sends refl hears first now h CutOff Cut (script_last p.grammar (f.used ++ new.ahead) Cut (ap (last p.grammar) (drained f.used new.ahead f.none) ∙ f.means)) (refl, z) (λ held events marks w. w) (λ events marks done taken out w. w) (λ marks done out w. w)
     last_ends SourceFailed f =
-        closes zero s s old mid new f.used e g f.uses f.sends refl hears first now h SourceFailed Cut (script_last p.grammar (f.used ++ new.ahead) Cut (ap (last p.grammar) (drained f.used new.ahead f.none) ∙ f.means)) refl (λ held events marks w. w) (λ events marks done taken out w. w) (λ done w. w)
+        closes zero s s old mid new f.used e g f.uses f.sends refl hears first now h SourceFailed Cut (script_last p.grammar (f.used ++ new.ahead) Cut (ap (last p.grammar) (drained f.used new.ahead f.none) ∙ f.means)) refl (λ held events marks w. w) (λ events marks done taken out w. w) (λ marks done out w. w)
     last_ends SinkFailed f = absurd f
     last_ends Memory f = forgets zero s s old mid new f.used e g f.uses f.sends refl hears first now h
     last_ends OutsideFailed f = absurd f
-    last_ends Over_stop f = closes zero s s old mid new f.used e g f.uses f.sends refl hears first now h Over_stop Over (script_last p.grammar (f.used ++ new.ahead) Over (f.means new.ahead)) refl (λ held events marks w. w) (λ events marks done taken out w. w) (λ done w. w)
+    last_ends Over_stop f = closes zero s s old mid new f.used e g f.uses f.sends refl hears first now h Over_stop Over (script_last p.grammar (f.used ++ new.ahead) Over (f.means new.ahead)) refl (λ held events marks w. w) (λ events marks done taken out w. w) (λ marks done out w. w)
 
   -- nothing was begun
   pub no_lines : {State : Type 0} (hears : Hearing Reply State) (first : State) (left written : Option (List ℕ))

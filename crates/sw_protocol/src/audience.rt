@@ -1,5 +1,5 @@
-// Who hears replies.
-ghost use Rattle.std.specs.Prelude.{◌≡◌, OnOk};
+// Who hears replies, and where they go.
+ghost use Rattle.std.specs.Prelude.{◌≡◌};
 ghost use Rattle.sw_protocol.specs.Heard.{Hearing, HearsAll, told_of};
 
 /// What is told of replies.
@@ -17,8 +17,15 @@ pub trait Audience<R> {
         ensures { hears reply.now (state self.old) (state self.new) };
 }
 
-/// A reply is told, where there is one.
-pub fn tell_some<R, T: Audience<R>>(audience: &mut T, reply: &Option<R>)
+/// Where replies go: their bytes into a sink, and then they are told to an audience.
+#[derive(Drop)]
+pub struct Output<K, T> {
+    pub sink: K,
+    pub audience: T,
+}
+
+/// A reply whose bytes were written is told, where there is one.
+pub(crate) fn tell_some<R, T: Audience<R>>(audience: &mut T, reply: &Option<R>)
     ensures { HearsAll T.hears (told_of reply.now) (T.state audience.old) (T.state audience.new) }
 {
     if let Some(reply) = reply {

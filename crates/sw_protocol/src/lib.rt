@@ -11,7 +11,7 @@ mod sending;
 mod service;
 mod stop;
 
-pub use audience::{Audience, tell_some};
+pub use audience::{Audience, Output};
 pub use laws::{answers_all, ends_exactly};
 pub use lines::Lines;
 pub use protocol::Protocol;

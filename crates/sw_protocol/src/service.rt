@@ -6,8 +6,8 @@ ghost use Rattle.sw_protocol.specs.Turns.{place, standing, Answers, TurnEnds, La
 ghost use Rattle.sw_protocol.specs.Served.{surroundings};
 ghost use Rattle.sw_protocol.specs.Heard.{ServedAndHeard, told_of};
 
-use crate::audience::{Audience, tell_some};
-use crate::{Lines, Protocol, Stop};
+use crate::audience::tell_some;
+use crate::{Audience, Lines, Output, Protocol, Stop};
 use sw_io::{Sink, Source};
 
 /// A protocol, and the lines that it answers.
@@ -24,28 +24,27 @@ impl<P> Service<P> {
         &mut self,
         most: u32,
         source: &mut S,
-        sink: &mut K,
+        output: &mut Output<K, T>,
         engine: &mut E,
         outside: &mut O,
-        audience: &mut T,
     ) -> Stop
     where
         P: Protocol<E, O, R>,
         requires { self.old.lines.reader ≡ [] }
         ensures served { ServedAndHeard P.rules T.hears most result
-            (surroundings (S.left source.old) (K.written sink.old) (P.held self.old.protocol outside.old)
+            (surroundings (S.left source.old) (K.written output.old.sink) (P.held self.old.protocol outside.old)
             (P.ran engine.old))
-            (surroundings (S.left source.new) (K.written sink.new) (P.held self.new.protocol outside.new)
+            (surroundings (S.left source.new) (K.written output.new.sink) (P.held self.new.protocol outside.new)
             (P.ran engine.new))
-            (T.state audience.old) (T.state audience.new) }
+            (T.state output.old.audience) (T.state output.new.audience) }
         ensures source_fault { result ≡ Stop.SourceFailed → Rose (S.faults source.old) (S.faults source.new) }
-        ensures sink_fault { result ≡ Stop.SinkFailed → Rose (K.faults sink.old) (K.faults sink.new) }
+        ensures sink_fault { result ≡ Stop.SinkFailed → Rose (K.faults output.old.sink) (K.faults output.new.sink) }
         ensures outside_fault { result ≡ Stop.OutsideFailed → Rose (P.faults outside.old) (P.faults outside.new) }
     {
         'requests: for _ in 0..most {
-            match self.turn(source, sink, engine, outside) {
+            match self.turn(source, &mut output.sink, engine, outside) {
                 Err(stop) => return stop,
-                Ok(reply) => tell_some(audience, &reply),
+                Ok(reply) => tell_some(&mut output.audience, &reply),
             }
         }
         self.last::<S, E, O, R>(source)

@@ -44,9 +44,9 @@ pub record Served (setting : Setting) (most : ℕ) (stop : Stop) (old new : Surr
 pub record ServedAndHeard {State : Type 0} (setting : Setting) (hears : Hearing Reply State) (most : ℕ) (stop : Stop)
     (old new : Surroundings) (before now : State) : Type 0 where
   pub served : Served setting most stop old new
-  pub heard : HeardBy stop hears
+  pub heard : HeardBy (session setting) stop hears served.served.marks
       (turns (session setting) (nothing_held old.hosts) (script grammar most served.served.taken).events
-      served.served.marks) before now
+      served.served.marks) served.served.out before now
 
 -- a session of at most 1,000,000 requests ended with this status
 abbrev pub ServedWith : {State : Type 0} → Setting → Hearing Reply State → ℕ → Surroundings → Surroundings → State

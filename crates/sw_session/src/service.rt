@@ -8,7 +8,7 @@ ghost use Rattle.sw_session.specs.Served.{surroundings, ServedAndHeard, ServedWi
 use crate::session::Session;
 use std::alloc::Global;
 use sw_io::{Sink, Source};
-use sw_protocol::{Audience, Lines, Service, Stop};
+use sw_protocol::{Audience, Lines, Output, Service, Stop};
 use sw_record::Reply;
 use sw_world::{Engine, Hosts};
 
@@ -22,19 +22,18 @@ const MOST_REQUESTS: u32 = 1_000_000;
 pub fn serve<S: Source, K: Sink, E: Engine, H: Hosts, T: Audience<Reply>>(
     alloc: Global,
     source: &mut S,
-    sink: &mut K,
+    output: &mut Output<K, T>,
     engine: &mut E,
     hosts: &mut H,
-    audience: &mut T,
 ) -> u8
     ensures served { ServedWith (setting_of H.answer H.after sheet_at E.body) T.hears result
-        (surroundings (S.left source.old) (K.written sink.old) (E.ran engine.old) (H.state hosts.old))
-        (surroundings (S.left source.new) (K.written sink.new) (E.ran engine.new) (H.state hosts.new))
-        (T.state audience.old) (T.state audience.new) }
+        (surroundings (S.left source.old) (K.written output.old.sink) (E.ran engine.old) (H.state hosts.old))
+        (surroundings (S.left source.new) (K.written output.new.sink) (E.ran engine.new) (H.state hosts.new))
+        (T.state output.old.audience) (T.state output.new.audience) }
     ensures source_fault { result ≡ 4 → Rose (S.faults source.old) (S.faults source.new) }
-    ensures sink_fault { result ≡ 5 → Rose (K.faults sink.old) (K.faults sink.new) }
+    ensures sink_fault { result ≡ 5 → Rose (K.faults output.old.sink) (K.faults output.new.sink) }
 {
-    serve_within(alloc, MOST_REQUESTS, source, sink, engine, hosts, audience).status()
+    serve_within(alloc, MOST_REQUESTS, source, output, engine, hosts).status()
 }
 
 /// The same with at most so many requests, and tells how the session ended.
@@ -42,24 +41,23 @@ pub fn serve_within<S: Source, K: Sink, E: Engine, H: Hosts, T: Audience<Reply>>
     alloc: Global,
     most: u32,
     source: &mut S,
-    sink: &mut K,
+    output: &mut Output<K, T>,
     engine: &mut E,
     hosts: &mut H,
-    audience: &mut T,
 ) -> Stop
     ensures served { ServedAndHeard (setting_of H.answer H.after sheet_at E.body) T.hears most result
-        (surroundings (S.left source.old) (K.written sink.old) (E.ran engine.old) (H.state hosts.old))
-        (surroundings (S.left source.new) (K.written sink.new) (E.ran engine.new) (H.state hosts.new))
-        (T.state audience.old) (T.state audience.new) }
+        (surroundings (S.left source.old) (K.written output.old.sink) (E.ran engine.old) (H.state hosts.old))
+        (surroundings (S.left source.new) (K.written output.new.sink) (E.ran engine.new) (H.state hosts.new))
+        (T.state output.old.audience) (T.state output.new.audience) }
     ensures source_fault { result ≡ Stop.SourceFailed → Rose (S.faults source.old) (S.faults source.new) }
-    ensures sink_fault { result ≡ Stop.SinkFailed → Rose (K.faults sink.old) (K.faults sink.new) }
+    ensures sink_fault { result ≡ Stop.SinkFailed → Rose (K.faults output.old.sink) (K.faults output.new.sink) }
 {
     match Lines::new(alloc) {
         Err(_) => Stop::Memory,
         Ok(lines) => {
             let protocol = Session::<E>::new(alloc);
             let mut service = Service { lines, protocol };
-            service.answer_all(most, source, sink, engine, hosts, audience)
+            service.answer_all(most, source, output, engine, hosts)
         }
     }
 }

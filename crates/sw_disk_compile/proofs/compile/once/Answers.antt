@@ -10,9 +10,9 @@ pub returns-clause-ends : goal.returns-clause-ends
 returns-clause-ends g c =
     let setting = hostless g.R.Reader.reads g.E.Engine.body in
     let target = target_seen c.args.target.now in
-    let old = surroundings (g.D.Disk.course c.args.disk.now c.args.target.now.dir.now) (g.K.Sink.written c.args.sink.now) (g.E.Engine.ran c.args.engine.now) in
+    let old = surroundings (g.D.Disk.course c.args.disk.now c.args.target.now.dir.now) (g.K.Sink.written c.args.output.now.sink) (g.E.Engine.ran c.args.engine.now) in
     let new = surroundings (g.D.Disk.course c.read_folder.new.disk c.args.target.now.dir.now) (g.K.Sink.written c.write_outcome-ending.new.sink) (g.E.Engine.ran c.compile.new.engine) in
-    ends_by setting target g.T.Audience.hears old new (g.T.Audience.state c.args.audience.now) (g.T.Audience.state c.tell_written.new.audience) c.in-Ok-compile.reply
+    ends_by setting target g.T.Audience.hears old new (g.T.Audience.state c.args.output.now.audience) (g.T.Audience.state c.tell_written.new.audience) c.in-Ok-compile.reply
     c.write_outcome-ending.result c.in-Ok-compile.reply.outcome refl
     (compiles setting target old new c.read_folder.new.holder c.compile.new.self c.in-Ok-compile.reply
     (c.read_folder.ensures.rest ∙ ap (λ (k : Keeping). k.kept) c.new-watched.ensures)
