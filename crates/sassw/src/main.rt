@@ -13,6 +13,7 @@ use sw_commands::run;
 use sw_eval::Evaluator;
 use sw_hub::Hub;
 use sw_io::{FolderDisk, StdSink, StdSource};
+use sw_protocol::Output;
 
 // No memory was found for the words or for who reports.
 const NO_MEMORY: u8 = 6;
@@ -29,16 +30,18 @@ fn main(rt: HostRuntime) -> ExitCode {
         return ExitCode::from(NO_MEMORY);
     }
     let mut source = StdSource::new(rt.stdin());
-    let mut sink = StdSink::new(rt.stdout());
+    let mut output = Output {
+        sink: StdSink::new(rt.stdout()),
+        audience: hub,
+    };
     let mut disk = FolderDisk::new(rt);
     let mut engine = Evaluator::new(alloc);
     ExitCode::from(run(
         alloc,
         words.as_slice(),
         &mut source,
-        &mut sink,
+        &mut output,
         &mut disk,
         &mut engine,
-        &mut hub,
     ))
 }

@@ -1,13 +1,13 @@
 -- What comes of one who is attached when replies are told one after the other.
-use Rattle.std.proofs.Common.{◌≡◌, ℕ, ◌+◌, ◌≤◌, ◌<◌, Bool, true, false, List, [], ◌∷◌, ◌++◌, length, get_or, Option, None, Some, refl, sym, ap, ◌∙◌, subst, append_assoc, arith}
-use Rattle.std.specs.Prelude.{slice_get, option_map}
+use Rattle.std.proofs.Common.{◌≡◌, ◌<◌, Bool, true, false, List, [], ◌∷◌, length, get_or, Option, None, Some, refl, sym, ap, ◌∙◌, subst, append_assoc, arith}
+use Rattle.std.specs.Prelude.{slice_get}
 use Rattle.std.proofs.lemmas.List.{append-nil}
 use Rattle.std.proofs.lemmas.Option.{slice_get_within, slice_get-get_or}
 use Rattle.sw_record.specs.declared.reply.Reply.{Reply}
 use Rattle.sw_io.specs.Causes.{Rose}
 use Rattle.sw_protocol.specs.Heard.{HearsAll}
 use Rattle.sw_hub.specs.Hearing.{with_reply}
-use Rattle.sw_hub.specs.Hubs.{Known, HasHeard, FallsSilent, Called, Told, Each, Tells, with_all, counted_all, HeardAll, FellSilent, Attended}
+use Rattle.sw_hub.specs.Hubs.{Known, HasHeard, FallsSilent, Called, Told, Each, Tells, with_all, counted_all, Attended}
 
 none_more : (heard : Option (List Reply)) → heard ≡ with_all [] heard
 none_more None = refl

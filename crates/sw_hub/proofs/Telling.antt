@@ -1,8 +1,8 @@
 -- One more of those that are attached hears a reply.
-use Rattle.std.proofs.Common.{◌≡◌, ◌≢◌, ℕ, ◌+◌, ◌≤◌, ◌<◌, ◌⊎◌, inl, inr, List, length, drop, get_or, refl, sym, ◌∙◌, ap, subst, arith, Option, None, Some}
+use Rattle.std.proofs.Common.{◌≡◌, ◌≢◌, ℕ, ◌+◌, ◌≤◌, ◌<◌, ◌⊎◌, inl, inr, List, [], ◌++◌, length, take, drop, get_or, refl, sym, ◌∙◌, ap, subst, arith, Option, None, Some}
 use Rattle.std.specs.Prelude.{slice_get, slice_set, map, option_map}
 use Rattle.std.proofs.lemmas.Option.{slice_get-get_or, slice_get_within, get_or_from_slice_get, slice_get-map}
-use Rattle.std.proofs.lemmas.List.{length-map, get_or-set_same, get_or-set_other, length-set, get_or-drop, drop-set-lt}
+use Rattle.std.proofs.lemmas.List.{length-map, append-nil, drop_all, take_all, get_or-set_same, get_or-set_other, length-set, get_or-drop, drop-set-lt}
 use Rattle.std.proofs.lemmas.Grind.{drop_more_same}
 use Rattle.sw_hub.specs.Hubs.{Each}
 
@@ -73,3 +73,14 @@ module _ {A B : Type 0} (f : A → B) (is : B → B → Type 0) (before now : Li
     each = λ k old new x y.
         each_by k old new (slice_get before k) (slice_get now k) refl refl (sym (slice_get-map f before k) ∙ x) (sym (slice_get-map f now k) ∙ y);
   }
+
+-- what was lent by a vector stands in it again
+pub each_back : {A B : Type 0} (f : A → B) (is : B → B → Type 0) (held before now : List A) (len : ℕ) → before ≡ held → length before ≡ len → Each (map f before) (map f now) is
+    → Each (map f held) (map f (take len (now ++ drop (length now) held))) is
+each_back {A} {B} f is held before now len e l x =
+    let same : length now ≡ length before = sym (length-map now f) ∙ x.count ∙ length-map before f in
+    let of_held : length before ≡ length held = ap length e in
+    let rest : drop (length now) held ≡ [] = drop_all (length now) held (omega (arith, same, of_held)) in
+    let whole : take len (now ++ drop (length now) held) ≡ now =
+    ap (λ t. take len (now ++ t)) rest ∙ ap (take len) (append-nil now) ∙ take_all len now (omega (arith, same, l)) in
+    subst (λ (t : List A). Each (map f held) (map f t) is) (sym whole) (subst (λ (t : List A). Each (map f t) (map f now) is) e x)
