@@ -1,5 +1,6 @@
 -- What comes of one compile of a disk's folder.
-use Rattle.std.proofs.Common.{◌≡◌, [], inr, ap, ◌∙◌}
+use Rattle.std.proofs.Common.{◌≡◌, ℕ, List, [], inr, sym, ap, ◌∙◌}
+use Rattle.std.proofs.lemmas.List.{append-nil}
 use Rattle.std.specs.declared.option.Option.{Option}
 use Rattle.sw_io.specs.Disks.{Course}
 use Rattle.sw_folder.specs.Files.{Files}
@@ -10,14 +11,19 @@ use Rattle.sw_record.specs.declared.reply.Reply.{Reply}
 use Rattle.sw_record.specs.declared.reply.Outcome.{Outcome}
 use Rattle.sw_record.specs.declared.reply.Outcome.TheVariants.{Css, Error}
 use Rattle.sw_protocol.specs.Heard.{Hearing}
+use Rattle.sw_protocol.proofs.Writing.{appends_none}
 use Rattle.sw_keeper.specs.Compile.{compiled, CompilesTo, paths_of}
 use Rattle.sw_keeper.specs.Keeping.{Keeping}
 use Rattle.sw_disk_compile.specs.declared.ending.Ending.{Ending}
 use Rattle.sw_disk_compile.specs.declared.ending.Ending.TheVariants.{Css as Css_end, Error as Error_end, SinkFailed, Memory, DiskFailed}
-use Rattle.sw_disk_compile.specs.Once.{Surroundings, text_of, Compiles, WritesBy, HearsBy, EndsBy}
+use Rattle.sw_disk_compile.specs.Once.{Surroundings, surroundings, text_of, Compiles, Forgets, WritesBy, HearsBy, EndsBy}
 
 pub read_on : (before now : Option Course) (folder : Files) → IsRead before now folder → IsBrokenOff before now
 read_on before now folder read = λ c e. inr ((read c e).0)
+
+-- the folder wasn't read whole, so no body ran
+pub unread : (before now : Option Course) (written : Option (List ℕ)) (ran : List (List ℕ)) → IsBrokenOff before now → Forgets (surroundings before written ran) (surroundings now written ran)
+unread before now written ran broken = record { read = broken; more = []; told = sym (append-nil ran); sends = appends_none _ }
 
 -- the compile over no kept run
 pub compiles : (setting : Setting) (target : Target) (old new : Surroundings) (before after : Keeping) (reply : Reply) → before.kept ≡ [] → IsRead old.course new.course before.folder

@@ -1,9 +1,9 @@
 use Rattle.std.proofs.Common.{List, ℕ, refl, ap, ◌∙◌, subst}
-use Rattle.sw_folders.specs.Held.{IsRead}
+use Rattle.sw_folders.specs.Held.{IsRead, IsBrokenOff}
 use Rattle.sw_command_line.specs.Forms.{target_seen}
 use Rattle.sw_keeper.specs.Keeping.{Keeping}
 use Rattle.sw_disk_compile.specs.Once.{surroundings, hostless}
-use Rattle.sw_disk_compile.proofs.Compiling.{compiles, ends_by}
+use Rattle.sw_disk_compile.proofs.Compiling.{unread, compiles, ends_by}
 use Rattle.sw_disk_compile.proofs.compile.once.Goals as goal
 
 pub returns-clause-ends : goal.returns-clause-ends
@@ -18,3 +18,13 @@ returns-clause-ends g c =
     (c.read_folder.ensures.rest ∙ ap (λ (k : Keeping). k.kept) c.new-watched.ensures)
     (subst (λ (d : List ℕ). IsRead (g.D.Disk.course c.args.disk.now d) (g.D.Disk.course c.read_folder.new.disk d) c.read_folder.new.holder.folder) c.as_str.ensures c.in-Ok.ensures.ok)
     c.in-Ok-compile.ensures.ok) c.write_outcome-ending.ensures.ends c.tell_written.ensures
+
+pub returns-in-Err-Failed-clause-ends : goal.returns-in-Err-Failed-clause-ends
+returns-in-Err-Failed-clause-ends g c =
+    let broken = subst (λ (d : List ℕ). IsBrokenOff (g.D.Disk.course c.args.disk.now d) (g.D.Disk.course c.read_folder.new.disk d)) c.as_str.ensures c.in-Err-Failed.ensures.err in
+    (unread _ _ (g.K.Sink.written c.args.output.now.sink) (g.E.Engine.ran c.args.engine.now) broken, refl, refl)
+
+pub returns-in-Err-Memory-clause-ends : goal.returns-in-Err-Memory-clause-ends
+returns-in-Err-Memory-clause-ends g c =
+    let broken = subst (λ (d : List ℕ). IsBrokenOff (g.D.Disk.course c.args.disk.now d) (g.D.Disk.course c.read_folder.new.disk d)) c.as_str.ensures c.in-Err-Memory.ensures.err in
+    (unread _ _ (g.K.Sink.written c.args.output.now.sink) (g.E.Engine.ran c.args.engine.now) broken, refl)
