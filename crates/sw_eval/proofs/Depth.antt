@@ -5,7 +5,7 @@ use Rattle.sw_syntax_tree.specs.declared.callable.Param.{Param}
 use Rattle.sw_syntax_tree.specs.declared.expr.Expr.{Expr}
 use Rattle.sw_syntax_tree.specs.declared.statement.Statement.{Statement}
 use Rattle.sw_literals.specs.declared.quotients.Parens.{Parens}
-use Rattle.sw_state.specs.declared.passing.Entry.{Entry}
+use Rattle.sw_state.specs.declared.entries.Entry.{Entry}
 use Rattle.sw_state.specs.declared.state.State.{State}
 use Rattle.sw_statements.specs.Includes.{run_body}
 use Rattle.sw_expressions.specs.Expressions.{value_one}

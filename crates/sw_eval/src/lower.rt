@@ -1,5 +1,4 @@
 // The level below as closures.
-ghost use Rattle.sw_walk.specs.Going.{Goes_on};
 
 use sw_literals::Parens;
 use sw_syntax_tree::{Expr, Statement};

@@ -1,5 +1,5 @@
 // The statements of the top level.
-ghost use Rattle.std.specs.Prelude.{◌≡◌, ◌<◌, is_some, IfOk, IfSome, option_copied, vec_len, vec_capacity};
+ghost use Rattle.std.specs.Prelude.{◌≡◌, ◌<◌, is_some, IfOk, IfSome, vec_len, vec_capacity};
 ghost use Rattle.sw_talk.specs.Did.{stand};
 ghost use Rattle.sw_eval.specs.Tops.{TopDid, Walked};
 ghost use Rattle.sw_talk.specs.Loaded.{loaded};

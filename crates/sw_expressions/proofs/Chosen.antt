@@ -1,5 +1,5 @@
 -- The arguments of `if()`, one at a time.
-use Rattle.std.proofs.Common.{◌≡◌, ℕ, ◌+◌, ◌<◌, ◌≤◌, Bool, true, false, List, length, drop, get_or, Some, None, refl, sym, ◌∙◌, ap}
+use Rattle.std.proofs.Common.{◌≡◌, ℕ, ◌+◌, ◌<◌, ◌≤◌, Bool, true, false, List, length, drop, get_or, Some, None, refl}
 use Rattle.std.specs.Option.{is_some}
 use Rattle.sw_syntax_tree.specs.declared.expr.Argument.{Argument}
 use Rattle.sw_talk.proofs.Loops.{next_item, drop_all}

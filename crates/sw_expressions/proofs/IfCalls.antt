@@ -1,5 +1,5 @@
 -- Built-in functions other than `if()`.
-use Rattle.std.proofs.Common.{◌≡◌, ℕ, List, Option, refl}
+use Rattle.std.proofs.Common.{◌≡◌, List, Option, refl}
 use Rattle.sw_text.specs.declared.place.Span.{Span}
 use Rattle.sw_syntax_tree.specs.declared.callable.Param.{Param}
 use Rattle.sw_syntax_tree.specs.declared.expr.Argument.{Argument}
@@ -10,7 +10,7 @@ use Rattle.sw_literals.specs.declared.quotients.Parens.{Parens}
 use Rattle.sw_builtins.specs.declared.built_in.BuiltIn.{BuiltIn}
 use Rattle.sw_builtins.specs.declared.built_in.BuiltIn.TheVariants as B
 use Rattle.sw_state.specs.Eval.{Eval}
-use Rattle.sw_state.specs.declared.passing.Entry.{Entry}
+use Rattle.sw_state.specs.declared.entries.Entry.{Entry}
 use Rattle.sw_state.specs.declared.state.State.{State}
 use Rattle.sw_expressions.specs.Calls.{built_in_call, built_in_by}
 

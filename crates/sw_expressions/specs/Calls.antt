@@ -16,11 +16,11 @@ use Rattle.sw_talk.specs.Talk.{bind}
 use Rattle.sw_talk.specs.Refusals.{answer}
 use Rattle.sw_state.specs.Entering.{returned}
 use Rattle.sw_state.specs.Eval.{Eval}
-use Rattle.sw_state.specs.Passing.{function_entry}
+use Rattle.sw_state.specs.Entries.{function_entry}
 use Rattle.sw_state.specs.declared.called.Called.{Called}
 use Rattle.sw_state.specs.declared.called.Called.TheVariants as call
-use Rattle.sw_state.specs.declared.passing.Entry.{Entry}
-use Rattle.sw_state.specs.declared.passing.Found.{Found}
+use Rattle.sw_state.specs.declared.entries.Entry.{Entry}
+use Rattle.sw_state.specs.declared.entries.Found.{Found}
 use Rattle.sw_expressions.specs.Choosing.{has_spread}
 use Rattle.sw_expressions.specs.Functions.{css_called, if_called}
 use Rattle.sw_walk.specs.Arguments.{arguments}

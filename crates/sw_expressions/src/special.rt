@@ -4,7 +4,7 @@ ghost use Rattle.sw_walk.specs.Going.{Goes_on};
 ghost use Rattle.sw_expressions.specs.Special.{value_behind, piece_value, piece_values, extremum_called, special_text, special};
 
 use sw_builtins::BuiltIn;
-use sw_state::{extremum, extremum_value, plain_special, special_value};
+use sw_pieces::{extremum, extremum_value, plain_special, special_value};
 use sw_syntax_tree::{Expr, Parts, Piece};
 use sw_talk::{Stop, stopped};
 use sw_text::{List, Span};

@@ -1,5 +1,5 @@
 -- Plain CSS imports, a line at a time.
-use Rattle.std.proofs.Common.{◌≡◌, ℕ, ◌+◌, ◌<◌, ◌≤◌, List, ◌∷◌, length, drop, get_or, Result, Err, refl, sym, ◌∙◌, ap}
+use Rattle.std.proofs.Common.{◌≡◌, ℕ, ◌+◌, ◌<◌, ◌≤◌, List, length, drop, get_or, Result, Err, refl, sym, ◌∙◌, ap}
 use Rattle.std.specs.Prelude.{IsErr, IsErrAnd}
 use Rattle.sw_text.specs.declared.place.Span.{Span}
 use Rattle.sw_talk.specs.Talk.{Talk, Gives, bind}

@@ -1,4 +1,3 @@
-pub mod Layers
 pub mod Eval
 pub mod Nestings
 pub mod Begin
@@ -6,20 +5,12 @@ pub mod Scope
 pub mod Owners
 pub mod Selecting
 pub mod Output
-pub mod Trimming
-pub mod CssCalls
-pub mod Keyframes
 pub mod Rules
 pub mod AtRules
-pub mod Imports
 pub mod Loop_variables
-pub mod Contents
 pub mod Callables
-pub mod Passing
+pub mod Entries
 pub mod Entering
-pub mod BuiltIns
-pub mod Spacing
-pub mod Special
 pub mod Existing
 pub mod Called
 pub mod Misplaced

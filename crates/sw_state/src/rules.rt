@@ -5,13 +5,13 @@ ghost use Rattle.sw_talk.specs.Did.{IsReturn};
 ghost use Rattle.sw_state.specs.Rules.{nested, unnested, in_rule, in_frame, with_prefix, rule_opening, frame_entered, style_entered, rule_entered, rule_left, named_by, full_name, prefixed};
 ghost use Rattle.sw_talk.specs.Talk.{Gives};
 
-use crate::keyframes::keyframe_text;
 use crate::nesting::{Nesting, Rules};
 use crate::output::close;
 use crate::state::State;
 use std::alloc::Global;
 use std::mem;
 use sw_literals::{Refused, joined};
+use sw_pieces::keyframe_text;
 use sw_selector::Selectors;
 use sw_talk::{Stop, stopped};
 use sw_text::{Name, Shared, Span};

@@ -10,7 +10,7 @@ use Rattle.sw_literals.specs.declared.quotients.Parens.{Parens}
 use Rattle.sw_talk.specs.Talk.{Gives}
 use Rattle.sw_state.specs.Eval.{Eval}
 use Rattle.sw_state.specs.declared.here.Block.{Block}
-use Rattle.sw_state.specs.declared.passing.Entry.{Entry}
+use Rattle.sw_state.specs.declared.entries.Entry.{Entry}
 use Rattle.sw_state.specs.declared.state.State.{State}
 use Rattle.sw_statements.specs.Includes.{content, content_by, content_run}
 

@@ -18,10 +18,10 @@ use Rattle.sw_talk.specs.Refusals.{answer}
 use Rattle.sw_state.specs.Begin.{spent}
 use Rattle.sw_state.specs.Entering.{opened, closed}
 use Rattle.sw_state.specs.Eval.{Eval}
-use Rattle.sw_state.specs.Passing.{block_entry, mixin_entry}
+use Rattle.sw_state.specs.Entries.{block_entry, mixin_entry}
 use Rattle.sw_state.specs.declared.here.Block.{Block, out-Block}
-use Rattle.sw_state.specs.declared.passing.Entry.{Entry}
-use Rattle.sw_state.specs.declared.passing.Found.{Found}
+use Rattle.sw_state.specs.declared.entries.Entry.{Entry}
+use Rattle.sw_state.specs.declared.entries.Found.{Found}
 use Rattle.sw_statements.specs.Flow.{block}
 use Rattle.sw_statements.specs.Parameters.{fill}
 use Rattle.sw_walk.specs.Arguments.{arguments}

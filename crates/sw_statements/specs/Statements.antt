@@ -13,13 +13,13 @@ use Rattle.sw_values.specs.declared.plain.Plain.{Plain}
 use Rattle.sw_scope.specs.declared.mark.FrameKind.TheVariants as F
 use Rattle.sw_literals.specs.declared.quotients.Parens.{Parens}
 use Rattle.sw_literals.specs.declared.quotients.Parens.TheVariants as P
-use Rattle.sw_state.specs.Layers.{Layer}
+use Rattle.sw_pieces.specs.Layers.{Layer}
 use Rattle.sw_talk.specs.Talk.{Gives, Fails, bind}
 use Rattle.sw_talk.specs.Asking.{fault}
 use Rattle.sw_state.specs.Output.{commented}
 use Rattle.sw_state.specs.Misplaced.{misplaced, is_function}
 use Rattle.sw_state.specs.Eval.{Eval}
-use Rattle.sw_state.specs.declared.passing.Entry.{Entry}
+use Rattle.sw_state.specs.declared.entries.Entry.{Entry}
 use Rattle.sw_statements.specs.Assignments.{assigned, variable_set}
 use Rattle.sw_statements.specs.AtRules.{at_root, at_rule, media, supports}
 use Rattle.sw_statements.specs.Flow.{branches, done, repeat_in}

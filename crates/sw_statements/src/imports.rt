@@ -2,7 +2,8 @@
 ghost use Rattle.sw_walk.specs.Going.{Goes_on};
 ghost use Rattle.sw_statements.specs.Imports.{inserted_pieces, inserted_texts, plain_import, import_by, import};
 
-use sw_state::{all_plain, fails, filled_all, inserted_of, parts_of, template};
+use sw_pieces::{all_plain, filled_all, inserted_of, parts_of, template};
+use sw_state::fails;
 use sw_syntax_tree::{Import, Parts, Piece};
 use sw_talk::{Stop, stopped};
 use sw_text::{FaultCode, List, Name};

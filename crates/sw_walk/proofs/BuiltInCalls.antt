@@ -6,7 +6,7 @@ use Rattle.sw_builtins.specs.declared.built_in.Asked.{Asked}
 use Rattle.sw_builtins.specs.declared.built_in.BuiltIn.{BuiltIn}
 use Rattle.sw_builtins.specs.declared.built_in.BuiltIn.TheVariants as B
 use Rattle.sw_talk.specs.Refusals.{answer}
-use Rattle.sw_state.specs.BuiltIns.{built_in_value}
+use Rattle.sw_pieces.specs.BuiltIns.{built_in_value}
 use Rattle.sw_state.specs.declared.state.State.{State}
 use Rattle.sw_walk.specs.Existence.{built_in_called}
 

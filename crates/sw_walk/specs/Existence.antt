@@ -16,7 +16,7 @@ use Rattle.sw_builtins.specs.declared.built_in.BuiltIn.{BuiltIn}
 use Rattle.sw_builtins.specs.declared.built_in.BuiltIn.TheVariants as B
 use Rattle.sw_talk.specs.Talk.{Gives, bind}
 use Rattle.sw_talk.specs.Refusals.{answer}
-use Rattle.sw_state.specs.BuiltIns.{built_in_arguments, built_in_value}
+use Rattle.sw_pieces.specs.BuiltIns.{built_in_arguments, built_in_value}
 use Rattle.sw_state.specs.Callables.{own_function, own_mixin}
 use Rattle.sw_state.specs.Eval.{Eval}
 use Rattle.sw_state.specs.Existing.{truth, name_in, module_in, exists_by, is_built_in, content_exists}

@@ -17,7 +17,7 @@ use Rattle.sw_talk.specs.Asking.{fault, asking}
 use Rattle.sw_talk.specs.Refusals.{answer}
 use Rattle.sw_state.specs.Scope.{own, is_home, is_mine, set_by, set_own}
 use Rattle.sw_state.specs.Left.{or_null}
-use Rattle.sw_state.specs.BuiltIns.{built_in_variable}
+use Rattle.sw_pieces.specs.BuiltIns.{built_in_variable}
 use Rattle.sw_state.specs.Owners.{owner, target, got, is_null, is_absent}
 use Rattle.sw_state.specs.Eval.{Eval}
 use Rattle.sw_syntax_tree.specs.declared.statement.Flags.{Flags}

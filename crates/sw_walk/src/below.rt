@@ -7,7 +7,7 @@ ghost use Rattle.sw_syntax_tree.specs.declared.statement.Statement.{Statement};
 ghost use Rattle.sw_values.specs.declared.plain.Plain.{Plain};
 ghost use Rattle.sw_literals.specs.declared.quotients.Parens.{Parens};
 ghost use Rattle.sw_state.specs.Eval.{Eval};
-ghost use Rattle.sw_state.specs.declared.passing.Entry.{Entry};
+ghost use Rattle.sw_state.specs.declared.entries.Entry.{Entry};
 ghost use Rattle.sw_walk.specs.Going.{Goes_on};
 
 use crate::walk::Walk;

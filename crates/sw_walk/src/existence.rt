@@ -6,10 +6,9 @@ ghost use Rattle.sw_walk.specs.Existence.{exists, member_exists, variable_exists
 
 use crate::walk::Walk;
 use sw_builtins::{Asked, BuiltIn};
+use sw_pieces::{built_in_arguments, built_in_value};
 use sw_scope::Passed;
-use sw_state::{
-    built_in_arguments, built_in_value, exists_by, is_built_in, module_in, name_in, truth,
-};
+use sw_state::{exists_by, is_built_in, module_in, name_in, truth};
 use sw_syntax_tree::Kind;
 use sw_talk::{Stop, stopped};
 use sw_text::{Name, Span};

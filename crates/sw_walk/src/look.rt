@@ -3,7 +3,8 @@ ghost use Rattle.sw_walk.specs.Going.{Goes_on};
 ghost use Rattle.sw_walk.specs.Variables.{owner_of, outside, variable, qualified, targeted, getting, putting, held_by, sought_by, sought, before_by, before_default, has_value, kept, put_global, set_global, stored};
 
 use crate::walk::Walk;
-use sw_state::{built_in_variable, fails, got, is_absent, is_null, or_null, owner, target};
+use sw_pieces::built_in_variable;
+use sw_state::{fails, got, is_absent, is_null, or_null, owner, target};
 use sw_syntax_tree::{Flags, Kind, Qualified};
 use sw_talk::{Stop, stopped};
 use sw_text::{FaultCode, Name, Span};

@@ -1,4 +1,4 @@
-use Rattle.std.proofs.Common.{◌≡◌, false, drop}
+use Rattle.std.proofs.Common.{◌≡◌, drop}
 use Rattle.sw_expressions.specs.Choosing.{by_name}
 use Rattle.sw_expressions.proofs.choosing.by_name.Given as goal
 

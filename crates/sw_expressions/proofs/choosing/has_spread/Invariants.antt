@@ -1,4 +1,4 @@
-use Rattle.std.proofs.Common.{◌≡◌, false, drop}
+use Rattle.std.proofs.Common.{◌≡◌, drop}
 use Rattle.sw_expressions.specs.Choosing.{has_spread}
 use Rattle.sw_expressions.proofs.choosing.has_spread.Given as goal
 

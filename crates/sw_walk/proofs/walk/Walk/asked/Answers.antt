@@ -1,4 +1,3 @@
-use Rattle.sw_walk.specs.Existence.{asked}
 use Rattle.sw_talk.proofs.Steps.{did_then, did_plain}
 use Rattle.sw_talk.proofs.Refusals.{did_answer, did_refused}
 use Rattle.sw_walk.proofs.walk.Walk.asked.Goals as goal

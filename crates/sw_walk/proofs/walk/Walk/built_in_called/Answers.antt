@@ -1,4 +1,3 @@
-use Rattle.sw_walk.specs.Existence.{built_in_called}
 use Rattle.sw_talk.proofs.Steps.{did_value, did_err, did_then}
 use Rattle.sw_talk.proofs.Refusals.{did_stopped}
 use Rattle.sw_walk.proofs.BuiltInCalls.{not_asked}

@@ -1,4 +1,3 @@
-use Rattle.sw_walk.specs.Existence.{kind_exists}
 use Rattle.sw_walk.proofs.walk.Walk.kind_exists.Goals as goal
 
 pub returns-in-Variable : goal.returns-in-Variable

@@ -1,4 +1,3 @@
-use Rattle.std.proofs.Common.{sym, ◌∙◌}
 use Rattle.sw_walk.specs.Callees.{member_called}
 use Rattle.sw_talk.proofs.Steps.{no_memory, did_err, did_then, did_plain}
 use Rattle.sw_walk.proofs.walk.Walk.member_called.Goals as goal
