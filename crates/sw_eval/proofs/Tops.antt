@@ -17,8 +17,8 @@ use Rattle.sw_talk.specs.Talk.{Question, Loads, Talk, Gives, Fails, Asking, bind
 use Rattle.sw_talk.specs.Ran.{Stand, Ran, ran_on, within}
 use Rattle.sw_talk.specs.Did.{Did, IsReturn}
 use Rattle.sw_talk.specs.Loaded.{loaded}
-use Rattle.sw_state.specs.Layers.{Layer}
-use Rattle.sw_eval.specs.Layers.{place_of}
+use Rattle.sw_pieces.specs.Layers.{Layer}
+use Rattle.sw_statements.specs.Places.{place_of}
 use Rattle.sw_talk.specs.Asking.{asking, fault}
 use Rattle.sw_eval.specs.Means.{top, tops, load_of, load_by, used, configures, space_of, marked, other}
 use Rattle.sw_state.specs.Left.{callable_of}

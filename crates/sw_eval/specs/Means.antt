@@ -13,26 +13,24 @@ use Rattle.sw_syntax_tree.specs.declared.load.Use.{Use}
 use Rattle.sw_syntax_tree.specs.declared.statement.Statement.{Statement, out-Statement}
 use Rattle.sw_syntax_tree.specs.declared.statement.Statement.TheOpen.{Statement-F}
 use Rattle.sw_values.specs.declared.plain.Plain.{Plain}
-use Rattle.sw_scope.specs.Scopes.{empty}
-use Rattle.sw_css_tree.specs.Output.{nothing}
 use Rattle.sw_literals.specs.declared.quotients.Parens.{Parens}
 use Rattle.sw_world.specs.declared.op.How.TheVariants as H
 use Rattle.sw_world.specs.Body.{BodyOf}
 use Rattle.sw_world.specs.Laws.{most_asked}
-use Rattle.sw_state.specs.Layers.{Layer}
-use Rattle.sw_eval.specs.Layers.{place_of}
+use Rattle.sw_pieces.specs.Layers.{Layer}
 use Rattle.sw_talk.specs.Talk.{Question, Loads, Gives, Fails, bind, run}
 use Rattle.sw_talk.specs.Asking.{fault, asking}
 use Rattle.sw_state.specs.Output.{numbered}
-use Rattle.sw_eval.specs.Expressions.{value_one}
-use Rattle.sw_eval.specs.Calls.{run_body}
-use Rattle.sw_eval.specs.Statements.{does_placed}
 use Rattle.sw_state.specs.Begin.{begin}
 use Rattle.sw_state.specs.Callables.{with_callable}
 use Rattle.sw_state.specs.Left.{callable_of, end_of}
 use Rattle.sw_state.specs.Eval.{Eval}
-use Rattle.sw_state.specs.declared.passing.Entry.{Entry}
+use Rattle.sw_state.specs.declared.entries.Entry.{Entry}
 use Rattle.sw_state.specs.declared.state.State.{State}
+use Rattle.sw_expressions.specs.Expressions.{value_one}
+use Rattle.sw_statements.specs.Includes.{run_body}
+use Rattle.sw_statements.specs.Places.{place_of}
+use Rattle.sw_statements.specs.Statements.{does_placed}
 
 -- nested no deeper than the number: expressions, bodies of what is called, and statements
 unfoldable mutual

@@ -7,7 +7,6 @@ ghost use Rattle.sw_talk.specs.Turns.{TurnDid, IsStep, status_of};
 ghost use Rattle.sw_talk.specs.declared.place.Place.TheVariants.{Running as At_Running};
 
 use crate::turn::turn;
-use crate::walk::Walk;
 use std::alloc::Global;
 use std::marker::Model;
 use std::mem;
@@ -15,6 +14,7 @@ use sw_state::State;
 use sw_syntax_tree::Sheet;
 use sw_talk::{Asked, Place, push_pair};
 use sw_text::{List, Memory, Name, Shared};
+use sw_walk::Walk;
 use sw_world::{Answer, Config, Engine, Op, Turn, World, share_pairs};
 
 /// A body that the evaluator runs: its sheet, its pairs, and where its evaluation stands.

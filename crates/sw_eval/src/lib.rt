@@ -2,28 +2,12 @@
 //! leaves variables and output behind. It takes trees from below and hands questions and ends up.
 #![tactic(auto)]
 
-mod ask;
-mod assignments;
-mod callees;
-mod calls;
-mod choosing;
 mod engine;
-mod existence;
-mod flow;
-mod functions;
+mod knot;
 mod laws;
-mod level;
-mod look;
-mod loops;
-mod messages;
-mod places;
-mod styles;
-mod texts;
+mod lower;
 mod top;
 mod turn;
-mod value;
-mod walk;
-mod work;
 
 pub use engine::{Evaluation, Evaluator};
 pub use laws::body_laws;

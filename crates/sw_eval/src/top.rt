@@ -1,19 +1,20 @@
 // The statements of the top level.
-ghost use Rattle.std.specs.Prelude.{◌≡◌, ◌<◌, is_some, IfOk, IfSome, option_copied, vec_len, vec_capacity};
+ghost use Rattle.std.specs.Prelude.{◌≡◌, ◌<◌, is_some, IfOk, IfSome, vec_len, vec_capacity};
 ghost use Rattle.sw_talk.specs.Did.{stand};
 ghost use Rattle.sw_eval.specs.Tops.{TopDid, Walked};
 ghost use Rattle.sw_talk.specs.Loaded.{loaded};
-ghost use Rattle.sw_eval.specs.Going.{Goes_on};
+ghost use Rattle.sw_walk.specs.Going.{Goes_on};
 ghost use Rattle.sw_state.specs.Left.{callable_of};
 ghost use Rattle.sw_eval.specs.Means.{other, load_of, ends_loads, marked, space_of, configures, used};
 
-use crate::places::place_of;
-use crate::walk::Walk;
+use crate::knot::does_at;
 use std::alloc::Global;
 use sw_state::{State, callable_of, fails, numbered};
+use sw_statements::place_of;
 use sw_syntax_tree::{Namespace, Statement, Use};
 use sw_talk::{Stop, known};
 use sw_text::{FaultCode, List, Memory, Name, Shared};
+use sw_walk::Walk;
 use sw_world::{How, Op, World};
 
 fn space_of(namespace: &Namespace) -> Result<Option<Name>, Memory>
@@ -110,7 +111,7 @@ fn other<W: World>(walk: &mut Walk, statement: &Statement, world: &mut W) -> Res
     match callable_of(statement) {
         Some(callable) => walk.state.declare_callable(callable),
         None => {
-            let _value = walk.does(1000, statement, world)?;
+            let _value = does_at(walk, 1000, statement, world)?;
             Ok(())
         }
     }

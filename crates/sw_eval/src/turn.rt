@@ -6,11 +6,11 @@ ghost use Rattle.sw_state.specs.Begin.{begin};
 ghost use Rattle.sw_eval.specs.Resume.{IsResume};
 
 use crate::top::walk_on;
-use crate::walk::Walk;
 use sw_state::{State, finish};
 use sw_syntax_tree::Sheet;
 use sw_talk::Stop;
 use sw_text::Memory;
+use sw_walk::Walk;
 use sw_world::{Config, End, Turn, World};
 
 // Lets the next turn begin from the start.

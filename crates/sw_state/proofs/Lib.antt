@@ -3,12 +3,7 @@ pub mod Plain
 pub mod Outer
 pub mod Answering
 pub mod Parents
-pub mod Tests
-pub mod Unrolled
 pub mod Callers
-pub mod Arguments
-pub mod Written
-pub mod Filled
-pub mod Words
 pub mod Declared
 pub mod Named
+pub mod ImportLines

@@ -1,8 +1,8 @@
 -- Lists of what stands outside, the innermost last.
-use Rattle.std.proofs.Common.{◌≡◌, ℕ, ◌-◌, List, [], ◌∷◌, ◌++◌, length, take, Option, Some, slice_get, refl, ◌∙◌, ap, length-append, arith}
+use Rattle.std.proofs.Common.{◌≡◌, ◌-◌, List, [], ◌∷◌, ◌++◌, length, take, Some, slice_get, refl, ◌∙◌, ap, length-append, arith}
 use Rattle.std.proofs.Math.Seq.{take-append_seam}
 use Rattle.sw_css_tree.specs.Output.{last}
-use Rattle.sw_state.specs.Rules.{nested, unnested}
+use Rattle.sw_state.specs.Rules.{unnested}
 use Rattle.sw_state.specs.declared.nesting.Nesting.{Nesting}
 use Rattle.sw_state.specs.declared.state.State.{State}
 

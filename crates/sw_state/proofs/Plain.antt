@@ -1,5 +1,5 @@
 -- The steps of what asks nothing and has no fault.
-use Rattle.std.proofs.Common.{◌≡◌, ℕ, ◌+◌, ◌<◌, ◌≤◌, List, [], ◌∷◌, length, drop, get_or, Result, Ok, Err, refl, sym, ◌∙◌, ap, arith}
+use Rattle.std.proofs.Common.{◌≡◌, ℕ, ◌+◌, ◌<◌, ◌≤◌, List, [], ◌∷◌, length, drop, get_or, Result, Err, refl, sym, ◌∙◌, ap}
 use Rattle.std.specs.Prelude.{IsErr, IsErrAnd}
 use Rattle.sw_values.specs.declared.plain.Plain.{Plain}
 use Rattle.sw_talk.specs.Talk.{Talk, Gives}

@@ -7,6 +7,7 @@ use Rattle.sw_css_tree.specs.Output.{nothing}
 use Rattle.sw_talk.specs.Talk.{Gives, Fails}
 use Rattle.sw_talk.specs.Asking.{fault}
 use Rattle.sw_state.specs.Eval.{Eval}
+use Rattle.sw_state.specs.Nestings.{at_top}
 use Rattle.sw_state.specs.declared.here.Inside.TheVariants as I
 use Rattle.sw_state.specs.declared.state.State.{State}
 
@@ -18,7 +19,7 @@ begin = record {
   here = record { site = 0; inside = I.Sheet; content = None };
   callers = [];
   css = nothing;
-  nesting = record { parents = None; prefix = None };
+  nesting = at_top;
   outer = [];
   late = false;
   turns = 1000000;

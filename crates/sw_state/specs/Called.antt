@@ -15,7 +15,7 @@ use Rattle.sw_talk.specs.Asking.{fault}
 use Rattle.sw_state.specs.Eval.{Eval}
 use Rattle.sw_state.specs.declared.called.Called.{Called}
 use Rattle.sw_state.specs.declared.called.Called.TheVariants as call
-use Rattle.sw_state.specs.declared.passing.Found.{Found}
+use Rattle.sw_state.specs.declared.entries.Found.{Found}
 
 -- a callable that the question of this number was answered with
 abbrev pub found : ℕ → Callable → Found

@@ -24,7 +24,6 @@ use Rattle.sw_talk.specs.Asking.{fault}
 use Rattle.sw_state.specs.Eval.{Eval}
 use Rattle.sw_state.specs.declared.here.Inside.{Inside}
 use Rattle.sw_state.specs.declared.here.Inside.TheVariants as I
-use Rattle.sw_state.specs.declared.state.State.{State}
 
 abbrev pub truth : Bool → Plain
 truth holds = constant_value (if holds then constants.True else constants.False)

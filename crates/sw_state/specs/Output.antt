@@ -10,7 +10,6 @@ use Rattle.sw_talk.specs.Talk.{Gives, Fails, bind}
 use Rattle.sw_talk.specs.Asking.{fault}
 use Rattle.sw_talk.specs.Refusals.{answer}
 use Rattle.sw_state.specs.Eval.{Eval}
-use Rattle.sw_state.specs.declared.state.State.{State}
 
 -- what follows belongs to this statement; in an open rule it belongs to the rule's
 unfoldable pub numbered : ℕ → Output → Output

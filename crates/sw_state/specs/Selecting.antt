@@ -1,5 +1,5 @@
 -- The selectors of a rule, and `&` (the Sass specification on style rules; places of faults are this project's own).
-use Rattle.std.specs.Prelude.{ℕ, List, [], ◌∷◌, ◌++◌, false, Option, Some, None, Result, Ok, Err}
+use Rattle.std.specs.Prelude.{ℕ, Bool, false, ◌||◌, List, [], ◌∷◌, ◌++◌, Option, Some, None, Result, Ok, Err}
 use Rattle.sw_text.specs.declared.fault.FaultCode.{FaultCode}
 use Rattle.sw_text.specs.declared.fault.FaultCode.TheVariants as C
 use Rattle.sw_text.specs.declared.place.Span.{Span}
@@ -20,6 +20,7 @@ use Rattle.sw_talk.specs.Talk.{Gives, Fails}
 use Rattle.sw_talk.specs.Asking.{fault}
 use Rattle.sw_talk.specs.Refusals.{answer}
 use Rattle.sw_state.specs.Eval.{Eval}
+use Rattle.sw_state.specs.Nestings.{is_at_root}
 
 abbrev pub Selectors : Type 0
 Selectors = List (List Part)
@@ -35,23 +36,24 @@ selector_code S.NoParent = C.NoParent
 selector_code S.TooLarge = C.TooLarge
 selector_code S.Memory = C.TooLarge
 
--- nested in those of the rule around them, where there is one
-abbrev pub nested_by : Option Selectors → Selectors → Selection
-nested_by None child = alone_by child
-nested_by (Some parents) child = under_by false parents child
+-- nested in those of the rule around them, where there is one; at the root those without `&` stand by themselves
+abbrev pub nested_by : Bool → Option Selectors → Selectors → Selection
+nested_by at_root None child = alone_by child
+nested_by at_root (Some parents) child = under_by at_root parents child
 
-abbrev pub nested_in : Option Selectors → Selection → Selection
-nested_in parents (Ok child) = nested_by parents child
-nested_in parents (Err why) = Err why
+abbrev pub nested_in : Bool → Option Selectors → Selection → Selection
+nested_in at_root parents (Ok child) = nested_by at_root parents child
+nested_in at_root parents (Err why) = Err why
 
 -- their text stands here
 abbrev pub selected_by : Span → Selection → Eval Selectors
 selected_by at (Ok selectors) s = Gives (selectors, s)
 selected_by at (Err why) s = Fails (fault (selector_code why) at)
 
--- the selectors of a rule
-unfoldable pub selected : List ℕ → Span → Eval Selectors
-selected text at s = selected_by at (nested_in s.nesting.parents (selectors_of text)) s
+-- the selectors of a rule, in `@at-root` or not
+unfoldable pub selected : Bool → List ℕ → Span → Eval Selectors
+selected at_root text at s =
+    selected_by at (nested_in (at_root || is_at_root s.nesting.rules) s.nesting.parents (selectors_of text)) s
 
 -- ---- `&`
 

@@ -6,8 +6,8 @@ ghost use Rattle.sw_builtins.specs.Tables.{found};
 ghost use Rattle.sw_syntax_tree.specs.declared.callable.Kind.TheVariants as K;
 ghost use Rattle.sw_state.specs.declared.state.State.{State};
 
+use crate::entries::Found;
 use crate::faults::fails;
-use crate::passing::Found;
 use sw_builtins::{BuiltIn, Found as Meant, find};
 use sw_syntax_tree::Kind;
 use sw_talk::Stop;

@@ -1,29 +1,20 @@
 // Rules, and properties nested in each other.
-ghost use Rattle.std.specs.Prelude.{◌≡◌, IfOk};
+ghost use Rattle.std.specs.Prelude.{◌≡◌};
 ghost use Rattle.sw_literals.specs.Answers.{Returns};
 ghost use Rattle.sw_talk.specs.Did.{IsReturn};
-ghost use Rattle.sw_state.specs.Rules.{nested, unnested, rule_opening, rule_entered, rule_left, named_by, full_name, prefixed};
+ghost use Rattle.sw_state.specs.Rules.{nested, unnested, in_rule, in_frame, with_prefix, rule_opening, frame_entered, style_entered, rule_entered, rule_left, named_by, full_name, prefixed};
 ghost use Rattle.sw_talk.specs.Talk.{Gives};
 
-use crate::nesting::Nesting;
+use crate::nesting::{Nesting, Rules};
 use crate::output::close;
 use crate::state::State;
 use std::alloc::Global;
 use std::mem;
 use sw_literals::{Refused, joined};
+use sw_pieces::keyframe_text;
 use sw_selector::Selectors;
 use sw_talk::{Stop, stopped};
-use sw_text::{Memory, Name, Shared, Span};
-
-// The selectors that are `&`, once more.
-fn shared(parents: &Option<Shared<Selectors>>) -> Result<Option<Shared<Selectors>>, Memory>
-    ensures { IfOk result (λ again. again ≡ parents.now) }
-{
-    match parents {
-        Some(selectors) => Ok(Some(selectors.share()?)),
-        None => Ok(None),
-    }
-}
+use sw_text::{Name, Shared, Span};
 
 // The name of a property among those of another one.
 fn named_by(alloc: Global, prefix: &Option<Name>, name: Name, at: &Span) -> Result<Name, Refused>
@@ -36,6 +27,35 @@ fn named_by(alloc: Global, prefix: &Option<Name>, name: Name, at: &Span) -> Resu
             joined(alloc, &[prefix.share()?, hyphen, name], at)
         }
     }
+}
+
+// In a rule with these selectors.
+fn in_rule(parents: Shared<Selectors>, around: Nesting) -> Nesting
+    ensures { result ≡ in_rule parents around }
+{
+    let mut nesting = around;
+    nesting.parents = Some(parents);
+    nesting.rules = Rules::Nested;
+    nesting.in_rule = true;
+    nesting
+}
+
+// In one of keyframes.
+fn in_frame(around: Nesting) -> Nesting
+    ensures { result ≡ in_frame around }
+{
+    let mut nesting = around;
+    nesting.in_rule = true;
+    nesting
+}
+
+// Among the properties of this name.
+fn with_prefix(name: Name, around: Nesting) -> Nesting
+    ensures { result ≡ with_prefix name around }
+{
+    let mut nesting = around;
+    nesting.prefix = Some(name);
+    nesting
 }
 
 impl State {
@@ -66,24 +86,56 @@ impl State {
         let text = selectors.write(alloc)?;
         self.opened(text, at)?;
         let parents = Shared::new(alloc, selectors)?;
-        self.nest(Nesting {
-            parents: Some(parents),
-            prefix: None,
-        })
+        let around = self.nesting.share()?;
+        self.nest(in_rule(parents, around))
     }
 
-    /// Opens a rule, whose selectors have this text, which stands at the first place; the rule stands at the second.
-    pub fn enter_rule(
+    // Opens one of keyframes, which don't nest.
+    fn enter_frame(
         &mut self,
         alloc: Global,
         text: &Name,
         text_at: &Span,
         at: &Span,
     ) -> Result<(), Stop>
-        ensures { IsReturn result self.new (rule_entered text.now text_at.now at.now self.old) }
+        ensures { IsReturn result self.new (frame_entered text.now text_at.now at.now self.old) }
     {
-        let selectors = self.selected(alloc, text, text_at)?;
+        let text = stopped(keyframe_text(alloc, text, text_at))?;
+        self.opened(text, at)?;
+        let around = self.nesting.share()?;
+        self.nest(in_frame(around))
+    }
+
+    fn enter_style(
+        &mut self,
+        alloc: Global,
+        at_root: bool,
+        text: &Name,
+        text_at: &Span,
+        at: &Span,
+    ) -> Result<(), Stop>
+        ensures { IsReturn result self.new (style_entered at_root text.now text_at.now at.now self.old) }
+    {
+        let selectors = self.selected(alloc, at_root, text, text_at)?;
         self.rule_opening(alloc, selectors, at)
+    }
+
+    /// Opens a rule, in `@at-root` or not, whose selectors have this text, which stands at the first place; the rule
+    /// stands at the second.
+    pub fn enter_rule(
+        &mut self,
+        alloc: Global,
+        at_root: bool,
+        text: &Name,
+        text_at: &Span,
+        at: &Span,
+    ) -> Result<(), Stop>
+        ensures { IsReturn result self.new (rule_entered at_root text.now text_at.now at.now self.old) }
+    {
+        if self.nesting.rules.are_keyframes() {
+            return self.enter_frame(alloc, text, text_at, at);
+        }
+        self.enter_style(alloc, at_root, text, text_at, at)
     }
 
     /// Closes it.
@@ -107,10 +159,7 @@ impl State {
     pub fn enter_properties(&mut self, name: Name) -> Result<(), Stop>
         ensures { IsReturn result self.new (Gives (tt, prefixed name self.old)) }
     {
-        let parents = shared(&self.nesting.parents)?;
-        self.nest(Nesting {
-            parents,
-            prefix: Some(name),
-        })
+        let around = self.nesting.share()?;
+        self.nest(with_prefix(name, around))
     }
 }

@@ -19,26 +19,28 @@ use sw_values::Value;
 // Nested in the selectors of the rule around them, where there is one.
 fn nested_by(
     alloc: Global,
+    at_root: bool,
     parents: &Option<Shared<Selectors>>,
     child: &Selectors,
 ) -> Result<Selectors, SelectorFault>
-    ensures { IsAnswer result (nested_by parents.now child.now) }
+    ensures { IsAnswer result (nested_by at_root parents.now child.now) }
 {
     match parents {
-        None => nest(alloc, None, child, false),
-        Some(parents) => nest(alloc, Some(parents.get()), child, false),
+        None => nest(alloc, None, child, at_root),
+        Some(parents) => nest(alloc, Some(parents.get()), child, at_root),
     }
 }
 
 fn nested_in(
     alloc: Global,
+    at_root: bool,
     parents: &Option<Shared<Selectors>>,
     text: &Name,
 ) -> Result<Selectors, SelectorFault>
-    ensures { IsAnswer result (nested_in parents.now (selectors_of text.now)) }
+    ensures { IsAnswer result (nested_in at_root parents.now (selectors_of text.now)) }
 {
     match read(alloc, text.as_str()) {
-        Ok(child) => nested_by(alloc, parents, &child),
+        Ok(child) => nested_by(alloc, at_root, parents, &child),
         Err(why) => Err(why),
     }
 }
@@ -103,12 +105,19 @@ fn parent_by(
 }
 
 impl State {
-    // The selectors of a rule here.
+    // The selectors of a rule here, in `@at-root` or not.
     #[tactic(auto, unfolding(crate::specs::Selecting::selected))]
-    pub(crate) fn selected(&self, alloc: Global, text: &Name, at: &Span) -> Result<Selectors, Stop>
-        ensures { IsReturn result self.now (selected text.now at.now self.now) }
+    pub(crate) fn selected(
+        &self,
+        alloc: Global,
+        at_root: bool,
+        text: &Name,
+        at: &Span,
+    ) -> Result<Selectors, Stop>
+        ensures { IsReturn result self.now (selected at_root text.now at.now self.now) }
     {
-        selected_by(nested_in(alloc, &self.nesting.parents, text), at)
+        let at_root = at_root || self.nesting.rules.is_at_root();
+        selected_by(nested_in(alloc, at_root, &self.nesting.parents, text), at)
     }
 
     /// What `&` is.

@@ -57,10 +57,7 @@ impl State {
             },
             callers: List::new(alloc),
             css: CssTree::new(alloc),
-            nesting: Nesting {
-                parents: None,
-                prefix: None,
-            },
+            nesting: Nesting::at_top(),
             outer: List::new(alloc),
             late: false,
             turns: 1_000_000,

@@ -1,11 +1,11 @@
+use Rattle.std.proofs.Common.{sym, ◌∙◌}
 use Rattle.sw_state.specs.Rules.{rule_entered}
-use Rattle.sw_talk.proofs.Steps.{plain_err, plain_then}
 use Rattle.sw_state.proofs.state.State.enter_rule.Goals as goal
 
-pub returns-in_err-selectors : goal.returns-in_err-selectors
+pub returns-then-are_keyframes : goal.returns-then-are_keyframes
 unfolding rule_entered
-returns-in_err-selectors c = plain_err _ _ _ _ c.args.self.now _ c.in_err-selectors.ensures c.from_residual.ensures
+returns-then-are_keyframes c = rw (sym c.are_keyframes.ensures ∙ c.if-are_keyframes.true) c.enter_frame.ensures
 
 pub returns : goal.returns
 unfolding rule_entered
-returns c = plain_then _ _ _ _ c.args.self.now _ c.in_ok-selectors.ensures c.rule_opening.ensures
+returns c = rw (sym c.are_keyframes.ensures ∙ c.if-are_keyframes.false) c.enter_style.ensures

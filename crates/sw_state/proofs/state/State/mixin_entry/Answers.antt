@@ -1,7 +1,7 @@
 use Rattle.std.proofs.Common.{Ok, sym, ◌∙◌}
 use Rattle.sw_talk.specs.Talk.{Gives}
 use Rattle.sw_talk.proofs.Steps.{plain_then, plain_err}
-use Rattle.sw_state.specs.Passing.{mixin_entry, given_entry}
+use Rattle.sw_state.specs.Entries.{mixin_entry, given_entry}
 use Rattle.sw_state.proofs.Answering.{out_of_memory, plain_stopped, gives_same}
 use Rattle.sw_state.proofs.state.State.mixin_entry.Goals as goal
 

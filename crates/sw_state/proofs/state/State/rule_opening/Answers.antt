@@ -14,7 +14,10 @@ returns-in_err-opened c =
 pub returns-in_err-parents : goal.returns-in_err-parents
 returns-in_err-parents c = out_of_memory _ _ _ c.from_residual-in_err-parents.ensures
 
+pub returns-in_err-around : goal.returns-in_err-around
+returns-in_err-around c = out_of_memory _ _ _ c.from_residual-in_err-around.ensures
+
 pub returns : goal.returns
 unfolding rule_opening
 returns c =
-    plain_then _ _ _ _ _ _ (rw c.in_ok-text.ensures at c.in_ok-opened.ensures) (rw c.in_ok-parents.ensures at c.nest.ensures)
+    plain_then _ _ _ _ _ _ (rw c.in_ok-text.ensures at c.in_ok-opened.ensures) (rw (c.in_rule.ensures, c.in_ok-parents.ensures, c.in_ok-around.ensures) at c.nest.ensures)

@@ -1,0 +1,154 @@
+#!/bin/sh
+# How long the program takes beside sassc and rsass (Debian's packages of these names) on the same sheets, in one run.
+# Bootstrap 4 as Debian's libjs-bootstrap4 has it: its sheets, joined into one in the order of their imports, since neither its @import nor
+# its @extend is Sass of modules (the lines with @extend are left out for all three). A made system of 400 modules, of ten rules with 20 names
+# of two other modules each; sassc, which reads no @use, gets the same sheets with @import and a prefix for each module's names. Then an edit
+# of one of the modules that nothing else uses: a session's next compile, against a compile of the others from nothing.
+# The fastest of five runs counts. Where one of the two is missing, it is left out.
+# Usage: others.sh PROGRAM
+set -eu
+exec python3 - "$(realpath "$1")" <<'END'
+import os
+import re
+import shutil
+import subprocess
+import sys
+import tempfile
+import time
+
+BOOTSTRAP = "/usr/share/sass/bootstrap"
+MODULES, RULES, RUNS = 400, 10, 5
+# A compiler that has no end by then is left out of that line.
+MOST_SECONDS = 60
+
+
+def joined(path):
+    """A sheet of Bootstrap with the sheets that it imports in their places."""
+    lines = []
+    with open(path) as sheet:
+        for line in sheet:
+            found = re.fullmatch(r'\s*@import "([^"]+)";\s*', line)
+            if found:
+                folder, name = os.path.split(os.path.join(os.path.dirname(path), found[1]))
+                lines.append(joined(os.path.join(folder, f"_{name}.scss")))
+            elif "@extend" in line:
+                lines.append(re.sub(r"@extend [^;]*;", "", line))
+            else:
+                lines.append(line)
+    return "".join(lines)
+
+
+def fastest(words):
+    """The seconds of the fastest run; none where one had no end in time."""
+    times = []
+    for _ in range(RUNS):
+        begun = time.perf_counter()
+        try:
+            done = subprocess.run(words, stdout=subprocess.PIPE, stderr=subprocess.PIPE, timeout=MOST_SECONDS)
+        except subprocess.TimeoutExpired:
+            return None
+        times.append(time.perf_counter() - begun)
+        assert done.returncode == 0, (words, done.stderr[-400:], done.stdout[-400:])
+    return min(times)
+
+
+def write(folder, files):
+    for path, text in files.items():
+        with open(os.path.join(folder, path), "w") as file:
+            file.write(text)
+
+
+def names(prefix):
+    return "".join(f"${prefix}n{number}: {number + 1}px;\n" for number in range(10))
+
+
+def rules(number, lib, theme):
+    return "".join(
+        f".m{number}-{rule} {{\n  width: {lib}n{rule};\n  height: {theme}n{rule};\n  &:hover {{\n    width: {theme}n{rule} + {lib}n{rule};\n  }}\n}}\n"
+        for rule in range(RULES)
+    )
+
+
+def with_uses():
+    files = {"_lib.scss": names(""), "_theme.scss": names("")}
+    for number in range(MODULES):
+        files[f"_m{number}.scss"] = '@use "lib";\n@use "theme";\n' + rules(number, "lib.$", "theme.$")
+    files["main.scss"] = "".join(f'@use "m{number}";\n' for number in range(MODULES))
+    return files
+
+
+def with_imports():
+    files = {"_lib.scss": names("lib-"), "_theme.scss": names("theme-")}
+    for number in range(MODULES):
+        files[f"_m{number}.scss"] = rules(number, "$lib-", "$theme-")
+    files["main.scss"] = '@import "lib";\n@import "theme";\n' + "".join(f'@import "m{number}";\n' for number in range(MODULES))
+    return files
+
+
+class Session:
+    def __init__(self, program, files):
+        self.process = subprocess.Popen([program, "session"], stdin=subprocess.PIPE, stdout=subprocess.PIPE)
+        for path, text in files.items():
+            self.put(path, text)
+
+    def put(self, path, text):
+        self.process.stdin.write(f"put {path} {len(text.encode())}\n{text}\n".encode())
+        self.process.stdin.flush()
+        assert self.process.stdout.readline() == b"ok\n"
+
+    def compile(self):
+        begun = time.perf_counter()
+        self.process.stdin.write(b"compile main.scss\n")
+        self.process.stdin.flush()
+        ran = 0
+        while (line := self.process.stdout.readline()).startswith(b"ran "):
+            ran += 1
+        word, count = line.split()
+        assert word == b"css", line
+        self.process.stdout.read(int(count) + 1)
+        return time.perf_counter() - begun, ran
+
+
+def edited(program, files):
+    """The seconds of the fastest compile behind an edit of one module, of which the entry knows no name."""
+    session = Session(program, files)
+    session.compile()
+    times = []
+    for turn in range(RUNS):
+        session.put("_m0.scss", files["_m0.scss"].replace("width", f"-x{turn}-width"))
+        seconds, ran = session.compile()
+        assert ran == 1, ran
+        times.append(seconds)
+    session.process.stdin.close()
+    session.process.wait()
+    return min(times)
+
+
+def told(what, ours, others):
+    """A line for each of the others: its time, ours, and ours as a part of it."""
+    for name, seconds in others.items():
+        if seconds is None:
+            print(f"{what:36} {ours * 1000:9.2f} ms   {name} has no end in {MOST_SECONDS} s")
+            continue
+        print(f"{what:36} {ours * 1000:9.2f} ms   {name} {seconds * 1000:9.2f} ms   ratio {ours / seconds:6.4f}")
+
+
+def main():
+    program = sys.argv[1]
+    present = {name: shutil.which(name) for name in ("sassc", "rsass")}
+    with tempfile.TemporaryDirectory() as room:
+        if os.path.isdir(BOOTSTRAP):
+            write(room, {"main.scss": joined(f"{BOOTSTRAP}/bootstrap.scss")})
+            others = {name: fastest([at, os.path.join(room, "main.scss")]) for name, at in present.items() if at}
+            told("Bootstrap 4, from nothing", fastest([program, "once", room, "main.scss"]), others)
+    with tempfile.TemporaryDirectory() as uses, tempfile.TemporaryDirectory() as imports:
+        write(uses, with_uses())
+        write(imports, with_imports())
+        folders = {"sassc": imports, "rsass": uses}
+        others = {name: fastest([at, os.path.join(folders[name], "main.scss")]) for name, at in present.items() if at}
+        told(f"{MODULES} modules, from nothing", fastest([program, "once", uses, "main.scss"]), others)
+        told(f"{MODULES} modules, after an edit", edited(program, with_uses()), others)
+
+
+main()
+END

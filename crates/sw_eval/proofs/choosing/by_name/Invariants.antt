@@ -1,6 +1,0 @@
-use Rattle.std.proofs.Common.{◌≡◌, false, drop}
-use Rattle.sw_eval.specs.Choosing.{by_name}
-use Rattle.sw_eval.proofs.choosing.by_name.Given as goal
-
-abbrev pub invariant-arguments : goal.invariant-arguments
-invariant-arguments l = by_name l.name l.arguments ≡ by_name l.name (drop l.one-index l.arguments)

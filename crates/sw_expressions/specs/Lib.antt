@@ -1,0 +1,5 @@
+pub mod Choosing
+pub mod Functions
+pub mod Special
+pub mod Calls
+pub mod Expressions

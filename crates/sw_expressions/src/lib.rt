@@ -1,0 +1,11 @@
+//! Expressions: what one level of them means, over what evaluates the level below. It takes trees from below and hands
+//! values up.
+#![tactic(auto)]
+
+mod calls;
+mod choosing;
+mod functions;
+mod special;
+mod value;
+
+pub use value::value_one;

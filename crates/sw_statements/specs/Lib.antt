@@ -1,0 +1,12 @@
+pub mod Places
+pub mod Texts
+pub mod Flow
+pub mod Loops
+pub mod Messages
+pub mod Parameters
+pub mod Includes
+pub mod Assignments
+pub mod Styles
+pub mod AtRules
+pub mod Imports
+pub mod Statements
