@@ -1,0 +1,13 @@
+// What follows for those who are attached.
+ghost use Rattle.std.specs.Prelude.{List};
+ghost use Rattle.sw_record.specs.declared.reply.Reply.{Reply};
+ghost use Rattle.sw_protocol.specs.Heard.{HearsAll};
+ghost use Rattle.sw_hub.specs.Hubs.{Known, Each, Tells, Attended};
+
+/// Where some replies were told one after the other, all stay attached. One that was silent is as before. Each other one
+/// has heard them all, in order, behind what it had heard, or it is silent now: then it has heard the first of them, and
+/// its own count of faults rose.
+pub fn all_attend()
+    ensures { (replies : List Reply) (before now : List Known) → HearsAll Tells replies before now
+        → Each before now (λ old new. Attended old.silent new.silent replies old new) }
+{}
