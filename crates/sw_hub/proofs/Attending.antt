@@ -7,7 +7,7 @@ use Rattle.sw_record.specs.declared.reply.Reply.{Reply}
 use Rattle.sw_io.specs.Causes.{Rose}
 use Rattle.sw_protocol.specs.Heard.{HearsAll}
 use Rattle.sw_hub.specs.Hearing.{with_reply}
-use Rattle.sw_hub.specs.Hubs.{Known, HasHeard, FallsSilent, Called, Told, Each, Tells, with_all, counted_all, Attended}
+use Rattle.sw_hub.specs.Hubs.{Known, HasHeard, FallsSilent, Called, Told, Each, Tells, Attached, HubTells, AllAttend, with_all, counted_all, Attended}
 
 none_more : (heard : Option (List Reply)) → heard ≡ with_all [] heard
 none_more None = refl
@@ -95,6 +95,11 @@ one_told reply replies before between now first rest = record {
       by_all reply replies old mid new old.silent refl (first.each k old mid x there) (rest.each k mid new there y);
 }
 
-pub all_attend : (replies : List Reply) (before now : List Known) → HearsAll Tells replies before now → Each before now (λ old new. Attended old.silent new.silent replies old new)
-all_attend [] before now e = nothing_told before now e
-all_attend (reply ∷ replies) before now (between, first, rest) = one_told reply replies before between now first (all_attend replies between now rest)
+pub all_attend : (replies : List Reply) (before now : Attached) → HearsAll HubTells replies before now → AllAttend replies before now
+all_attend [] before now e = record {
+  each = nothing_told before.seats now.seats (ap (λ (x : Attached). x.seats) e);
+  given = ap (λ (x : Attached). x.given) e;
+}
+all_attend (reply ∷ replies) before now (between, first, rest) =
+    let more = all_attend replies between now rest in
+    record { each = one_told reply replies before.seats between.seats now.seats first.told more.each; given = more.given ∙ first.given }

@@ -62,6 +62,16 @@ pub record Each {A : Type 0} (before now : List A) (is : A → A → Type 0) : T
 abbrev pub Tells : Reply → List Known → List Known → Type 0
 Tells reply before now = Each before now (λ old new. Told old.silent reply old new)
 
+-- a hub: those who are attached, and how many numbers were given
+pub record Attached : Type 0 where
+  pub seats : List Known
+  pub given : ℕ
+
+-- each of those who are attached is told of a reply, and no number is given
+pub record HubTells (reply : Reply) (before now : Attached) : Type 0 where
+  pub told : Tells reply before.seats now.seats
+  pub given : now.given ≡ before.given
+
 -- these replies, behind those that were heard before, where they are told
 abbrev pub with_all : List Reply → Option (List Reply) → Option (List Reply)
 with_all replies = option_map (λ (heard : List Reply). heard ++ replies)
@@ -91,3 +101,8 @@ abbrev pub Attended : Bool → Bool → List Reply → Known → Known → Type 
 Attended true silent replies before now = now ≡ before
 Attended false false replies before now = (now.number ≡ before.number) × HeardAll replies before now
 Attended false true replies before now = (now.number ≡ before.number) × FellSilent replies before now
+
+-- what came of each who is attached; no number was given
+pub record AllAttend (replies : List Reply) (before now : Attached) : Type 0 where
+  pub each : Each before.seats now.seats (λ old new. Attended old.silent new.silent replies old new)
+  pub given : now.given ≡ before.given

@@ -121,15 +121,17 @@ impl<M: Reporter> Hub<M> {
 }
 
 impl<M: Reporter> Audience<Reply> for Hub<M> {
-    ghost use Rattle.std.specs.Prelude.{List, map};
-    ghost use Rattle.sw_hub.specs.Hubs.{Known, Tells, known};
+    ghost use Rattle.std.specs.Prelude.{map};
+    ghost use Rattle.sw_hub.specs.Hubs.{Attached, HubTells, known};
 
-    ghost State = { List Known };
+    ghost State = { Attached };
 
-    ghost state = { λ hub. map (λ seat. known M.heard M.number M.faults seat.number seat.silent seat.reporter)
-        hub.seats.items };
+    ghost state = { λ hub. record {
+      seats = map (λ seat. known M.heard M.number M.faults seat.number seat.silent seat.reporter) hub.seats.items;
+      given = hub.given;
+    } };
 
-    ghost hears = { Tells };
+    ghost hears = { HubTells };
 
     fn hear(&mut self, reply: &Reply) {
         self.tell(reply);
