@@ -10,6 +10,9 @@ use Rattle.sw_session.specs.Served.{Surroundings, Served, ServedWith}
 use Rattle.sw_disk_compile.specs.declared.ending.Ending.{Ending}
 use Rattle.sw_disk_compile.specs.declared.ending.Ending.TheVariants.{Css, Error, SinkFailed, Memory, DiskFailed}
 use Rattle.sw_disk_compile.specs.Once.{status_of}
+use Rattle.sw_make.specs.declared.ending.Ending.{Ending as Made}
+use Rattle.sw_make.specs.declared.ending.Ending.TheVariants as made
+use Rattle.sw_make.specs.Ends.{status_of as status_of_made}
 
 no_outside_by : (setting : Setting) (s : Stop) (old new : Surroundings) → 8 ≡ status_of_stop s → Served setting 1000000 s old new → ⊥
 no_outside_by setting stop.Ended old new e s = omega arith
@@ -47,3 +50,19 @@ not_source Error e = omega arith
 not_source SinkFailed e = omega arith
 not_source Memory e = omega arith
 not_source DiskFailed e = omega arith
+
+-- the statuses of a made workload
+pub of_made_sink : (ending : Made) → status_of_made ending ≡ 5 → ending ≡ made.SinkFailed
+of_made_sink made.Summed e = absurd (omega arith)
+of_made_sink made.SinkFailed e = refl
+of_made_sink made.Memory e = absurd (omega arith)
+
+pub made_not_source : (ending : Made) → status_of_made ending ≡ 4 → ⊥
+made_not_source made.Summed e = omega arith
+made_not_source made.SinkFailed e = omega arith
+made_not_source made.Memory e = omega arith
+
+pub made_not_disk : (ending : Made) → status_of_made ending ≡ 8 → ⊥
+made_not_disk made.Summed e = omega arith
+made_not_disk made.SinkFailed e = omega arith
+made_not_disk made.Memory e = omega arith

@@ -1,7 +1,7 @@
 // The command line.
-ghost use Rattle.std.specs.Prelude.{◌≡◌, None, Some};
+ghost use Rattle.std.specs.Prelude.{◌≡◌, ℕ, None, Some};
 ghost use Rattle.sw_io.specs.Causes.{Rose};
-ghost use Rattle.sw_command_line.specs.Forms.{form_of, Target, Session, Once};
+ghost use Rattle.sw_command_line.specs.Forms.{form_of, Target, Session, Once, Make};
 ghost use Rattle.sw_session.specs.Sheets.{hostless};
 ghost use Rattle.sw_commands.specs.Run.{surroundings, Runs};
 
@@ -10,6 +10,7 @@ use std::alloc::Global;
 use sw_command_line::{Command, command_of};
 use sw_disk_compile::once;
 use sw_io::{Disk, Sink, Source};
+use sw_make::make;
 use sw_protocol::{Audience, Output};
 use sw_record::Reply;
 use sw_session::{SheetReader, serve};
@@ -22,8 +23,9 @@ const NO_COMMAND: u8 = 7;
 /// Does what the words of the command line ask for, without the program's name, and gives the status: `session` answers
 /// the requests of the source without functions of a host, `once DIR ENTRY LOAD..` compiles a folder of the disk and
 /// writes its CSS alone, or the line of its fault, and `poll DIR ENTRY LOAD..` reads and compiles it at each line `scan`
-/// of the source. The audience is told of the reply to each compile, once it is written. Words in no such form give 7, and
-/// nothing is read, written, run or told.
+/// of the source; `make N` compiles the made folder of this number and its edits and writes their summary. The audience is
+/// told of the reply to each compile, once it is written, and of those of `make` as they are formed. Words in no such form
+/// give 7, and nothing is read, written, run or told.
 pub fn run<S: Source, K: Sink, D: Disk, E: Engine, T: Audience<Reply>>(
     alloc: Global,
     words: &[Name],
@@ -40,6 +42,8 @@ pub fn run<S: Source, K: Sink, D: Disk, E: Engine, T: Audience<Reply>>(
         → (source.new ≡ source.old) × (output.new ≡ output.old) × (disk.new ≡ disk.old) × (engine.new ≡ engine.old) }
     ensures no_disk { form_of words.now ≡ Some Session → disk.new ≡ disk.old }
     ensures no_source { (target : Target) → form_of words.now ≡ Some (Once target) → source.new ≡ source.old }
+    ensures no_outside { (number : ℕ) → form_of words.now ≡ Some (Make number)
+        → (source.new ≡ source.old) × (disk.new ≡ disk.old) }
     ensures source_fault { result ≡ 4 → Rose (S.faults source.old) (S.faults source.new) }
     ensures sink_fault { result ≡ 5 → Rose (K.faults output.old.sink) (K.faults output.new.sink) }
     ensures disk_fault { result ≡ 8 → Rose (D.faults disk.old) (D.faults disk.new) }
@@ -51,5 +55,6 @@ pub fn run<S: Source, K: Sink, D: Disk, E: Engine, T: Audience<Reply>>(
             once(alloc, &SheetReader, &target, output, disk, engine).status()
         }
         Some(Command::Poll(target)) => poll_folder(alloc, &target, source, output, disk, engine),
+        Some(Command::Make(number)) => make(alloc, &SheetReader, number, output, engine).status(),
     }
 }
