@@ -3,6 +3,7 @@ ghost use Rattle.std.specs.Prelude.{◌≡◌, IsTrue};
 ghost use Rattle.sw_command_line.specs.Forms.{form_seen, target_seen};
 
 use sw_command_line::{Command, Target};
+use sw_text::Name;
 
 /// Whether two commands ask for the same.
 pub(crate) fn is_same(a: &Command<'_>, b: &Command<'_>) -> bool
@@ -31,5 +32,31 @@ pub(crate) fn is_same(a: &Command<'_>, b: &Command<'_>) -> bool
 fn is_same_target(a: &Target<'_>, b: &Target<'_>) -> bool
     ensures { IsTrue result → target_seen a.now ≡ target_seen b.now }
 {
-    a.dir.as_str() == b.dir.as_str() && a.entry.as_str() == b.entry.as_str() && a.paths == b.paths
+    if !is_same_name(a.dir, b.dir) {
+        return false;
+    }
+    if !is_same_name(a.entry, b.entry) {
+        return false;
+    }
+    are_same(a.paths, b.paths)
+}
+
+fn is_same_name(a: &Name, b: &Name) -> bool
+    ensures { IsTrue result → a.now ≡ b.now }
+{
+    a.as_str() == b.as_str()
+}
+
+fn are_same(a: &[Name], b: &[Name]) -> bool
+    ensures { IsTrue result → a.now ≡ b.now }
+{
+    if a.len() != b.len() {
+        return false;
+    }
+    'paths: for i in 0..a.len() {
+        if !is_same_name(&a[i], &b[i]) {
+            return false;
+        }
+    }
+    true
 }
