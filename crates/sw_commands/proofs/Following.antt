@@ -1,5 +1,5 @@
 -- What follows for polls from what holds of every protocol, and of the folders that they read.
-use Rattle.std.proofs.Common.{◌≡◌, ℕ, List, [], ◌∷◌, ◌++◌, Some, ◌⊎◌, refl, subst}
+use Rattle.std.proofs.Common.{◌≡◌, ℕ, List, [], ◌∷◌, ◌++◌, Some, ◌⊎◌, refl, ap, ◌∙◌, subst}
 use Rattle.std.specs.declared.option.Option.{Option}
 use Rattle.sw_io.specs.Disks.{Course, after_listing}
 use Rattle.sw_command_line.specs.Forms.{Target}
@@ -8,13 +8,14 @@ use Rattle.sw_keeper.specs.Keeping.{Tables, kept_after}
 use Rattle.sw_protocol.specs.declared.stop.Stop.{Stop}
 use Rattle.sw_protocol.specs.declared.stop.Stop.TheVariants.{Ended}
 use Rattle.sw_protocol.specs.Script.{script, End}
-use Rattle.sw_protocol.specs.Transcript.{AreMarks}
+use Rattle.sw_protocol.specs.Transcript.{AreMarks, turns, held_after}
+use Rattle.sw_protocol.specs.Served as protocol
 use Rattle.sw_protocol.specs.Endings.{IsBrokenOff}
 use Rattle.sw_protocol.specs.Exactly.{more_next, Grows, EndsExactly, AnswersAll}
 use Rattle.sw_protocol.proofs.Whole.{exactly as exactly_of_any, all_answered as all_answered_of_any}
 use Rattle.sw_commands.specs.declared.word.Word.{Word}
 use Rattle.sw_commands.specs.declared.word.Word.TheVariants as word
-use Rattle.sw_commands.specs.Poll.{Event, Scan, Mark, Answered, Refused, Unread, held, word_of, front_by, grammar, compiled_of, turn_of, poll}
+use Rattle.sw_commands.specs.Poll.{Event, Scan, Mark, Answered, Refused, Unread, Held, held, word_of, front_by, grammar, compiled_of, turn_of, poll}
 use Rattle.sw_commands.specs.Listings.{ReadInTurn}
 use Rattle.sw_commands.specs.Served.{surroundings, Served}
 
@@ -51,3 +52,17 @@ in_turn setting target c kept (Scan ∷ events) (Refused course folder ran ∷ m
     let read = m.0 c refl in
     (read.1, in_turn setting target (after_listing c) kept events marks (subst (λ (x : Option Course). AreMarks (poll setting) (held target x kept) events marks) read.0 m.1))
 in_turn setting target c kept (Scan ∷ events) (Unread course ∷ marks) m = tt
+
+-- what is compiled stays
+keeps_target : (setting : Setting) (h : Held) (events : List Event) (marks : List Mark) → (held_after h (turns (poll setting) h events marks)).target ≡ h.target
+unfolding turns turn_of
+keeps_target setting h [] [] = refl
+keeps_target setting h (event ∷ events) [] = refl
+keeps_target setting h [] (mark ∷ marks) = refl
+keeps_target setting h (Scan ∷ events) (Answered course folder ran ∷ marks) =
+    keeps_target setting (held h.target course (kept_after h.kept h.target.entry (compiled_of setting h folder).runs)) events marks
+keeps_target setting h (Scan ∷ events) (Refused course folder ran ∷ marks) = keeps_target setting (held h.target course h.kept) events marks
+keeps_target setting h (Scan ∷ events) (Unread course ∷ marks) = keeps_target setting (held h.target course h.kept) events marks
+
+pub same_target : (setting : Setting) (most : ℕ) (stop : Stop) (old new : protocol.Surroundings Held) → protocol.Served (poll setting) most stop old new → new.held.target ≡ old.held.target
+same_target setting most stop old new s = ap (λ (h : Held). h.target) s.did.held ∙ keeps_target setting old.held (script grammar most s.taken).events s.marks

@@ -1,7 +1,7 @@
 // The command line.
 ghost use Rattle.std.specs.Prelude.{◌≡◌, ℕ, None, Some};
 ghost use Rattle.sw_io.specs.Causes.{Rose};
-ghost use Rattle.sw_command_line.specs.Forms.{form_of, Target, Session, Once, Make};
+ghost use Rattle.sw_command_line.specs.Forms.{form_of, form_seen, Target, Session, Once, Make};
 ghost use Rattle.sw_session.specs.Sheets.{hostless};
 ghost use Rattle.sw_commands.specs.Run.{surroundings, Runs};
 
@@ -50,11 +50,35 @@ pub fn run<S: Source, K: Sink, D: Disk, E: Engine, T: Audience<Reply>>(
 {
     match command_of(words) {
         None => NO_COMMAND,
-        Some(Command::Session) => serve(alloc, source, output, engine, &mut NoHosts),
-        Some(Command::Once(target)) => {
-            once(alloc, &SheetReader, &target, output, disk, engine).status()
-        }
-        Some(Command::Poll(target)) => poll_folder(alloc, &target, source, output, disk, engine),
-        Some(Command::Make(number)) => make(alloc, &SheetReader, number, output, engine).status(),
+        Some(command) => carry_out(alloc, command, source, output, disk, engine),
+    }
+}
+
+// Does what a command asks for.
+fn carry_out<S: Source, K: Sink, D: Disk, E: Engine, T: Audience<Reply>>(
+    alloc: Global,
+    command: Command<'_>,
+    source: &mut S,
+    output: &mut Output<K, T>,
+    disk: &mut D,
+    engine: &mut E,
+) -> u8
+    ensures runs { Runs (hostless E.body) T.hears (Some (form_seen command.entry)) result
+        (surroundings (S.left source.old) (K.written output.old.sink) (D.course disk.old) (E.ran engine.old))
+        (surroundings (S.left source.new) (K.written output.new.sink) (D.course disk.new) (E.ran engine.new))
+        (T.state output.old.audience) (T.state output.new.audience) }
+    ensures no_disk { form_seen command.entry ≡ Session → disk.new ≡ disk.old }
+    ensures no_source { (target : Target) → form_seen command.entry ≡ Once target → source.new ≡ source.old }
+    ensures no_outside { (number : ℕ) → form_seen command.entry ≡ Make number
+        → (source.new ≡ source.old) × (disk.new ≡ disk.old) }
+    ensures source_fault { result ≡ 4 → Rose (S.faults source.old) (S.faults source.new) }
+    ensures sink_fault { result ≡ 5 → Rose (K.faults output.old.sink) (K.faults output.new.sink) }
+    ensures disk_fault { result ≡ 8 → Rose (D.faults disk.old) (D.faults disk.new) }
+{
+    match command {
+        Command::Session => serve(alloc, source, output, engine, &mut NoHosts),
+        Command::Once(target) => once(alloc, &SheetReader, &target, output, disk, engine).status(),
+        Command::Poll(target) => poll_folder(alloc, &target, source, output, disk, engine),
+        Command::Make(number) => make(alloc, &SheetReader, number, output, engine).status(),
     }
 }

@@ -65,9 +65,10 @@ fn polled<S: Source, K: Sink, D: Disk, E: Engine, T: Audience<Reply>>(
     match Lines::new(alloc) {
         Err(_) => Stop::Memory,
         Ok(lines) => {
+            let watched = Watched::<SheetReader, E>::new(alloc);
             let protocol = Poll {
                 target: *target,
-                watched: Watched::<SheetReader, E>::new(alloc),
+                watched,
                 alloc,
             };
             let mut service = Service { lines, protocol };
