@@ -3,11 +3,11 @@
 #![tactic(auto)]
 
 mod ending;
-mod make;
+mod making;
 mod tally;
 mod texts;
 mod workload;
 
 pub use ending::Ending;
-pub use make::make;
+pub use making::make;
 pub use tally::Tally;

@@ -3,7 +3,7 @@ use Rattle.std.proofs.lemmas.List.{append-nil}
 use Rattle.sw_make.specs.Made.{hostless}
 use Rattle.sw_make.specs.Ends.{standing, Counts}
 use Rattle.sw_make.proofs.Going.{going_start, nothing_yet, going_breaks, uncounted, going_on}
-use Rattle.sw_make.proofs.make.all_compiles.Goals as goal
+use Rattle.sw_make.proofs.making.all_compiles.Goals as goal
 
 pub returns-in_err-keeper-clause-err : goal.returns-in_err-keeper-clause-err
 returns-in_err-keeper-clause-err g c =

@@ -1,7 +1,7 @@
 use Rattle.sw_make.specs.Made.{hostless}
 use Rattle.sw_make.specs.Ends.{standing}
 use Rattle.sw_make.proofs.Going.{Going}
-use Rattle.sw_make.proofs.make.all_compiles.Given as goal
+use Rattle.sw_make.proofs.making.all_compiles.Given as goal
 
 abbrev pub invariant-turns : goal.invariant-turns
 invariant-turns g l =
