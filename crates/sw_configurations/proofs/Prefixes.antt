@@ -1,5 +1,5 @@
 -- A name without its prefix.
-use Rattle.std.proofs.Common.{◌≡◌, ℕ, List, ◌++◌, Bool, true, false, length, drop, Option, Some, None, eqb, refl, ◌∙◌, ap, sym}
+use Rattle.std.proofs.Common.{◌≡◌, ℕ, List, ◌++◌, true, drop, Some, None, eqb, refl, ◌∙◌, ap}
 use Rattle.std.specs.List.{starts_with}
 use Rattle.std.specs.Str.Pattern.{FindsTextPrefix, StripsPrefix, LacksTextAt}
 use Rattle.std.proofs.Common.{⊎_elim}

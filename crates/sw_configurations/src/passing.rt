@@ -55,7 +55,9 @@ fn inner_name(alloc: Global, prefix: &Name, name: &Name) -> Result<Option<Name>,
 fn has_variable(members: &[Member], name: &Name) -> bool
     ensures { result ≡ has_variable members.now name.now }
 {
-    members.iter().any(|one| one.variable && one.name.same(name))
+    members
+        .iter()
+        .any(|one| one.variable && one.name.same(name))
 }
 
 fn lets_through(filter: &Filter, name: &Name) -> bool

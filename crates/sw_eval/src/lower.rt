@@ -16,7 +16,8 @@ pub(crate) struct Lower<F> {
     pub makes: F,
 }
 
-impl<W: World, F: Fn(&mut Walk, Work<'_>, &mut W) -> Result<Made, Stop> + Copy> Below<W> for Lower<F> {
+impl<W: World, F: Fn(&mut Walk, Work<'_>, &mut W) -> Result<Made, Stop> + Copy> Below<W>
+    for Lower<F> {
     ghost use Rattle.sw_eval.specs.Means.{value_to, does_to, enter_to};
     ghost use Rattle.sw_eval.specs.Lower.{AlwaysMakes};
 

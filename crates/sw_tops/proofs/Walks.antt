@@ -1,5 +1,5 @@
 -- The top level, a step at a time.
-use Rattle.std.proofs.Common.{◌≡◌, ℕ, suc, ◌+◌, ◌<◌, ◌≤◌, List, [], ◌∷◌, length, drop, get_or, Option, Some, None, Result, Ok, Err, refl, sym, ◌∙◌, ap, subst, add-one}
+use Rattle.std.proofs.Common.{◌≡◌, ℕ, suc, Bool, true, false, ◌+◌, ◌<◌, ◌≤◌, List, [], ◌∷◌, length, drop, get_or, Option, Some, None, Result, Ok, Err, refl, sym, ◌∙◌, ap, subst, add-one}
 use Rattle.std.specs.Prelude.{IsErr, IsErrAnd}
 use Rattle.sw_text.specs.declared.fault.Fault.{Fault as Fault_at}
 use Rattle.sw_syntax_tree.specs.declared.expr.Expr.{Expr}
@@ -15,15 +15,16 @@ use Rattle.sw_configurations.specs.Passing.{Settings}
 use Rattle.sw_talk.specs.Talk.{Talk, Gives, Fails, Asking, bind}
 use Rattle.sw_talk.specs.Asking.{asking}
 use Rattle.sw_talk.specs.Ran.{Stand, Ran, ran_on, within}
-use Rattle.sw_talk.specs.Did.{Did}
+use Rattle.sw_talk.specs.Did.{Did, IsReturn}
 use Rattle.sw_talk.specs.declared.stop.Stop.{Stop}
 use Rattle.sw_talk.specs.declared.stop.Stop.TheVariants.{Memory, Fault}
-use Rattle.sw_talk.proofs.Steps.{err_of, did_memory, did_stop}
+use Rattle.sw_talk.proofs.Steps.{err_of, did_then}
 use Rattle.sw_talk.proofs.Loops.{next_item, loop_at, loop_end}
 use Rattle.sw_state.specs.Eval.{Eval}
 use Rattle.sw_state.specs.Left.{callable_of}
 use Rattle.sw_state.specs.declared.state.State.{State}
 use Rattle.sw_tops.specs.Loading.{question, prepared, load_ended, loaded, load}
+use Rattle.sw_tops.specs.Taking.{preset}
 use Rattle.sw_tops.specs.Tops.{marked, other, top_by, top, tops, rest}
 use Rattle.sw_tops.specs.Walks.{WaitsAt, TopDid, Walked}
 
@@ -73,6 +74,21 @@ module _ (value : Parens → Expr → Eval Plain) (config : Settings) (l : Loadi
     at_end = at_end;
   }
 
+  -- what stops behind its configuration
+  pub load_stops : {W : Type 0} {gives : W → Op → Answer → W → Type 0} (given : List Given) (s u v : State) (a b c d : Stand) (w y z : W) (e : Stop) (r : Result (Option Op) Stop) → Did gives (prepared value config l s) a w (Ok given) u b y
+      → Did gives (loaded config l given u) b y (Err e) v c z → d ≡ c → IsErr r × IsErrAnd r (λ k. k ≡ e) → TopDid gives (load value config l) s a w r v d z
+  unfolding load
+  load_stops given s u v a b c d w y z e r did then same p = rw (err_of r e p, same) (did_then _ did then)
+
+-- ---- what has no fault
+
+of_gives : {A : Type 0} (p q : A) → ◌≡◌ {A = Talk A} (Gives p) (Gives q) → p ≡ q
+of_gives p q e = cc
+
+-- what a function that has no fault returns for want of memory
+pub memory_returns : {A S : Type 0} (t : Talk (A × S)) (s : S) (r : Result A Stop) → IsErr r × IsErrAnd r (λ z. z ≡ Memory) → IsReturn r s t
+memory_returns t s r p = rw (err_of r Memory p) tt
+
 -- ---- statements
 
 module _ {W : Type 0} (gives : W → Op → Answer → W → Type 0) where
@@ -101,6 +117,13 @@ module _ (value : Parens → Expr → Eval Plain) (does : Statement → Eval (Op
         → IsErr r × IsErrAnd r (λ z. z ≡ e) → TopDid gives (top value does config n x) s a w r u b y
     unfolding top
     top_errs n x s t u a b w y e r is at d p = top_err gives (top value does config n x) s u a b w y r e (rw (is, ← at) d) p
+
+  -- a variable that has its configured value, and other statements
+  pub other_preset : (x : Statement) (s u : State) → callable_of x ≡ None → ◌≡◌ {A = Talk (Bool × State)} (Gives (preset config x s)) (Gives (true, u)) → other value does config x (callable_of x) s ≡ Gives (tt, u)
+  other_preset x s u is gave = rw (is, of_gives (preset config x s) (true, u) gave) refl
+
+  pub other_does : (x : Statement) (s u : State) → callable_of x ≡ None → ◌≡◌ {A = Talk (Bool × State)} (Gives (preset config x s)) (Gives (false, u)) → other value does config x (callable_of x) s ≡ bind (does x u) (λ r. Gives (tt, r.1))
+  other_does x s u is gave = rw (is, of_gives (preset config x s) (false, u) gave) refl
 
   tops_within : {W : Type 0} {gives : W → Op → Answer → W → Type 0} (n : ℕ) (x : Statement) (xs : List Statement) (s : State) (last : Talk (Unit {0} × State)) (a b : Stand) (w y : W) → Ran gives (top value does config n x s) a w last b y
       → Ran gives (tops value does config n (x ∷ xs) s) a w (bind last (λ r. tops value does config (suc n) xs r.1)) b y

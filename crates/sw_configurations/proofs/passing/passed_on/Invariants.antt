@@ -1,5 +1,5 @@
 use Rattle.std.proofs.Common.{◌≡◌, ◌++◌, drop}
-use Rattle.sw_configurations.specs.Passing.{passed_one, passed_on}
+use Rattle.sw_configurations.specs.Passing.{passed_on}
 use Rattle.sw_configurations.proofs.passing.passed_on.Given as goal
 
 abbrev pub invariant-config : goal.invariant-config

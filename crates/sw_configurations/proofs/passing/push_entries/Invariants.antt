@@ -2,7 +2,7 @@ use Rattle.std.proofs.Common.{◌≡◌, ◌++◌, drop, map}
 use Rattle.std.specs.Prelude.{filter}
 use Rattle.std.specs.Option.{is_some}
 use Rattle.sw_configurations.specs.Loads.{prefix_of}
-use Rattle.sw_configurations.specs.Passing.{value_passed, taken_by_entries}
+use Rattle.sw_configurations.specs.Passing.{value_passed}
 use Rattle.sw_configurations.proofs.passing.push_entries.Given as goal
 
 abbrev pub invariant-entries : goal.invariant-entries
