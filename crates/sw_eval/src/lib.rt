@@ -6,8 +6,9 @@ mod engine;
 mod knot;
 mod laws;
 mod lower;
-mod top;
+mod outermost;
 mod turn;
+mod work;
 
 pub use engine::{Evaluation, Evaluator};
 pub use laws::body_laws;

@@ -1,5 +1,6 @@
-// The level below as closures.
+// The level below as a closure.
 
+use crate::work::{Made, Work, returned_in, value_in};
 use sw_literals::Parens;
 use sw_syntax_tree::{Expr, Statement};
 use sw_talk::Stop;
@@ -10,21 +11,15 @@ use sw_world::World;
 
 /// The level below: what may be nested in it no deeper than a number.
 #[derive(Clone, Copy)]
-pub(crate) struct Lower<V, S, E> {
+pub(crate) struct Lower<F> {
     pub depth: u32,
-    pub value: V,
-    pub does: S,
-    pub enter: E,
+    pub makes: F,
 }
 
-impl<
-    W: World,
-    V: Fn(&mut Walk, Parens, &Expr, &mut W) -> Result<Value, Stop> + Copy,
-    S: Fn(&mut Walk, &Statement, &mut W) -> Result<Option<Value>, Stop> + Copy,
-    E: Fn(&mut Walk, &Span, Body<'_>, &mut W) -> Result<Option<Value>, Stop> + Copy,
-> Below<W> for Lower<V, S, E> {
+impl<W: World, F: Fn(&mut Walk, Work<'_>, &mut W) -> Result<Made, Stop> + Copy> Below<W>
+    for Lower<F> {
     ghost use Rattle.sw_eval.specs.Means.{value_to, does_to, enter_to};
-    ghost use Rattle.sw_eval.specs.Lower.{Values, Statements, Bodies};
+    ghost use Rattle.sw_eval.specs.Lower.{AlwaysMakes};
 
     ghost values = { λ b. value_to b.depth };
 
@@ -32,8 +27,7 @@ impl<
 
     ghost bodies = { λ b. enter_to b.depth };
 
-    ghost fits = { λ b. Values W.gives V.Fn b.value b.depth × Statements W.gives S.Fn b.does b.depth
-        × Bodies W.gives E.Fn b.enter b.depth };
+    ghost fits = { λ b. AlwaysMakes W.gives F.Fn b.makes b.depth };
 
     fn value(
         self,
@@ -42,7 +36,7 @@ impl<
         e: &Expr,
         world: &mut W,
     ) -> Result<Value, Stop> {
-        (self.value)(walk, parens, e, world)
+        value_in((self.makes)(walk, Work::Value(parens, e), world))
     }
 
     fn does(
@@ -51,7 +45,7 @@ impl<
         statement: &Statement,
         world: &mut W,
     ) -> Result<Option<Value>, Stop> {
-        (self.does)(walk, statement, world)
+        returned_in((self.makes)(walk, Work::Statement(statement), world))
     }
 
     fn enter(
@@ -61,6 +55,6 @@ impl<
         body: Body<'_>,
         world: &mut W,
     ) -> Result<Option<Value>, Stop> {
-        (self.enter)(walk, at, body, world)
+        returned_in((self.makes)(walk, Work::Entering(at, body), world))
     }
 }
