@@ -7,7 +7,7 @@ use Rattle.sw_builtins.specs.Tables.{Row, kind_and_name, math, string, list, map
 use Rattle.sw_world.specs.declared.op.Filter.{Filter}
 use Rattle.sw_modules.specs.declared.members.Entry.{Entry}
 use Rattle.sw_modules.specs.Interfaces.{own_entry, passed}
-use Rattle.sw_modules.proofs.Interfaces.{one_more, passed_rows, rows-append}
+use Rattle.sw_modules.proofs.PassedOn.{one_more, passed_rows, rows-append}
 
 -- No built-in module has more than a thousand members
 

@@ -58,13 +58,17 @@ first_explicit given = find (λ one. one.explicit) given
 abbrev pub first_untaken : List Given → List (List ℕ) → Option Given
 first_untaken given taken = find (λ one. one.explicit && not (list_any (bytes_eq one.name) taken)) given
 
--- a loaded module with this interface is used by the innermost open load: behind a namespace, as one whose members are
--- the sheet's own (`as *`), or forwarded. Neither may a namespace stand for a module already, nor may two forwards bring
--- members of one kind and name of different origins.
+-- a loaded module that brings these members is used by the innermost open load: behind a namespace, as one whose
+-- members are the sheet's own (`as *`), or forwarded. Neither may a namespace stand for a module already, nor may two
+-- forwards bring members of one kind and name of different origins.
+abbrev pub used_with : How → List ℕ → List Entry → List (List ℕ) → Span → State → Answer × State
+used_with how path entries taken span s =
+    if is_taken how entries (uses_in s.opened) then (refused MemberConflict span, s)
+    else (Loaded path taken, record s { opened = with_use how path entries s.opened })
+
+-- a loaded module with this interface
 abbrev pub used_as : How → List ℕ → List Entry → List (List ℕ) → Span → State → Answer × State
-used_as how path interface taken span s =
-    if is_taken how (brought how interface) (uses_in s.opened) then (refused MemberConflict span, s)
-    else (Loaded path taken, record s { opened = with_use how path (brought how interface) s.opened })
+used_as how path interface taken span s = used_with how path (brought how interface) taken span s
 
 abbrev pub at_once : Answer × State → Begin × State
 at_once (answer, s) = (Answered answer, s)

@@ -4,12 +4,14 @@ ghost use Rattle.indexmap.specs.IndexMap.{insert_entry};
 ghost use Rattle.sw_world.specs.Questions.{IsLoad};
 ghost use Rattle.sw_world.specs.declared.answer.Answer.TheVariants.{Loaded as Loaded_answer};
 ghost use Rattle.sw_modules.specs.Interfaces.{brought};
-ghost use Rattle.sw_modules.specs.Uses.{is_taken, no_uses, with_one, uses_counts, first_uses};
+ghost use Rattle.sw_modules.specs.Uses.{is_taken, no_uses, with_one, first_uses};
 ghost use Rattle.sw_modules.specs.State.{below, changed_below, closed, module_of, used_by, loaded_now, path_in, uses_in, with_use};
 ghost use Rattle.sw_modules.specs.Loads.{refused, first_untaken, used_unless, interface_at_end, ended_by, left_by, AnswersLoad};
 
 use crate::interfaces::brought_of;
-use crate::loads::{below, counts, first_untaken, refused, share_names, takes, truncate_at, use_at};
+use crate::loads::{
+    below, counts, first_untaken, refused, share_names, takes, truncate_at, use_at,
+};
 use crate::uses::Source;
 use crate::{Entry, Live, Module, Opened, UsesCounts};
 use sw_text::{FaultCode, List, Memory, Name, Shared, Span};

@@ -1,14 +1,12 @@
 // What a forward brings.
-ghost use Rattle.std.specs.Prelude.{◌≡◌, ◌++◌, ◌∷◌, [], ℕ, List, filter, map, not, length, IfOk, OnOk, Some, None};
+ghost use Rattle.std.specs.Prelude.{◌≡◌, ◌++◌, ◌∷◌, [], filter, not, IfOk, OnOk};
 ghost use Rattle.std.specs.List.{list_any};
 ghost use Rattle.std.specs.Map.{keys_of};
-ghost use Rattle.sw_syntax_tree.specs.declared.callable.Kind.{Kind};
-ghost use Rattle.sw_builtins.specs.Tables.{rows_of};
-ghost use Rattle.sw_modules.specs.Interfaces.{has_own, own_entry, own_entries, entry_of, entries_of, unhidden, interface, row_entry, built_in_interface, is_variable, is_named, lets_through, passed, brought};
+ghost use Rattle.sw_modules.specs.Interfaces.{has_own, own_entries, entry_of, unhidden, interface, built_in_interface, is_variable, is_named, lets_through, passed, brought};
 
+use crate::Module;
 use crate::members::{Entry, Members, Origin};
 use crate::names::has_own;
-use crate::Module;
 use std::alloc::Global;
 use sw_builtins::member;
 use sw_syntax_tree::Kind;
@@ -136,7 +134,7 @@ impl<'p> Passing<'p> {
         'members: for place in 0..table.len() {
             match table.at(place) {
                 Some((name, _)) => self.pass_own(brought, kind, path, name)?,
-                None => {}
+                None => unreachable!(),
             }
         }
         Ok(())
@@ -174,7 +172,7 @@ impl<'p> Passing<'p> {
         'members: for place in 0..table.len() {
             match table.at(place) {
                 Some((name, origin)) => self.pass_unhidden(brought, kind, held, name, origin)?,
-                None => {}
+                None => unreachable!(),
             }
         }
         Ok(())
@@ -192,7 +190,12 @@ impl<'p> Passing<'p> {
     {
         let mut brought = List::new(self.alloc);
         self.pass_owns(&mut brought, Kind::Variable, path, held.variables.table())?;
-        self.pass_owns(&mut brought, Kind::Function, path, &held.callables.functions)?;
+        self.pass_owns(
+            &mut brought,
+            Kind::Function,
+            path,
+            &held.callables.functions,
+        )?;
         self.pass_owns(&mut brought, Kind::Mixin, path, &held.callables.mixins)?;
         self.pass_forwarded(&mut brought, Kind::Variable, held, forwarded)?;
         self.pass_forwarded(&mut brought, Kind::Function, held, forwarded)?;
@@ -243,7 +246,11 @@ pub(crate) fn brought_of(
 }
 
 /// What a use of the built-in module of a URL brings.
-pub(crate) fn brought_of_built_in(alloc: Global, how: &How, url: &Name) -> Result<List<Entry>, Memory>
+pub(crate) fn brought_of_built_in(
+    alloc: Global,
+    how: &How,
+    url: &Name,
+) -> Result<List<Entry>, Memory>
     ensures { IfOk result (λ entries. entries ≡ brought how.now (built_in_interface url.now)) }
 {
     match how {

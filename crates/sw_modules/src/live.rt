@@ -1,5 +1,5 @@
 // The live state of a compile.
-ghost use Rattle.std.specs.Prelude.{◌≡◌, ◌<◌, ◌+◌, ◌++◌, ◌∷◌, [], ℕ, List, length, bytes_eq, ◌≤◌, IfOk, IfSome, OnOk, OnErr, None, Some, if◌then◌else◌};
+ghost use Rattle.std.specs.Prelude.{◌≡◌, ◌<◌, ◌+◌, ◌++◌, ◌∷◌, [], ℕ, length, bytes_eq, ◌≤◌, IfOk, IfSome, OnOk, OnErr, None, Some, if◌then◌else◌};
 ghost use Rattle.std.specs.Map.{lookup};
 ghost use Rattle.std.specs.Option.{option_copied};
 ghost use Rattle.sw_world.specs.Questions.{IsLoad, Fits};
@@ -95,10 +95,8 @@ impl<'a> Model for Live<'a> {
 }
 
 impl<'a> Live<'a> {
-    ghost use Rattle.sw_modules.specs.declared.members.Entry.{Entry};
-    ghost use Rattle.sw_modules.specs.Interfaces.{brought};
     ghost use Rattle.sw_modules.specs.State.{nothing_loaded, closed, loaded_now, path_in, with_variable};
-    ghost use Rattle.sw_modules.specs.Loads.{begun, begin_path, begin_module, used_as, used_unless, ended_by, left_by, entry_text, entered, AnswersLoad, IsBegun, IsEntered};
+    ghost use Rattle.sw_modules.specs.Loads.{begun, begin_path, begin_module, used_with, used_unless, ended_by, left_by, entry_text, entered, AnswersLoad, IsBegun, IsEntered};
 
     /// Nothing is loaded or open. Takes no memory.
     pub fn new(alloc: Global, folder: &'a Folder, paths: &'a [Name]) -> Live<'a>
@@ -249,8 +247,8 @@ impl<'a> Live<'a> {
         source: Source,
         span: &Span,
     ) -> Result<Answer, Memory>
-        ensures ok { IfOk result (λ answer. (interface : List Entry) → source.brought ≡ brought how.now interface
-            → used_as how.now source.path interface [] span.now self.old ≡ (answer, self.new)) }
+        ensures ok { IfOk result (λ answer. used_with how.now source.path source.brought [] span.now self.old
+            ≡ (answer, self.new)) }
         ensures kind { IfOk result AnswersLoad }
         ensures same_depth { length self.new.opened ≡ length self.old.opened }
         ensures err { OnErr result (self.new ≡ self.old) }

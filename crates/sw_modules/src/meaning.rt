@@ -175,7 +175,10 @@ impl<'a> Live<'a> {
     fn brings(&self, path: &Name, kind: Kind, name: &Name) -> bool
         ensures { result ≡ brings self.now kind name.now path.now }
     {
-        self.public_origin(kind, name, path).is_some()
+        match self.public_origin(kind, name, path) {
+            Some(_) => true,
+            None => false,
+        }
     }
 
     fn brings_other(&self, path: &Name, other: &Name, kind: Kind, name: &Name) -> bool

@@ -1,7 +1,6 @@
 // Members with their origins.
-ghost use Rattle.std.specs.Prelude.{◌≡◌, ℕ, bytes_eq, take, IfOk, OnOk, OnErr};
-ghost use Rattle.std.specs.Map.{lookup};
-ghost use Rattle.std.specs.Option.{option_copied, is_some};
+ghost use Rattle.std.specs.Prelude.{◌≡◌, ℕ, take, IfOk, OnOk, OnErr};
+ghost use Rattle.std.specs.Option.{option_copied};
 ghost use Rattle.sw_modules.specs.Interfaces.{no_members, of_kind, origin_in, same_origin, is_other, conflicts, with_name, with_entry, joined};
 ghost use Rattle.sw_modules.specs.Uses.{counts_of, first_members};
 

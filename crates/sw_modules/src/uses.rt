@@ -1,5 +1,5 @@
 // Which modules a module uses, and how.
-ghost use Rattle.std.specs.Prelude.{◌≡◌, ◌++◌, ◌∷◌, [], OnOk, OnErr};
+ghost use Rattle.std.specs.Prelude.{◌≡◌, OnOk, OnErr};
 ghost use Rattle.sw_modules.specs.Uses.{no_uses, is_taken, with_one, uses_counts, first_uses};
 
 use crate::{Counts, Entry, Members};

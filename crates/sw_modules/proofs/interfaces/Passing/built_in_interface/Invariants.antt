@@ -1,6 +1,6 @@
 use Rattle.std.proofs.Common.{◌≡◌, take}
 use Rattle.sw_builtins.specs.Tables.{rows_of}
-use Rattle.sw_modules.proofs.Interfaces.{passed_rows}
+use Rattle.sw_modules.proofs.PassedOn.{passed_rows}
 use Rattle.sw_modules.proofs.interfaces.Passing.built_in_interface.Given as goal
 
 abbrev pub invariant-members : goal.invariant-members

@@ -1,6 +1,6 @@
 use Rattle.std.proofs.Common.{◌≡◌, ◌++◌, take}
 use Rattle.sw_modules.specs.Interfaces.{of_kind}
-use Rattle.sw_modules.proofs.Interfaces.{passed_open}
+use Rattle.sw_modules.proofs.PassedOn.{passed_open}
 use Rattle.sw_modules.proofs.interfaces.Passing.pass_forwarded.Given as goal
 
 abbrev pub invariant-members : goal.invariant-members

@@ -1,5 +1,5 @@
 use Rattle.std.proofs.Common.{◌≡◌, ◌++◌, take}
-use Rattle.sw_modules.proofs.Interfaces.{passed_owns}
+use Rattle.sw_modules.proofs.PassedOn.{passed_owns}
 use Rattle.sw_modules.proofs.interfaces.Passing.pass_owns.Given as goal
 
 abbrev pub invariant-members : goal.invariant-members

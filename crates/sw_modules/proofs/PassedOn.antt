@@ -51,7 +51,7 @@ own_entries-append kind path xs ys =
     ap (map (own_entry kind path)) (filter-append (λ name. not (is_private name)) xs ys)
     ∙ map-append (own_entry kind path) (filter (λ name. not (is_private name)) xs) (filter (λ name. not (is_private name)) ys)
 
-pub keys-append : {X : Type 0} → Splits (keys_of {List ℕ} {X})
+pub keys-append : {X : Type 0} → Splits (keys_of {K = List ℕ} {X = X})
 keys-append [] ys = refl
 keys-append (x ∷ xs) ys = ap (λ l. x.0 ∷ l) (keys-append xs ys)
 
@@ -59,7 +59,7 @@ keys-append (x ∷ xs) ys = ap (λ l. x.0 ∷ l) (keys-append xs ys)
 abbrev pub passed_owns : {X : Type 0} → List ℕ → Filter → Kind → List ℕ → List (List ℕ × X) → List Entry
 passed_owns prefix which kind path table = passed prefix which (own_entries kind path (keys_of table))
 
-pub owns-append : {X : Type 0} (prefix : List ℕ) (which : Filter) (kind : Kind) (path : List ℕ) → Splits (passed_owns {X} prefix which kind path)
+pub owns-append : {X : Type 0} (prefix : List ℕ) (which : Filter) (kind : Kind) (path : List ℕ) → Splits (passed_owns {X = X} prefix which kind path)
 owns-append prefix which kind path xs ys =
     ap (λ l. passed prefix which (own_entries kind path l)) (keys-append xs ys)
     ∙ ap (passed prefix which) (own_entries-append kind path (keys_of xs) (keys_of ys))
