@@ -65,6 +65,12 @@ owns-append prefix which kind path xs ys =
     ∙ ap (passed prefix which) (own_entries-append kind path (keys_of xs) (keys_of ys))
     ∙ passed-append prefix which (own_entries kind path (keys_of xs)) (own_entries kind path (keys_of ys))
 
+pub next_own : {X : Type 0} (table : List (List ℕ × X)) (prefix : List ℕ) (which : Filter) (kind : Kind) (path : List ℕ) (at : ℕ) (e : List ℕ × X) → slice_get table at ≡ Some e
+    → (first before after : List Entry) → before ≡ first ++ passed_owns prefix which kind path (take at table) → after ≡ before ++ passed prefix which (own_entries kind path (e.0 ∷ []))
+    → after ≡ first ++ passed_owns prefix which kind path (take (at + 1) table)
+next_own {X} table prefix which kind path at e here first before after is adds =
+    one_more (passed_owns {X = X} prefix which kind path) (owns-append {X = X} prefix which kind path) table at e here first before after is adds
+
 -- members that forwards brought
 abbrev pub open_entries : Kind → Module → List (List ℕ × Origin) → List Entry
 open_entries kind held table = filter (λ one. not (has_own one.kind one.name held)) (map (entry_of kind) table)

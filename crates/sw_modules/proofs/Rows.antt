@@ -39,16 +39,21 @@ either_few : (b : Bool) (xs ys : List Row) → length xs ≤ 1000 → length ys 
 either_few true xs ys x y = x
 either_few false xs ys x y = y
 
+abbrev no_rows : List Row
+no_rows = []
+
+none_few : length no_rows ≤ 1000
+none_few = omega arith
+
 pub few_rows : (url : List ℕ) → length (rows_of url) ≤ 1000
 unfolding rows_of
 few_rows url =
-    let none : length {A = Row} [] ≤ 1000 = omega arith in
     either_few (bytes_eq url (codes "sass:math")) _ _ math_few
     (either_few (bytes_eq url (codes "sass:string")) _ _ string_few
     (either_few (bytes_eq url (codes "sass:list")) _ _ list_few
     (either_few (bytes_eq url (codes "sass:map")) _ _ maps_few
     (either_few (bytes_eq url (codes "sass:color")) _ _ color_few
-    (either_few (bytes_eq url (codes "sass:meta")) _ _ meta_few none)))))
+    (either_few (bytes_eq url (codes "sass:meta")) _ _ meta_few none_few)))))
 
 -- Past the last
 
