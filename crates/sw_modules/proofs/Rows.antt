@@ -70,6 +70,14 @@ past_last (row ∷ rows) (suc at) none = more (length rows) at (past_last rows a
 
 -- One more
 
+kind_or : Kind → Option (Kind × List ℕ) → Kind
+kind_or other None = other
+kind_or other (Some row) = row.0
+
+name_in : Option (Kind × List ℕ) → List ℕ
+name_in None = []
+name_in (Some row) = row.1
+
 pub row_next : (prefix : List ℕ) (which : Filter) (url : List ℕ) (rows : List Row) (at : ℕ) (kind : Kind) (name : List ℕ) → option_map kind_and_name (slice_get rows at) ≡ Some (kind, name)
     → (before after : List Entry) → before ≡ passed_rows prefix which url (take at rows) → after ≡ before ++ passed prefix which (own_entry kind url name ∷ []) → after ≡ passed_rows prefix which url (take (at + 1) rows)
 row_next prefix which url rows at kind name found before after is adds = by (slice_get rows at) refl found
@@ -77,8 +85,8 @@ row_next prefix which url rows at kind name found before after is adds = by (sli
     by : (r : Option Row) → slice_get rows at ≡ r → option_map kind_and_name r ≡ Some (kind, name) → after ≡ passed_rows prefix which url (take (at + 1) rows)
     by None here e = cc
     by (Some row) here e =
-        let same_kind : row.1 ≡ kind = cc in
-        let same_name : row.0 ≡ name = cc in
+        let same_kind : row.1 ≡ kind = ap (kind_or kind) e in
+        let same_name : row.0 ≡ name = ap name_in e in
         let row_adds : after ≡ before ++ passed_rows prefix which url (row ∷ []) =
         adds ∙ ap (λ k. before ++ passed prefix which (own_entry k url name ∷ [])) (sym same_kind) ∙ ap (λ n. before ++ passed prefix which (own_entry row.1 url n ∷ [])) (sym same_name) in
         one_more (passed_rows prefix which url) (rows-append prefix which url) rows at row here [] before after is row_adds
