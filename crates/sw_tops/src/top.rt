@@ -65,7 +65,8 @@ fn other<W: World, B: Below<W>>(
     if let Some(callable) = callable_of(statement) {
         return walk.state.declare_callable(callable);
     }
-    if preset(&mut walk.state, config, statement)? {
+    let ready = preset(&mut walk.state, config, statement)?;
+    if ready {
         return Ok(());
     }
     let _value = below.does(walk, statement, world)?;
