@@ -78,7 +78,7 @@ module _ (value : Parens → Expr → Eval Plain) (config : Settings) (l : Loadi
   pub load_stops : {W : Type 0} {gives : W → Op → Answer → W → Type 0} (given : List Given) (s u v : State) (a b c d : Stand) (w y z : W) (e : Stop) (r : Result (Option Op) Stop) → Did gives (prepared value config l s) a w (Ok given) u b y
       → Did gives (loaded config l given u) b y (Err e) v c z → d ≡ c → IsErr r × IsErrAnd r (λ k. k ≡ e) → TopDid gives (load value config l) s a w r v d z
   unfolding load
-  load_stops given s u v a b c d w y z e r did then same p = rw (err_of r e p, same) (did_then _ did then)
+  load_stops given s u v a b c d w y z e r begun more same p = rw (err_of r e p, same) (did_then _ begun more)
 
 -- ---- what has no fault
 

@@ -58,7 +58,8 @@ unfoldable pub load_ended : Settings → Loading → Answer → State → State
 load_ended config l a s = took_all (taken_by config l a) (record s { given = None })
 
 unfoldable pub loaded : Settings → Loading → List Given → Eval (Unit {0})
-loaded config l given s = bind (asking (question l given) (span_of l) s) (λ r. Gives (tt, load_ended config l r.0.1 r.1))
+loaded config l given s =
+    bind (asking (question l given) (span_of l) s) (λ r. Gives (tt, load_ended config l r.0.1 r.1))
 
 -- a load, over what evaluates its entries
 unfoldable pub load : (Parens → Expr → Eval Plain) → Settings → Loading → Eval (Unit {0})

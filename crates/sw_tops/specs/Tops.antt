@@ -1,5 +1,5 @@
--- The statements of a sheet's top level (the Sass specification on variables and modules; which statements end the loads
--- is this project's own).
+-- The statements of a sheet's top level (the Sass specification on variables and modules; which statements end the
+-- loads is this project's own).
 use Rattle.std.specs.Prelude.{ℕ, suc, Bool, true, false, ◌||◌, List, [], ◌∷◌, drop, Option, Some, None}
 use Rattle.sw_syntax_tree.specs.declared.callable.Callable.{Callable}
 use Rattle.sw_syntax_tree.specs.declared.expr.Expr.{Expr}
@@ -34,7 +34,7 @@ ends_loads x = ends_loads_by (out-Statement x)
 unfoldable pub marked : ℕ → Statement → State → State
 marked number x s = record s { css = numbered number s.css; late = s.late || ends_loads x }
 
--- `value` and `does` are what the expressions of a load and the other statements mean, in a module of this configuration
+-- `value` and `does` are what the expressions of loads and the other statements mean, in a module of this configuration
 module _ (value : Parens → Expr → Eval Plain) (does : Statement → Eval (Option Plain)) (config : Settings) where
   abbrev pub unless_preset : Statement → Bool × State → Talk (Unit {0} × State)
   unless_preset x (true, s) = Gives (tt, s)

@@ -58,13 +58,15 @@ fn other<W: World, B: Below<W>>(
     world: &mut W,
 ) -> Result<(), Stop>
     requires { B.fits below }
-    ensures { Goes_on W.gives (other (B.values below) (B.statements below) config.now statement.now (callable_of statement.now)) walk.old
+    ensures { Goes_on W.gives
+        (other (B.values below) (B.statements below) config.now statement.now (callable_of statement.now)) walk.old
         world.old result walk.new world.new }
 {
     if let Some(callable) = callable_of(statement) {
         return walk.state.declare_callable(callable);
     }
-    if preset(&mut walk.state, config, statement)? {
+    let ready = preset(&mut walk.state, config, statement)?;
+    if ready {
         return Ok(());
     }
     let _value = below.does(walk, statement, world)?;
@@ -116,8 +118,8 @@ fn top<W: World, B: Below<W>>(
     Ok(None)
 }
 
-/// The statements of a sheet's top level from a number on, up to a load whose answer isn't known; the number is then that
-/// of the load. The walk's module has this configuration.
+/// The statements of a sheet's top level from a number on, up to a load whose answer isn't known; the number is then
+/// that of the load. The walk's module has this configuration.
 pub fn walk_on<W: World, B: Below<W>>(
     walk: &mut Walk,
     below: B,
@@ -128,7 +130,8 @@ pub fn walk_on<W: World, B: Below<W>>(
 ) -> Result<Option<Op>, Stop>
     requires { B.fits below }
     ensures walked { Walked W.gives (rest (B.values below) (B.statements below) config.now all.now) next.old
-        walk.old.state (stand walk.old.asked) world.old result next.new walk.new.state (stand walk.new.asked) world.new }
+        walk.old.state (stand walk.old.asked) world.old result next.new walk.new.state (stand walk.new.asked)
+        world.new }
     ensures room { IfOk result (λ o. IfSome o (λ _. vec_len walk.new.asked.pairs < vec_capacity walk.new.asked.pairs)) }
 {
     while *next < all.len() {

@@ -34,3 +34,8 @@ pub returns-clause-did : goal.returns-clause-did
 unfolding load loaded
 returns-clause-did g c =
     did_then _ c.in_ok-given.ensures.did (did_then _ (rw c.span.ensures at (heard _ _ c.prepared.new.walk.asked c.known.new.asked c.prepared.new.walk.state (c.in_ok-answer.ensures.did (question (seen c.args.it) c.in_ok-given.given) (load_op c.prepared.new.walk.asked.path (seen c.args.it) c.in_ok-given.given) refl))) (did_plain _ _ _ _ _ c.in_ok-end_load.ensures))
+
+pub returns-then-walk-len-clause-did : goal.returns-then-walk-len-clause-did
+unfolding most_asked
+returns-then-walk-len-clause-did g c =
+    load_waits (g.B.Below.values c.args.below) c.args.config.now (seen c.args.it) c.in_ok-given.given c.args.walk.now.state _ _ _ _ _ _ _ c.in_ok-given.ensures.did c.in_ok-given.ensures.kept (ap (λ l. record { path = c.prepared.new.walk.asked.path; pairs = l; at = c.prepared.new.walk.asked.at }) c.in_ok-reserve.ensures.items) c.in_ok-load_op.ensures (omega arith) (omega arith)
