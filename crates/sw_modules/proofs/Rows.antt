@@ -70,11 +70,11 @@ past_last (row ∷ rows) (suc at) none = more (length rows) at (past_last rows a
 
 -- One more
 
-kind_or : Kind → Option (Kind × List ℕ) → Kind
+abbrev kind_or : Kind → Option (Kind × List ℕ) → Kind
 kind_or other None = other
 kind_or other (Some row) = row.0
 
-name_in : Option (Kind × List ℕ) → List ℕ
+abbrev name_in : Option (Kind × List ℕ) → List ℕ
 name_in None = []
 name_in (Some row) = row.1
 
