@@ -1,5 +1,4 @@
 pub mod Means
-pub mod Made
 pub mod Lower
 pub mod Body_laws
 pub mod Resume

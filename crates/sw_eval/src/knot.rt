@@ -1,42 +1,155 @@
-// Levels over one another: the only function that calls itself. It makes the level below of a closure, since a closure
-// can't be handed out of the function that makes it.
+// Levels over one another: the only functions that call themselves. Each makes the level below of three closures, since a
+// closure can't be handed out of the function that makes it.
 ghost use Rattle.std.specs.Prelude.{◌<◌};
-ghost use Rattle.sw_eval.specs.Made.{Makes};
+ghost use Rattle.sw_walk.specs.Going.{Goes_on};
 ghost use Rattle.sw_eval.specs.Means.{value_to, does_to, enter_to};
 
 use crate::lower::Lower;
-use crate::work::{Made, Work, one_level, place_in};
+use sw_expressions::value_one;
+use sw_literals::Parens;
 use sw_state::fails;
+use sw_statements::{does_placed, place_of, run_body};
+use sw_syntax_tree::{Expr, Statement};
 use sw_talk::Stop;
-use sw_text::FaultCode;
-use sw_walk::Walk;
+use sw_text::{FaultCode, Span};
+use sw_values::Value;
+use sw_walk::{Body, Level, Walk};
 use sw_world::World;
 
-// What a level makes in which nothing is nested deeper.
+// The value of an expression that is nested no deeper.
 #[cycle(knot)]
-pub(crate) fn made_at<W: World>(
+pub(crate) fn value_at<W: World>(
     walk: &mut Walk,
     depth: u32,
-    work: Work<'_>,
+    parens: Parens,
+    e: &Expr,
     world: &mut W,
-) -> Result<Made, Stop>
-    ensures { Makes W.gives (value_to depth) (does_to depth) (enter_to depth) work.entry walk.old world.old result
-        walk.new world.new }
+) -> Result<Value, Stop>
+    ensures { Goes_on W.gives (value_to depth parens e.now) walk.old world.old result walk.new world.new }
 {
     if depth == 0 {
-        return fails(FaultCode::Depth, place_in(work));
+        return fails(FaultCode::Depth, &e.span);
     }
     let lower = depth - 1;
     let below = Lower {
         depth: lower,
-        makes: |walk: &mut Walk, work: Work<'_>, world: &mut W| -> Result<Made, Stop>
+        value: |walk: &mut Walk, parens: Parens, e: &Expr, world: &mut W| -> Result<Value, Stop>
             requires { lower < depth }
-            ensures { Makes W.gives (value_to lower) (does_to lower) (enter_to lower) work.entry walk.old world.old
-                result walk.new world.new }
+            ensures { Goes_on W.gives (value_to lower parens e.now) walk.old world.old result walk.new world.new }
         {
             let _ = &depth;
-            made_at(walk, lower, work, world)
+            value_at(walk, lower, parens, e, world)
+        },
+        does: |walk: &mut Walk, one: &Statement, world: &mut W| -> Result<Option<Value>, Stop>
+            requires { lower < depth }
+            ensures { Goes_on W.gives (does_to lower one.now) walk.old world.old result walk.new world.new }
+        {
+            let _ = &depth;
+            does_at(walk, lower, one, world)
+        },
+        enter: |walk: &mut Walk, at: &Span, body: Body<'_>, world: &mut W| -> Result<
+            Option<Value>,
+            Stop,
+        >
+            requires { lower < depth }
+            ensures { Goes_on W.gives (enter_to lower at.now body.entry.start.now body.entry.params.now body.entry.block.now) walk.old
+                world.old result walk.new world.new }
+        {
+            let _ = &depth;
+            enter_at(walk, lower, at, body, world)
         },
     };
-    one_level(walk, below, work, world)
+    value_one(walk, Level { below, parens }, e, world)
+}
+
+// The body of what is called, which is nested no deeper. The call stands here.
+#[cycle(knot)]
+pub(crate) fn enter_at<W: World>(
+    walk: &mut Walk,
+    depth: u32,
+    at: &Span,
+    body: Body<'_>,
+    world: &mut W,
+) -> Result<Option<Value>, Stop>
+    ensures { Goes_on W.gives (enter_to depth at.now body.entry.start.now body.entry.params.now body.entry.block.now) walk.old world.old
+        result walk.new world.new }
+{
+    if depth == 0 {
+        return fails(FaultCode::Depth, at);
+    }
+    let lower = depth - 1;
+    let below = Lower {
+        depth: lower,
+        value: |walk: &mut Walk, parens: Parens, e: &Expr, world: &mut W| -> Result<Value, Stop>
+            requires { lower < depth }
+            ensures { Goes_on W.gives (value_to lower parens e.now) walk.old world.old result walk.new world.new }
+        {
+            let _ = &depth;
+            value_at(walk, lower, parens, e, world)
+        },
+        does: |walk: &mut Walk, one: &Statement, world: &mut W| -> Result<Option<Value>, Stop>
+            requires { lower < depth }
+            ensures { Goes_on W.gives (does_to lower one.now) walk.old world.old result walk.new world.new }
+        {
+            let _ = &depth;
+            does_at(walk, lower, one, world)
+        },
+        enter: |walk: &mut Walk, at: &Span, body: Body<'_>, world: &mut W| -> Result<
+            Option<Value>,
+            Stop,
+        >
+            requires { lower < depth }
+            ensures { Goes_on W.gives (enter_to lower at.now body.entry.start.now body.entry.params.now body.entry.block.now) walk.old
+                world.old result walk.new world.new }
+        {
+            let _ = &depth;
+            enter_at(walk, lower, at, body, world)
+        },
+    };
+    run_body(walk, below, at, body, world)
+}
+
+// A statement that is nested no deeper. A value that it gives ends what is around it.
+#[cycle(knot)]
+pub(crate) fn does_at<W: World>(
+    walk: &mut Walk,
+    depth: u32,
+    statement: &Statement,
+    world: &mut W,
+) -> Result<Option<Value>, Stop>
+    ensures { Goes_on W.gives (does_to depth statement.now) walk.old world.old result walk.new world.new }
+{
+    if depth == 0 {
+        return fails(FaultCode::Depth, place_of(statement));
+    }
+    let lower = depth - 1;
+    let below = Lower {
+        depth: lower,
+        value: |walk: &mut Walk, parens: Parens, e: &Expr, world: &mut W| -> Result<Value, Stop>
+            requires { lower < depth }
+            ensures { Goes_on W.gives (value_to lower parens e.now) walk.old world.old result walk.new world.new }
+        {
+            let _ = &depth;
+            value_at(walk, lower, parens, e, world)
+        },
+        does: |walk: &mut Walk, one: &Statement, world: &mut W| -> Result<Option<Value>, Stop>
+            requires { lower < depth }
+            ensures { Goes_on W.gives (does_to lower one.now) walk.old world.old result walk.new world.new }
+        {
+            let _ = &depth;
+            does_at(walk, lower, one, world)
+        },
+        enter: |walk: &mut Walk, at: &Span, body: Body<'_>, world: &mut W| -> Result<
+            Option<Value>,
+            Stop,
+        >
+            requires { lower < depth }
+            ensures { Goes_on W.gives (enter_to lower at.now body.entry.start.now body.entry.params.now body.entry.block.now) walk.old
+                world.old result walk.new world.new }
+        {
+            let _ = &depth;
+            enter_at(walk, lower, at, body, world)
+        },
+    };
+    does_placed(walk, below, statement, world)
 }

@@ -8,7 +8,6 @@ mod laws;
 mod lower;
 mod outermost;
 mod turn;
-mod work;
 
 pub use engine::{Evaluation, Evaluator};
 pub use laws::body_laws;

@@ -1,6 +1,5 @@
-// The level below as a closure.
+// The level below as closures.
 
-use crate::work::{Made, Work, returned_in, value_in};
 use sw_literals::Parens;
 use sw_syntax_tree::{Expr, Statement};
 use sw_talk::Stop;
@@ -11,15 +10,21 @@ use sw_world::World;
 
 /// The level below: what may be nested in it no deeper than a number.
 #[derive(Clone, Copy)]
-pub(crate) struct Lower<F> {
+pub(crate) struct Lower<V, S, E> {
     pub depth: u32,
-    pub makes: F,
+    pub value: V,
+    pub does: S,
+    pub enter: E,
 }
 
-impl<W: World, F: Fn(&mut Walk, Work<'_>, &mut W) -> Result<Made, Stop> + Copy> Below<W>
-    for Lower<F> {
+impl<
+    W: World,
+    V: Fn(&mut Walk, Parens, &Expr, &mut W) -> Result<Value, Stop> + Copy,
+    S: Fn(&mut Walk, &Statement, &mut W) -> Result<Option<Value>, Stop> + Copy,
+    E: Fn(&mut Walk, &Span, Body<'_>, &mut W) -> Result<Option<Value>, Stop> + Copy,
+> Below<W> for Lower<V, S, E> {
     ghost use Rattle.sw_eval.specs.Means.{value_to, does_to, enter_to};
-    ghost use Rattle.sw_eval.specs.Lower.{AlwaysMakes};
+    ghost use Rattle.sw_eval.specs.Lower.{Values, Statements, Bodies};
 
     ghost values = { λ b. value_to b.depth };
 
@@ -27,7 +32,8 @@ impl<W: World, F: Fn(&mut Walk, Work<'_>, &mut W) -> Result<Made, Stop> + Copy> 
 
     ghost bodies = { λ b. enter_to b.depth };
 
-    ghost fits = { λ b. AlwaysMakes W.gives F.Fn b.makes b.depth };
+    ghost fits = { λ b. Values W.gives V.Fn b.value b.depth × Statements W.gives S.Fn b.does b.depth
+        × Bodies W.gives E.Fn b.enter b.depth };
 
     fn value(
         self,
@@ -36,7 +42,7 @@ impl<W: World, F: Fn(&mut Walk, Work<'_>, &mut W) -> Result<Made, Stop> + Copy> 
         e: &Expr,
         world: &mut W,
     ) -> Result<Value, Stop> {
-        value_in((self.makes)(walk, Work::Value(parens, e), world))
+        (self.value)(walk, parens, e, world)
     }
 
     fn does(
@@ -45,7 +51,7 @@ impl<W: World, F: Fn(&mut Walk, Work<'_>, &mut W) -> Result<Made, Stop> + Copy> 
         statement: &Statement,
         world: &mut W,
     ) -> Result<Option<Value>, Stop> {
-        returned_in((self.makes)(walk, Work::Statement(statement), world))
+        (self.does)(walk, statement, world)
     }
 
     fn enter(
@@ -55,6 +61,6 @@ impl<W: World, F: Fn(&mut Walk, Work<'_>, &mut W) -> Result<Made, Stop> + Copy> 
         body: Body<'_>,
         world: &mut W,
     ) -> Result<Option<Value>, Stop> {
-        returned_in((self.makes)(walk, Work::Entering(at, body), world))
+        (self.enter)(walk, at, body, world)
     }
 }

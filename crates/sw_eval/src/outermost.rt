@@ -1,7 +1,6 @@
 // What stands at the top of a sheet.
 
-use crate::knot::made_at;
-use crate::work::{Work, returned_in, value_in};
+use crate::knot::{does_at, enter_at, value_at};
 use sw_literals::Parens;
 use sw_syntax_tree::{Expr, Statement};
 use sw_talk::Stop;
@@ -38,7 +37,7 @@ impl<W: World> Below<W> for Outermost {
         e: &Expr,
         world: &mut W,
     ) -> Result<Value, Stop> {
-        value_in(made_at(walk, LOAD_DEPTH, Work::Value(parens, e), world))
+        value_at(walk, LOAD_DEPTH, parens, e, world)
     }
 
     fn does(
@@ -47,7 +46,7 @@ impl<W: World> Below<W> for Outermost {
         statement: &Statement,
         world: &mut W,
     ) -> Result<Option<Value>, Stop> {
-        returned_in(made_at(walk, DEPTH, Work::Statement(statement), world))
+        does_at(walk, DEPTH, statement, world)
     }
 
     fn enter(
@@ -57,6 +56,6 @@ impl<W: World> Below<W> for Outermost {
         body: Body<'_>,
         world: &mut W,
     ) -> Result<Option<Value>, Stop> {
-        returned_in(made_at(walk, LOAD_DEPTH, Work::Entering(at, body), world))
+        enter_at(walk, LOAD_DEPTH, at, body, world)
     }
 }

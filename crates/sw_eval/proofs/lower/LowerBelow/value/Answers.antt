@@ -1,7 +1,0 @@
-use Rattle.sw_eval.specs.Means.{value_to, does_to, enter_to}
-use Rattle.sw_eval.proofs.Depth.{value_made}
-use Rattle.sw_eval.proofs.lower.LowerBelow.value.Goals as goal
-
-pub returns : goal.returns
-returns g c =
-    rw c.value_in.ensures (value_made g.W.World.gives (value_to c.args.self.depth) (does_to c.args.self.depth) (enter_to c.args.self.depth) c.args.parens c.args.e _ _ _ _ _ (c.requires.1 _ _ _ _ _ _ c.makes.ensures))
