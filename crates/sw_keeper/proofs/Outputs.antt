@@ -23,12 +23,14 @@ use Rattle.sw_world.specs.declared.answer.Answer.{Answer}
 use Rattle.sw_world.specs.declared.end.End.{End}
 use Rattle.sw_world.specs.declared.end.End.TheVariants.{Done, Fault as Fault_end}
 use Rattle.sw_world.specs.Body.{Pair, Run, Job, Next, Asks, Ends, answers}
+use Rattle.sw_modules.specs.declared.members.Entry.{Entry}
 use Rattle.sw_modules.specs.declared.module.Module.{Module}
+use Rattle.sw_modules.specs.Interfaces.{interface_of, built_in_interface}
 use Rattle.sw_modules.specs.declared.live.Begin.{Begin}
 use Rattle.sw_modules.specs.declared.live.Begin.TheVariants.{Answered, Open}
 use Rattle.sw_modules.specs.State.{State, nothing_loaded, open_at, path_in, loaded_now}
 use Rattle.sw_modules.specs.BuiltIns.{is_sass, is_built_in}
-use Rattle.sw_modules.specs.Loads.{is_open, refused, first_explicit, built_in_unless, built_in_used, begun, begin_url, begin_path, begin_module, at_once, used_as, used_unless, ended_by, left_by, entered, entry_text, first_untaken}
+use Rattle.sw_modules.specs.Loads.{is_open, refused, first_explicit, built_in_unless, built_in_used, begun, begin_url, begin_path, begin_module, at_once, used_as, used_unless, interface_at_end, ended_by, left_by, entered, entry_text, first_untaken}
 use Rattle.sw_modules.specs.Outside.{Functions, Outside}
 use Rattle.sw_modules.specs.Fresh.{Setting, Outcome as Evaluated, Evaluation, Response, load_by, responds, ended, turn, goes_on, evaluated_by, fresh, room, rest_of, from_open}
 use Rattle.sw_world.specs.Laws.{most_asked}
@@ -46,15 +48,15 @@ either_state : {A : Type 0} (b : Bool) (p q : A × State) (outputs : List Output
 either_state true p q outputs one other = one
 either_state false p q outputs one other = other
 
-used_outputs : (how : How) (path : List ℕ) (taken : List (List ℕ)) (span : Span) (s : State) → (used_as how path taken span s).1.outputs ≡ s.outputs
-used_outputs how path taken span s = either_state _ _ _ s.outputs refl refl
+used_outputs : (how : How) (path : List ℕ) (interface : List Entry) (taken : List (List ℕ)) (span : Span) (s : State) → (used_as how path interface taken span s).1.outputs ≡ s.outputs
+used_outputs how path interface taken span s = either_state _ _ _ s.outputs refl refl
 
-unless_outputs : (given : Option Given) (how : How) (path : List ℕ) (taken : List (List ℕ)) (span : Span) (s : State) → (used_unless given how path taken span s).1.outputs ≡ s.outputs
-unless_outputs None how path taken span s = used_outputs how path taken span s
-unless_outputs (Some given) how path taken span s = refl
+unless_outputs : (given : Option Given) (how : How) (path : List ℕ) (interface : List Entry) (taken : List (List ℕ)) (span : Span) (s : State) → (used_unless given how path interface taken span s).1.outputs ≡ s.outputs
+unless_outputs None how path interface taken span s = used_outputs how path interface taken span s
+unless_outputs (Some given) how path interface taken span s = refl
 
 ended_outputs : (op : Op) (path : List ℕ) (end : End) (s : State) → (ended_by op path end s).1.outputs ≡ (left_by end s).outputs
-ended_outputs (Load site url span how config) path (Done finish) s = unless_outputs (first_untaken config finish.taken) how path finish.taken span (loaded_now finish s)
+ended_outputs (Load site url span how config) path (Done finish) s = unless_outputs (first_untaken config finish.taken) how path (interface_at_end path finish s) finish.taken span (loaded_now finish s)
 ended_outputs (Find site space kind name) path (Done finish) s = refl
 ended_outputs (Get owner name) path (Done finish) s = refl
 ended_outputs (Put owner name value) path (Done finish) s = refl
@@ -71,7 +73,8 @@ at_once_outputs : (p : Answer × State) → (at_once p).1.outputs ≡ p.1.output
 at_once_outputs (answer, s) = refl
 
 module_outputs : (held : Option Module) (text : Option (List ℕ)) (path : List ℕ) (span : Span) (how : How) (config : List Given) (s : State) → (begin_module held text path span how config s).1.outputs ≡ s.outputs
-module_outputs (Some held) text path span how config s = either_state _ _ _ s.outputs refl (at_once_outputs (used_as how path [] span s) ∙ used_outputs how path [] span s)
+module_outputs (Some held) text path span how config s =
+    either_state _ _ _ s.outputs refl (at_once_outputs (used_as how path (interface_of path held) [] span s) ∙ used_outputs how path (interface_of path held) [] span s)
 module_outputs None None path span how config s = refl
 module_outputs None (Some text) path span how config s = refl
 
@@ -88,7 +91,7 @@ url_outputs (Err R.Ambiguous) span how config s = refl
 url_outputs (Err R.Memory) span how config s = refl
 
 unless_built_in : (given : Option Given) (url : List ℕ) (span : Span) (how : How) (s : State) → (built_in_unless given url span how s).1.outputs ≡ s.outputs
-unless_built_in None url span how s = used_outputs how url [] span s
+unless_built_in None url span how s = used_outputs how url (built_in_interface url) [] span s
 unless_built_in (Some given) url span how s = refl
 
 built_in_outputs : (url : List ℕ) (span : Span) (how : How) (config : List Given) (s : State) → (built_in_used url span how config s).1.outputs ≡ s.outputs

@@ -1,8 +1,8 @@
 -- The load below the innermost one, whose uses change before the innermost one ends.
-use Rattle.std.proofs.Common.{◌≡◌, ℕ, zero, suc, nat_lt, ltb-true, ◌+◌, ◌-◌, ◌<◌, Bool, true, false, cond, length, List, [], ◌∷◌, ◌++◌, take, drop, set, bytes_eq, Option, None, Some, is_some, refl, sym, ◌∙◌, ap, subst, arith, length-append, slice_get}
+use Rattle.std.proofs.Common.{◌≡◌, ℕ, zero, suc, nat_lt, ltb-true, ◌+◌, ◌-◌, ◌<◌, Bool, true, false, cond, length, List, [], ◌∷◌, ◌++◌, take, drop, set, bytes_eq, Option, None, Some, is_some, refl, sym, ◌∙◌, ap, subst, arith, le_refl, length-append, slice_get}
 use Rattle.std.specs.Map.{lookup, set_value}
 use Rattle.std.specs.Option.{option_map_or}
-use Rattle.std.proofs.lemmas.List.{take-append-drop, length-take, length-set, get_or-set_same}
+use Rattle.std.proofs.lemmas.List.{take-append-drop, take_all, length-take, length-set, get_or-set_same}
 use Rattle.std.proofs.lemmas.Option.{slice_get_within, slice_get-get_or}
 use Rattle.std.proofs.lemmas.Slice.Eq.{bytes_eq-Decides}
 use Rattle.std.proofs.Math.Seq.{take-append_seam, drop-append_seam}
@@ -14,7 +14,10 @@ use Rattle.sw_world.specs.declared.op.How.TheVariants.{Use, Forward}
 use Rattle.sw_modules.specs.declared.module.Module.{Module}
 use Rattle.sw_modules.specs.declared.module.Opened.{Opened}
 use Rattle.sw_modules.specs.declared.uses.Uses.{Uses}
-use Rattle.sw_modules.specs.Uses.{no_uses, is_taken, with_one, without_last}
+use Rattle.sw_modules.specs.declared.members.Entry.{Entry}
+use Rattle.sw_modules.specs.declared.uses.UsesCounts.{UsesCounts}
+use Rattle.sw_modules.specs.Uses.{no_uses, is_taken, with_one, uses_counts, first_uses, first_members}
+use Rattle.sw_modules.proofs.PassedOn.{joined_back, nothing_back}
 use Rattle.sw_modules.specs.State.{State, below, changed_at, changed_below, loaded_now, module_of, path_in, uses_in, with_uses, with_use, used_by}
 
 -- Lists
@@ -40,30 +43,34 @@ get_set xs i x inside =
     let within : i < length (set xs i x) = omega (arith, length-set xs i x) in
     slice_get-get_or (set xs i x) i x within ∙ ap Some (get_or-set_same xs i x x inside)
 
--- without the last item
-front : {X : Type 0} (xs : List X) (x : X) → take (length (xs ++ x ∷ []) - 1) (xs ++ x ∷ []) ≡ xs
-front xs x =
-    let e : length (xs ++ x ∷ []) - 1 ≡ length xs = omega (arith, length-append xs (x ∷ [])) in
-    ap (λ n. take n (xs ++ x ∷ [])) e ∙ take-append_seam xs (x ∷ [])
-
 -- Uses
 
 named_none : (r : Option (List ℕ)) → is_some r ≡ false → r ≡ None
 named_none None e = refl
 named_none (Some x) e = cc
 
--- a use that was new is the last one of its kind
-added_last : (how : How) (path : List ℕ) (uses : Uses) → is_taken how uses ≡ false → without_last how (with_one how path uses) ≡ uses
-added_last (Use (Some space)) path uses free =
+same_length : {X : Type 0} (xs : List X) → take (length xs) xs ≡ xs
+same_length xs = take_all (length xs) xs (le_refl (length xs))
+
+-- a use that was new stands behind those that were there
+added_last : (how : How) (path : List ℕ) (brought : List Entry) (uses : Uses) → is_taken how brought uses ≡ false → first_uses (uses_counts uses) (with_one how path brought uses) ≡ uses
+added_last (Use (Some space)) path brought uses free =
     let none : lookup (bytes_eq space) uses.named ≡ None = named_none (lookup (bytes_eq space) uses.named) free in
     let last : insert_entry bytes_eq uses.named space path ≡ uses.named ++ (space, path) ∷ [] =
     insert_entry-absent bytes_eq space path uses.named (absent_from_lookup (bytes_eq space) uses.named none) in
-    ap (λ l. record { named = take (length l - 1) l; others = uses.others }) last
-    ∙ ap (λ l. record { named = l; others = uses.others }) (front uses.named (space, path))
-added_last (Use None) path uses free =
-    ap (λ l. record { named = uses.named; others = l }) (front uses.others (record { how = Use None; path = path }))
-added_last (Forward prefix filter) path uses free =
-    ap (λ l. record { named = uses.named; others = l }) (front uses.others (record { how = Forward prefix filter; path = path }))
+    let named : take (length uses.named) (insert_entry bytes_eq uses.named space path) ≡ uses.named = ap (take (length uses.named)) last ∙ take-append_seam uses.named ((space, path) ∷ []) in
+    ap (λ l. record { named = l; stars = take (length uses.stars) uses.stars; forwarded = (first_uses (uses_counts uses) uses).forwarded }) named
+    ∙ ap (λ l. record { named = uses.named; stars = l; forwarded = (first_uses (uses_counts uses) uses).forwarded }) (same_length uses.stars)
+    ∙ ap (λ m. record { named = uses.named; stars = uses.stars; forwarded = m }) (nothing_back uses.forwarded)
+added_last (Use None) path brought uses free =
+    ap (λ l. record { named = l; stars = take (length uses.stars) (uses.stars ++ path ∷ []); forwarded = (first_uses (uses_counts uses) uses).forwarded }) (same_length uses.named)
+    ∙ ap (λ l. record { named = uses.named; stars = l; forwarded = (first_uses (uses_counts uses) uses).forwarded }) (take-append_seam uses.stars (path ∷ []))
+    ∙ ap (λ m. record { named = uses.named; stars = uses.stars; forwarded = m }) (nothing_back uses.forwarded)
+added_last (Forward prefix filter) path brought uses free =
+    let all : Uses = with_one (Forward prefix filter) path brought uses in
+    ap (λ l. record { named = l; stars = take (length uses.stars) uses.stars; forwarded = (first_uses (uses_counts uses) all).forwarded }) (same_length uses.named)
+    ∙ ap (λ l. record { named = uses.named; stars = l; forwarded = (first_uses (uses_counts uses) all).forwarded }) (same_length uses.stars)
+    ∙ ap (λ m. record { named = uses.named; stars = uses.stars; forwarded = m }) (joined_back uses.forwarded brought)
 
 -- Open loads
 
@@ -74,30 +81,34 @@ length-with_uses opened change = by (slice_get opened (length opened - 1))
     by None = refl
     by (Some load) = length-set opened (length opened - 1) (record load { uses = change load.uses })
 
-abbrev changed : How → List ℕ → Opened → Opened
-changed how path load = record load { uses = with_one how path load.uses }
+abbrev changed : How → List ℕ → List Entry → Opened → Opened
+changed how path brought load = record load { uses = with_one how path brought load.uses }
 
 -- taken back, such a use leaves the loads as they were
-pub use_taken_back : (how : How) (path : List ℕ) (opened : List Opened) → is_taken how (uses_in opened) ≡ false → with_uses (with_use how path opened) (without_last how) ≡ opened
-use_taken_back how path opened free = by (slice_get opened (length opened - 1)) refl
+pub use_taken_back : (how : How) (path : List ℕ) (brought : List Entry) (opened : List Opened) (counts : UsesCounts) → counts ≡ uses_counts (uses_in opened) → is_taken how brought (uses_in opened) ≡ false
+    → with_uses (with_use how path brought opened) (first_uses counts) ≡ opened
+use_taken_back how path brought opened counts were free = by (slice_get opened (length opened - 1)) refl
   where
-    by : (r : Option Opened) → slice_get opened (length opened - 1) ≡ r → with_uses (with_use how path opened) (without_last how) ≡ opened
+    by : (r : Option Opened) → slice_get opened (length opened - 1) ≡ r → with_uses (with_use how path brought opened) (first_uses counts) ≡ opened
     by None here =
-        let same : with_use how path opened ≡ opened = ap (λ r. option_map_or (λ load. set opened (length opened - 1) (changed how path load)) r opened) here in
-        ap (λ l. with_uses l (without_last how)) same ∙ ap (λ r. option_map_or (λ load. set opened (length opened - 1) (record load { uses = without_last how load.uses })) r opened) here
+        let same : with_use how path brought opened ≡ opened = ap (λ r. option_map_or (λ load. set opened (length opened - 1) (changed how path brought load)) r opened) here in
+        ap (λ l. with_uses l (first_uses counts)) same ∙ ap (λ r. option_map_or (λ load. set opened (length opened - 1) (record load { uses = first_uses counts load.uses })) r opened) here
     by (Some load) here =
         let at : ℕ = length opened - 1 in
-        let used : List Opened = set opened at (changed how path load) in
-        let is_used : with_use how path opened ≡ used = ap (λ r. option_map_or (λ load. set opened at (changed how path load)) r opened) here in
+        let used : List Opened = set opened at (changed how path brought load) in
+        let is_used : with_use how path brought opened ≡ used = ap (λ r. option_map_or (λ load. set opened at (changed how path brought load)) r opened) here in
         let inside : at < length opened = slice_get_within opened at load here in
-        let same_at : length used - 1 ≡ at = ap (λ n. n - 1) (length-set opened at (changed how path load)) in
-        let there : slice_get used (length used - 1) ≡ Some (changed how path load) = ap (slice_get used) same_at ∙ get_set opened at (changed how path load) inside in
-        let free_here : is_taken how load.uses ≡ false = ap (λ r. is_taken how (option_map_or (λ l. l.uses) r (record { named = []; others = [] }))) (sym here) ∙ free in
-        let back : Opened = record load { uses = without_last how (with_one how path load.uses) } in
-        let back_is : back ≡ load = ap (λ u. record load { uses = u }) (added_last how path load.uses free_here) in
-        let taken : with_uses used (without_last how) ≡ set used (length used - 1) back =
-        ap (λ r. option_map_or (λ l. set used (length used - 1) (record l { uses = without_last how l.uses })) r used) there in
-        ap (λ l. with_uses l (without_last how)) is_used ∙ taken ∙ ap (λ n. set used n back) same_at ∙ set_twice opened at (changed how path load) back
+        let same_at : length used - 1 ≡ at = ap (λ n. n - 1) (length-set opened at (changed how path brought load)) in
+        let there : slice_get used (length used - 1) ≡ Some (changed how path brought load) = ap (slice_get used) same_at ∙ get_set opened at (changed how path brought load) inside in
+        let its : uses_in opened ≡ load.uses = ap (λ r. option_map_or (λ (l : Opened). l.uses) r no_uses) here in
+        let free_here : is_taken how brought load.uses ≡ false = ap (is_taken how brought) (sym its) ∙ free in
+        let its_counts : counts ≡ uses_counts load.uses = were ∙ ap uses_counts its in
+        let back : Opened = record load { uses = first_uses counts (with_one how path brought load.uses) } in
+        let uses_back : first_uses counts (with_one how path brought load.uses) ≡ load.uses = ap (λ n. first_uses n (with_one how path brought load.uses)) its_counts ∙ added_last how path brought load.uses free_here in
+        let back_is : back ≡ load = ap (λ u. record load { uses = u }) uses_back in
+        let taken : with_uses used (first_uses counts) ≡ set used (length used - 1) back =
+        ap (λ r. option_map_or (λ l. set used (length used - 1) (record l { uses = first_uses counts l.uses })) r used) there in
+        ap (λ l. with_uses l (first_uses counts)) is_used ∙ taken ∙ ap (λ n. set used n back) same_at ∙ set_twice opened at (changed how path brought load) back
         ∙ ap (set opened at) back_is ∙ set_same opened at load here
 
 -- in the left part of a list
@@ -185,38 +196,42 @@ module _ (change : List Opened → List Opened) (opened : List Opened) (keeps : 
   path-changed = ap (λ r. option_map_or (λ (load : Opened). load.path) r []) same_innermost
 
   pub uses-changed : uses_in (joined_by change opened) ≡ uses_in opened
-  uses-changed = ap (λ r. option_map_or (λ (load : Opened). load.uses) r (record { named = []; others = [] })) same_innermost
+  uses-changed = ap (λ r. option_map_or (λ (load : Opened). load.uses) r no_uses) same_innermost
 
 -- States
 
 -- a module is recorded where the load below uses it already
-pub used_recorded : (how : How) (path : List ℕ) (finish : Finish) (s a : State) → path ≡ path_in s.opened → a ≡ record s { opened = changed_below (with_one how path) s.opened }
-    → loaded_now finish a ≡ record (loaded_now finish s) { opened = with_use how (path_in s.opened) (below s.opened) }
-used_recorded how path finish s a named is =
-    let keeps : length (with_uses (below s.opened) (with_one how path)) ≡ length (below s.opened) = length-with_uses (below s.opened) (with_one how path) in
-    let opens : a ≡ record s { opened = joined_by (λ l. with_uses l (with_one how path)) s.opened } = is ∙ ap (λ l. record s { opened = l }) (in_parts (with_one how path) s.opened) in
+pub used_recorded : (how : How) (path : List ℕ) (brought : List Entry) (finish : Finish) (s a : State) → path ≡ path_in s.opened
+    → a ≡ record s { opened = changed_below (with_one how path brought) s.opened }
+    → loaded_now finish a ≡ record (loaded_now finish s) { opened = with_use how (path_in s.opened) brought (below s.opened) }
+used_recorded how path brought finish s a named is =
+    let now : Uses → Uses = with_one how path brought in
+    let keeps : length (with_uses (below s.opened) now) ≡ length (below s.opened) = length-with_uses (below s.opened) now in
+    let opens : a ≡ record s { opened = joined_by (λ l. with_uses l now) s.opened } = is ∙ ap (λ l. record s { opened = l }) (in_parts now s.opened) in
     let D : List ℕ → Uses → List Opened → State = λ p u l. record { folder = s.folder; paths = s.paths; loaded = insert_entry bytes_eq s.loaded p (module_of finish u); opened = l; says = s.says; outputs = s.outputs ++ finish.css ∷ [] } in
-    let joined : List Opened = joined_by (λ l. with_uses l (with_one how path)) s.opened in
+    let joined : List Opened = joined_by (λ l. with_uses l now) s.opened in
     ap (loaded_now finish) opens
-    ∙ ap (λ p. D p (uses_in joined) (below joined)) (path-changed (λ l. with_uses l (with_one how path)) s.opened keeps)
-    ∙ ap (λ u. D (path_in s.opened) u (below joined)) (uses-changed (λ l. with_uses l (with_one how path)) s.opened keeps)
-    ∙ ap (λ l. D (path_in s.opened) (uses_in s.opened) l) (below-changed (λ l. with_uses l (with_one how path)) s.opened keeps)
-    ∙ ap (λ p. D (path_in s.opened) (uses_in s.opened) (with_uses (below s.opened) (with_one how p))) named
+    ∙ ap (λ p. D p (uses_in joined) (below joined)) (path-changed (λ l. with_uses l now) s.opened keeps)
+    ∙ ap (λ u. D (path_in s.opened) u (below joined)) (uses-changed (λ l. with_uses l now) s.opened keeps)
+    ∙ ap (λ l. D (path_in s.opened) (uses_in s.opened) l) (below-changed (λ l. with_uses l now) s.opened keeps)
+    ∙ ap (λ p. D (path_in s.opened) (uses_in s.opened) (with_uses (below s.opened) (with_one how p brought))) named
 
 -- and such a use taken back
-pub use_taken_back_below : (how : How) (path : List ℕ) (s a b c : State) → is_taken how (uses_in (below s.opened)) ≡ false → a ≡ record s { opened = changed_below (with_one how path) s.opened } → b ≡ a
-    → c ≡ record b { opened = changed_below (without_last how) b.opened } → c ≡ s
-use_taken_back_below how path s a b c free used same back =
-    let keeps : length (with_uses (below s.opened) (with_one how path)) ≡ length (below s.opened) = length-with_uses (below s.opened) (with_one how path) in
-    let joined : List Opened = joined_by (λ l. with_uses l (with_one how path)) s.opened in
-    let one : changed_below (without_last how) (changed_below (with_one how path) s.opened) ≡ s.opened =
-    ap (changed_below (without_last how)) (in_parts (with_one how path) s.opened)
-    ∙ in_parts (without_last how) joined
-    ∙ ap (λ l. with_uses l (without_last how) ++ drop (length joined - 1) joined) (below-changed (λ l. with_uses l (with_one how path)) s.opened keeps)
-    ∙ ap (λ l. with_uses (with_use how path (below s.opened)) (without_last how) ++ l) (last-changed (λ l. with_uses l (with_one how path)) s.opened keeps)
-    ∙ ap (λ l. l ++ drop (length s.opened - 1) s.opened) (use_taken_back how path (below s.opened) free)
+pub use_taken_back_below : (how : How) (path : List ℕ) (brought : List Entry) (counts : UsesCounts) (s a b c : State) → counts ≡ uses_counts (uses_in (below s.opened)) → is_taken how brought (uses_in (below s.opened)) ≡ false
+    → a ≡ record s { opened = changed_below (with_one how path brought) s.opened } → b ≡ a
+    → c ≡ record b { opened = changed_below (first_uses counts) b.opened } → c ≡ s
+use_taken_back_below how path brought counts s a b c were free used same back =
+    let now : Uses → Uses = with_one how path brought in
+    let keeps : length (with_uses (below s.opened) now) ≡ length (below s.opened) = length-with_uses (below s.opened) now in
+    let joined : List Opened = joined_by (λ l. with_uses l now) s.opened in
+    let one : changed_below (first_uses counts) (changed_below now s.opened) ≡ s.opened =
+    ap (changed_below (first_uses counts)) (in_parts now s.opened)
+    ∙ in_parts (first_uses counts) joined
+    ∙ ap (λ l. with_uses l (first_uses counts) ++ drop (length joined - 1) joined) (below-changed (λ l. with_uses l now) s.opened keeps)
+    ∙ ap (λ l. with_uses (with_use how path brought (below s.opened)) (first_uses counts) ++ l) (last-changed (λ l. with_uses l now) s.opened keeps)
+    ∙ ap (λ l. l ++ drop (length s.opened - 1) s.opened) (use_taken_back how path brought (below s.opened) counts were free)
     ∙ take-append-drop (length s.opened - 1) s.opened in
-    back ∙ ap (λ (x : State). record x { opened = changed_below (without_last how) x.opened }) (same ∙ used) ∙ ap (λ l. record s { opened = l }) one
+    back ∙ ap (λ (x : State). record x { opened = changed_below (first_uses counts) x.opened }) (same ∙ used) ∙ ap (λ l. record s { opened = l }) one
 
 -- Loaded modules
 

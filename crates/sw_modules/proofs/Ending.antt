@@ -23,10 +23,12 @@ use Rattle.sw_modules.specs.declared.module.Module.{Module}
 use Rattle.sw_modules.specs.declared.live.Begin.{Begin}
 use Rattle.sw_modules.specs.declared.live.Begin.TheVariants.{Answered, Open}
 use Rattle.sw_modules.specs.State.{State, path_in, loaded_now}
+use Rattle.sw_modules.specs.declared.members.Entry.{Entry}
+use Rattle.sw_modules.specs.Interfaces.{interface_of, built_in_interface, brought}
 use Rattle.sw_modules.specs.Uses.{no_uses, is_taken, with_one}
 use Rattle.sw_modules.specs.State.{uses_in}
 use Rattle.sw_modules.specs.BuiltIns.{is_sass, is_built_in}
-use Rattle.sw_modules.specs.Loads.{is_open, is_explicit, first_explicit, built_in_unless, built_in_used, begun, begin_url, begin_path, begin_module, at_once, used_as, used_unless, ended_by, first_untaken}
+use Rattle.sw_modules.specs.Loads.{is_open, is_explicit, first_explicit, built_in_unless, built_in_used, begun, begin_url, begin_path, begin_module, at_once, used_as, used_unless, interface_at_end, ended_by, first_untaken}
 use Rattle.sw_modules.specs.Outside.{Outside}
 use Rattle.sw_modules.specs.Fresh.{Setting, Outcome, Evaluation, Response, load_by, responds, turn, goes_on, evaluated_by, fresh, room}
 use Rattle.sw_modules.specs.Ends.{EndsAsBody, EachEndsAsBody, IsEndOf, EndsByBodies}
@@ -47,8 +49,9 @@ if_opened : {A : Type 0} (b : Bool) (p q : A × State) (n : ℕ) → length p.1.
 if_opened true p q n one other = one
 if_opened false p q n one other = other
 
-used_opened : (how : How) (path : List ℕ) (taken : List (List ℕ)) (span : Span) (s : State) → length (used_as how path taken span s).1.opened ≡ length s.opened
-used_opened how path taken span s = if_opened (is_taken how (uses_in s.opened)) _ _ (length s.opened) refl (length-with_uses s.opened (with_one how path))
+used_opened : (how : How) (path : List ℕ) (interface : List Entry) (taken : List (List ℕ)) (span : Span) (s : State) → length (used_as how path interface taken span s).1.opened ≡ length s.opened
+used_opened how path interface taken span s =
+    if_opened (is_taken how (brought how interface) (uses_in s.opened)) _ _ (length s.opened) refl (length-with_uses s.opened (with_one how path (brought how interface)))
 
 at_once_begins : (s : State) (p : Answer × State) → length p.1.opened ≡ length s.opened → Begins s (at_once p)
 at_once_begins s (answer, t) same = same
@@ -56,7 +59,7 @@ at_once_begins s (answer, t) same = same
 module_begins : (held : Option Module) (text : Option (List ℕ)) (path : List ℕ) (span : Span) (how : How) (config : List Given) (s : State) → length s.opened < 64
     → Begins s (begin_module held text path span how config s)
 module_begins (Some held) text path span how config s few =
-    if_begins s (is_explicit config) _ _ refl (λ is. at_once_begins s (used_as how path [] span s) (used_opened how path [] span s))
+    if_begins s (is_explicit config) _ _ refl (λ is. at_once_begins s (used_as how path (interface_of path held) [] span s) (used_opened how path (interface_of path held) [] span s))
 module_begins None None path span how config s few = refl
 module_begins None (Some text) path span how config s few =
     (few, length-append s.opened (record { path = path; uses = no_uses } ∷ []) ∙ omega arith)
@@ -76,7 +79,7 @@ url_begins (Err R.Ambiguous) span how config s = refl
 url_begins (Err R.Memory) span how config s = refl
 
 built_in_unless_opened : (given : Option Given) (url : List ℕ) (span : Span) (how : How) (s : State) → length (built_in_unless given url span how s).1.opened ≡ length s.opened
-built_in_unless_opened None url span how s = used_opened how url [] span s
+built_in_unless_opened None url span how s = used_opened how url (built_in_interface url) [] span s
 built_in_unless_opened (Some given) url span how s = refl
 
 built_in_opened : (url : List ℕ) (span : Span) (how : How) (config : List Given) (s : State) → length (built_in_used url span how config s).1.opened ≡ length s.opened
@@ -89,15 +92,15 @@ load_begins site url span how config s =
     if_begins s (is_sass url) _ _ (at_once_begins s (built_in_used url span how config s) (built_in_opened url span how config s))
     (λ is. url_begins (resolved s.folder site url s.paths) span how config s)
 
-unless_opened : (given : Option Given) (how : How) (path : List ℕ) (taken : List (List ℕ)) (span : Span) (s : State) → length (used_unless given how path taken span s).1.opened ≡ length s.opened
-unless_opened None how path taken span s = used_opened how path taken span s
-unless_opened (Some given) how path taken span s = refl
+unless_opened : (given : Option Given) (how : How) (path : List ℕ) (interface : List Entry) (taken : List (List ℕ)) (span : Span) (s : State) → length (used_unless given how path interface taken span s).1.opened ≡ length s.opened
+unless_opened None how path interface taken span s = used_opened how path interface taken span s
+unless_opened (Some given) how path interface taken span s = refl
 
 -- the end of a load closes one
 ended_opened : (site url : List ℕ) (span : Span) (how : How) (config : List Given) (path : List ℕ) (end : End) (s : State) (n : ℕ) → length s.opened ≡ suc n
     → length (ended_by (Load site url span how config) path end s).1.opened ≡ n
 ended_opened site url span how config path (Done finish) s n loads =
-    unless_opened (first_untaken config finish.taken) how path finish.taken span (loaded_now finish s) ∙ length-take (length s.opened - 1) s.opened ∙ omega arith
+    unless_opened (first_untaken config finish.taken) how path (interface_at_end path finish s) finish.taken span (loaded_now finish s) ∙ length-take (length s.opened - 1) s.opened ∙ omega arith
 ended_opened site url span how config path (Fault_end fault) s n loads = length-take (length s.opened - 1) s.opened ∙ omega arith
 
 -- Evaluations

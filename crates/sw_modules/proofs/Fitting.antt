@@ -14,13 +14,12 @@ use Rattle.sw_world.specs.declared.op.Op.TheVariants.{Load, Find, Get, Put, Say,
 use Rattle.sw_world.specs.declared.answer.Answer.{Answer}
 use Rattle.sw_world.specs.declared.answer.Answer.TheVariants.{NoNamespace, NoMember, LeftOut, Conflict, BuiltIn}
 use Rattle.sw_world.specs.Questions.{IsLoad, Fits}
+use Rattle.sw_modules.specs.declared.members.Origin.{Origin}
 use Rattle.sw_modules.specs.declared.module.Module.{Module}
-use Rattle.sw_modules.specs.declared.uses.Use.{Use}
 use Rattle.sw_modules.specs.declared.uses.Uses.{Uses}
 use Rattle.sw_modules.specs.BuiltIns.{is_sass}
 use Rattle.sw_modules.specs.State.{State, path_in, uses_in}
-use Rattle.sw_text.specs.Names.{is_private}
-use Rattle.sw_modules.specs.Names.{variable_of, callable_of, own_member, loaded_own, built_in_member, member_of, public_of, public_member, is_member, brings, brings_other, brought, used_member, loaded_member, found}
+use Rattle.sw_modules.specs.Names.{variable_of, callable_of, own_member, loaded_own, built_in_member, member_of, public_origin, member_from, public_of, public_member, is_member, brings, brings_other, star_of, used_member, loaded_member, found}
 use Rattle.sw_modules.specs.Outside.{Functions, Outside, plain}
 
 module _ (site : List ℕ) (space : Option (List ℕ)) (name : List ℕ) where
@@ -48,16 +47,16 @@ module _ (site : List ℕ) (space : Option (List ℕ)) (name : List ℕ) where
   left_out_fits Function = tt
   left_out_fits Mixin = tt
 
-  built_in_fits : (kind : Kind) (url : List ℕ) → Fits (Find site space kind name) (BuiltIn url name)
-  built_in_fits Variable url = tt
-  built_in_fits Function url = tt
-  built_in_fits Mixin url = tt
+  built_in_fits : (kind : Kind) (url own : List ℕ) → Fits (Find site space kind name) (BuiltIn url own)
+  built_in_fits Variable url own = tt
+  built_in_fits Function url own = tt
+  built_in_fits Mixin url own = tt
 
   -- Modules
 
-  variable_fits : (path : List ℕ) (value : Option Plain) → Fits (Find site space Variable name) (variable_of path name value)
-  variable_fits path None = tt
-  variable_fits path (Some value) = tt
+  variable_fits : (path own : List ℕ) (value : Option Plain) → Fits (Find site space Variable name) (variable_of path own value)
+  variable_fits path own None = tt
+  variable_fits path own (Some value) = tt
 
   function_fits : (path : List ℕ) (body : Option tree.Callable) → Fits (Find site space Function name) (callable_of path body)
   function_fits path None = tt
@@ -67,27 +66,31 @@ module _ (site : List ℕ) (space : Option (List ℕ)) (name : List ℕ) where
   mixin_fits path None = tt
   mixin_fits path (Some body) = tt
 
-  own_fits : (kind : Kind) (path : List ℕ) (held : Module) → Fits (Find site space kind name) (own_member kind name path held)
-  own_fits Variable path held = variable_fits path (lookup (bytes_eq name) held.variables)
-  own_fits Function path held = function_fits path (lookup (bytes_eq name) held.callables.functions)
-  own_fits Mixin path held = mixin_fits path (lookup (bytes_eq name) held.callables.mixins)
+  own_fits : (kind : Kind) (own path : List ℕ) (held : Module) → Fits (Find site space kind name) (own_member kind own path held)
+  own_fits Variable own path held = variable_fits path own (lookup (bytes_eq own) held.variables)
+  own_fits Function own path held = function_fits path (lookup (bytes_eq own) held.callables.functions)
+  own_fits Mixin own path held = mixin_fits path (lookup (bytes_eq own) held.callables.mixins)
 
-  loaded_own_fits : (kind : Kind) (path : List ℕ) (held : Option Module) → Fits (Find site space kind name) (loaded_own kind name path held)
-  loaded_own_fits kind path None = none_fits kind
-  loaded_own_fits kind path (Some held) = own_fits kind path held
+  loaded_own_fits : (kind : Kind) (own path : List ℕ) (held : Option Module) → Fits (Find site space kind name) (loaded_own kind own path held)
+  loaded_own_fits kind own path None = none_fits kind
+  loaded_own_fits kind own path (Some held) = own_fits kind own path held
 
-  meaning_fits : (kind : Kind) (url : List ℕ) (meaning : Found) → Fits (Find site space kind name) (built_in_member url name meaning)
-  meaning_fits kind url (F.Known meaning) = built_in_fits kind url
-  meaning_fits kind url F.LeftOut = left_out_fits kind
-  meaning_fits kind url F.NoSuch = none_fits kind
+  meaning_fits : (kind : Kind) (url own : List ℕ) (meaning : Found) → Fits (Find site space kind name) (built_in_member url own meaning)
+  meaning_fits kind url own (F.Known meaning) = built_in_fits kind url own
+  meaning_fits kind url own F.LeftOut = left_out_fits kind
+  meaning_fits kind url own F.NoSuch = none_fits kind
 
-  member_fits : (s : State) (kind : Kind) (path : List ℕ) → Fits (Find site space kind name) (member_of s kind name path)
-  member_fits s kind path =
-      either kind (is_sass path) (built_in_member path name (built_in.found (Some path) kind name)) (loaded_own kind name path (lookup (bytes_eq path) s.loaded))
-      (meaning_fits kind path (built_in.found (Some path) kind name)) (loaded_own_fits kind path (lookup (bytes_eq path) s.loaded))
+  member_fits : (s : State) (kind : Kind) (own path : List ℕ) → Fits (Find site space kind name) (member_of s kind own path)
+  member_fits s kind own path =
+      either kind (is_sass path) (built_in_member path own (built_in.found (Some path) kind own)) (loaded_own kind own path (lookup (bytes_eq path) s.loaded))
+      (meaning_fits kind path own (built_in.found (Some path) kind own)) (loaded_own_fits kind own path (lookup (bytes_eq path) s.loaded))
+
+  origin_fits : (s : State) (kind : Kind) (origin : Option Origin) → Fits (Find site space kind name) (member_from s kind origin)
+  origin_fits s kind None = none_fits kind
+  origin_fits s kind (Some origin) = member_fits s kind origin.name origin.path
 
   public_fits : (s : State) (kind : Kind) (path : List ℕ) → Fits (Find site space kind name) (public_of s kind name path)
-  public_fits s kind path = either kind (is_private name) NoMember (member_of s kind name path) (none_fits kind) (member_fits s kind path)
+  public_fits s kind path = origin_fits s kind (public_origin s kind name path)
 
   -- Uses
 
@@ -95,13 +98,13 @@ module _ (site : List ℕ) (space : Option (List ℕ)) (name : List ℕ) where
   behind_fits s kind None = no_namespace_fits kind
   behind_fits s kind (Some path) = public_fits s kind path
 
-  brought_fits : (s : State) (kind : Kind) (uses : List Use) (one : Option Use) → Fits (Find site space kind name) (brought s kind name uses one)
-  brought_fits s kind uses None = none_fits kind
-  brought_fits s kind uses (Some one) =
-      either kind (list_any (brings_other s kind name one.path) uses) Conflict (public_of s kind name one.path) (conflict_fits kind) (public_fits s kind one.path)
+  star_fits : (s : State) (kind : Kind) (stars : List (List ℕ)) (path : Option (List ℕ)) → Fits (Find site space kind name) (star_of s kind name stars path)
+  star_fits s kind stars None = none_fits kind
+  star_fits s kind stars (Some path) =
+      either kind (list_any (brings_other s kind name path) stars) Conflict (public_of s kind name path) (conflict_fits kind) (public_fits s kind path)
 
   used_fits : (s : State) (uses : Uses) (kind : Kind) (behind : Option (List ℕ)) → Fits (Find site space kind name) (used_member s uses behind kind name)
-  used_fits s uses kind None = brought_fits s kind uses.others (find (brings s kind name) uses.others)
+  used_fits s uses kind None = star_fits s kind uses.stars (find (brings s kind name) uses.stars)
   used_fits s uses kind (Some behind) = behind_fits s kind (lookup (bytes_eq behind) uses.named)
 
   -- Places
@@ -111,7 +114,7 @@ module _ (site : List ℕ) (space : Option (List ℕ)) (name : List ℕ) where
   loaded_fits s kind (Some held) None =
       let own : Answer = own_member kind name site held in
       let used : Answer = used_member s held.uses None kind name in
-      either kind (is_member own) own used (own_fits kind site held) (used_fits s held.uses kind None)
+      either kind (is_member own) own used (own_fits kind name site held) (used_fits s held.uses kind None)
   loaded_fits s kind (Some held) (Some behind) = used_fits s held.uses kind (Some behind)
 
   found_fits : (s : State) (kind : Kind) → Fits (Find site space kind name) (found s site space kind name)

@@ -1,3 +1,4 @@
+pub mod Interfaces
 pub mod Uses
 pub mod Callables
 pub mod State

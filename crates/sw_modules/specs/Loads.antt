@@ -23,16 +23,19 @@ use Rattle.sw_world.specs.declared.op.Given.{Given}
 use Rattle.sw_world.specs.declared.answer.Answer.{Answer}
 use Rattle.sw_world.specs.declared.answer.Answer.TheVariants.{Loaded, Refused, Done}
 use Rattle.sw_world.specs.declared.end.End.{End}
+use Rattle.sw_world.specs.declared.end.Finish.{Finish}
 use Rattle.sw_world.specs.declared.end.End.TheVariants.{Done as Done_end, Fault as Fault_end}
+use Rattle.sw_modules.specs.declared.members.Entry.{Entry}
 use Rattle.sw_modules.specs.declared.module.Module.{Module}
 use Rattle.sw_modules.specs.declared.module.Opened.{Opened}
 use Rattle.sw_modules.specs.declared.live.Begin.{Begin}
 use Rattle.sw_modules.specs.declared.live.Begin.TheVariants.{Answered, Open}
 use Rattle.sw_modules.specs.declared.live.Enter.{Enter}
 use Rattle.sw_modules.specs.declared.live.Enter.TheVariants.{Refused as Refused_entry, Open as Open_entry}
+use Rattle.sw_modules.specs.Interfaces.{interface_of, built_in_interface, brought}
 use Rattle.sw_modules.specs.Uses.{is_taken}
 use Rattle.sw_modules.specs.BuiltIns.{is_sass, is_built_in}
-use Rattle.sw_modules.specs.State.{State, open_at, uses_in, with_use, closed, loaded_now}
+use Rattle.sw_modules.specs.State.{State, open_at, uses_in, with_use, closed, loaded_now, module_of}
 
 abbrev pub refused : FaultCode → Span → Answer
 refused code span = Refused (record { code = code; span = span })
@@ -55,19 +58,25 @@ first_explicit given = find (λ one. one.explicit) given
 abbrev pub first_untaken : List Given → List (List ℕ) → Option Given
 first_untaken given taken = find (λ one. one.explicit && not (list_any (bytes_eq one.name) taken)) given
 
--- a loaded module is used by the innermost open load, as its use is recorded in each case: behind a namespace, which may
--- not stand for a module already, as one whose members are the sheet's own (`as *`), or forwarded
-abbrev pub used_as : How → List ℕ → List (List ℕ) → Span → State → Answer × State
-used_as how path taken span s =
-    if is_taken how (uses_in s.opened) then (refused MemberConflict span, s)
-    else (Loaded path taken, record s { opened = with_use how path s.opened })
+-- a loaded module that brings these members is used by the innermost open load: behind a namespace, as one whose
+-- members are the sheet's own (`as *`), or forwarded. Neither may a namespace stand for a module already, nor may two
+-- forwards bring members of one kind and name of different origins.
+abbrev pub used_with : How → List ℕ → List Entry → List (List ℕ) → Span → State → Answer × State
+used_with how path entries taken span s =
+    if is_taken how entries (uses_in s.opened) then (refused MemberConflict span, s)
+    else (Loaded path taken, record s { opened = with_use how path entries s.opened })
+
+-- a loaded module with this interface
+abbrev pub used_as : How → List ℕ → List Entry → List (List ℕ) → Span → State → Answer × State
+used_as how path interface taken span s = used_with how path (brought how interface) taken span s
 
 abbrev pub at_once : Answer × State → Begin × State
 at_once (answer, s) = (Answered answer, s)
 
 abbrev pub begin_module : Option Module → Option (List ℕ) → List ℕ → Span → How → List Given → State → Begin × State
 begin_module (Some held) text path span how config s =
-    if is_explicit config then (Answered (refused AlreadyLoaded span), s) else at_once (used_as how path [] span s)
+    if is_explicit config then (Answered (refused AlreadyLoaded span), s)
+    else at_once (used_as how path (interface_of path held) [] span s)
 begin_module None None path span how config s = (Answered (refused NotFound span), s)
 begin_module None (Some text) path span how config s = (Open path text (config_of config), open_at path s)
 
@@ -85,7 +94,7 @@ begin_url (Err R.Memory) span how config s = (Answered (refused NotFound span), 
 
 -- a built-in module is used, unless a `with` gives values to it
 abbrev pub built_in_unless : Option Given → List ℕ → Span → How → State → Answer × State
-built_in_unless None url span how s = used_as how url [] span s
+built_in_unless None url span how s = used_as how url (built_in_interface url) [] span s
 built_in_unless (Some given) url span how s = (refused NotConfigurable given.span, s)
 
 -- the answer to the load of a built-in module, and the next state
@@ -103,14 +112,19 @@ begun (Load site url span how config) s =
 begun _ s = (Answered Done, s)
 
 -- a module whose body is done is used, unless a name of a `with` wasn't taken
-abbrev pub used_unless : Option Given → How → List ℕ → List (List ℕ) → Span → State → Answer × State
-used_unless None how path taken span s = used_as how path taken span s
-used_unless (Some given) how path taken span s = (refused NotConfigurable given.span, s)
+abbrev pub used_unless : Option Given → How → List ℕ → List Entry → List (List ℕ) → Span → State → Answer × State
+used_unless None how path interface taken span s = used_as how path interface taken span s
+used_unless (Some given) how path interface taken span s = (refused NotConfigurable given.span, s)
+
+-- the interface of the innermost open load's module, whose body has ended so
+abbrev pub interface_at_end : List ℕ → Finish → State → List Entry
+interface_at_end path finish s = interface_of path (module_of finish (uses_in s.opened))
 
 -- the answer to the load whose body has ended so, and the next state
 abbrev pub ended_by : Op → List ℕ → End → State → Answer × State
 ended_by (Load site url span how config) path (Done_end finish) s =
-    used_unless (first_untaken config finish.taken) how path finish.taken span (loaded_now finish s)
+    used_unless (first_untaken config finish.taken) how path (interface_at_end path finish s) finish.taken span
+    (loaded_now finish s)
 ended_by _ path (Done_end finish) s = (Done, loaded_now finish s)
 ended_by _ path (Fault_end fault) s = (Refused fault, closed s)
 

@@ -1,8 +1,9 @@
 -- What a name means in a module (the Sass specification's modules). Behind a namespace it is a public member of the
--- module that is used so. Without one it is an own member of the module in which it is written, or else a public member
--- of the modules that are used there `as *`; what is forwarded isn't looked at yet. A built-in module has the members
--- that the Sass reference documentation gives it, of which this language leaves out some.
-use Rattle.std.specs.Prelude.{ℕ, List, bytes_eq, find, Bool, true, false, ◌&&◌, not, Option, None, Some, if◌then◌else◌}
+-- module that is used so: a public own one, or else one that its forwards brought, with its origin. Without one it is an
+-- own member of the module in which it is written, or else a public member of the modules that are used there `as *`,
+-- of which two may not have it from different origins. A built-in module has the members that the Sass reference
+-- documentation gives it, of which this language leaves out some.
+use Rattle.std.specs.Prelude.{ℕ, List, bytes_eq, find, Bool, true, false, not, Option, None, Some, is_some, option_and_then, if◌then◌else◌}
 use Rattle.std.specs.List.{list_any}
 use Rattle.std.specs.Option.{option_map_or}
 use Rattle.std.specs.Map.{lookup}
@@ -15,14 +16,13 @@ use Rattle.sw_values.specs.declared.plain.Plain.TheVariants.{Null}
 use Rattle.sw_builtins.specs.declared.built_in.Found.{Found}
 use Rattle.sw_builtins.specs.declared.built_in.Found.TheVariants as F
 use Rattle.sw_builtins.specs.Tables as built_in
-use Rattle.sw_world.specs.declared.op.How.{How}
-use Rattle.sw_world.specs.declared.op.How.TheVariants.{Use as Use_how, Forward}
 use Rattle.sw_world.specs.declared.answer.Answer.{Answer}
 use Rattle.sw_world.specs.declared.answer.Answer.TheVariants.{Owner, Callable, BuiltIn, NoNamespace, NoMember, LeftOut, Conflict}
+use Rattle.sw_modules.specs.declared.members.Origin.{Origin}
 use Rattle.sw_modules.specs.declared.module.Module.{Module}
-use Rattle.sw_modules.specs.declared.uses.Use.{Use}
 use Rattle.sw_modules.specs.declared.uses.Uses.{Uses}
 use Rattle.sw_modules.specs.BuiltIns.{is_sass}
+use Rattle.sw_modules.specs.Interfaces.{origin_in, same_origin}
 use Rattle.sw_modules.specs.State.{State, path_in, uses_in}
 
 -- ---- what a module has of a name
@@ -53,17 +53,38 @@ built_in_member url name (F.Known meaning) = BuiltIn url name
 built_in_member url name F.LeftOut = LeftOut
 built_in_member url name F.NoSuch = NoMember
 
--- a member of the module at a path, or of the built-in module of a URL
+-- an own member of the module at a path, or one of the built-in module of a URL
 abbrev pub member_of : State → Kind → List ℕ → List ℕ → Answer
 member_of s kind name path =
     if is_sass path then built_in_member path name (built_in.found (Some path) kind name)
     else loaded_own kind name path (lookup (bytes_eq path) s.loaded)
 
+abbrev pub is_member : Answer → Bool
+is_member NoMember = false
+is_member _ = true
+
 -- ---- behind a namespace
+
+-- where a member that the forwards of the module at a path brought is from
+abbrev pub forwarded_origin : State → Kind → List ℕ → List ℕ → Option Origin
+forwarded_origin s kind name path =
+    option_and_then (λ held. origin_in held.uses.forwarded kind name) (lookup (bytes_eq path) s.loaded)
+
+-- where a public member of the module at a path is from
+abbrev pub public_origin : State → Kind → List ℕ → List ℕ → Option Origin
+public_origin s kind name path =
+    if is_private name then None
+    else if is_member (member_of s kind name path) then Some (record { path = path; name = name })
+    else forwarded_origin s kind name path
+
+-- the member of an origin
+abbrev pub member_from : State → Kind → Option Origin → Answer
+member_from s kind None = NoMember
+member_from s kind (Some origin) = member_of s kind origin.name origin.path
 
 -- a public member of the module at a path
 abbrev pub public_of : State → Kind → List ℕ → List ℕ → Answer
-public_of s kind name path = if is_private name then NoMember else member_of s kind name path
+public_of s kind name path = member_from s kind (public_origin s kind name path)
 
 -- a public member of the module that is used so
 abbrev pub public_member : State → Kind → List ℕ → Option (List ℕ) → Answer
@@ -72,35 +93,31 @@ public_member s kind name (Some path) = public_of s kind name path
 
 -- ---- without a namespace
 
-abbrev pub is_member : Answer → Bool
-is_member NoMember = false
-is_member _ = true
+-- the module at a path has this public member
+abbrev pub brings : State → Kind → List ℕ → List ℕ → Bool
+brings s kind name path = is_some (public_origin s kind name path)
 
-abbrev pub is_star : How → Bool
-is_star (Use_how None) = true
-is_star (Use_how (Some space)) = false
-is_star (Forward prefix filter) = false
+abbrev pub differ : Option Origin → Option Origin → Bool
+differ (Some one) (Some other) = not (same_origin one other)
+differ (Some one) None = false
+differ None other = false
 
--- a module is used `as *` and has this public member
-abbrev pub brings : State → Kind → List ℕ → Use → Bool
-brings s kind name one = is_star one.how && is_member (public_of s kind name one.path)
+-- two modules have this public member from different origins
+abbrev pub brings_other : State → Kind → List ℕ → List ℕ → List ℕ → Bool
+brings_other s kind name path other = differ (public_origin s kind name path) (public_origin s kind name other)
 
-abbrev pub brings_other : State → Kind → List ℕ → List ℕ → Use → Bool
-brings_other s kind name path other = brings s kind name other && not (bytes_eq path other.path)
-
--- what the first of these uses brings, unless another one brings another module's
-abbrev pub brought : State → Kind → List ℕ → List Use → Option Use → Answer
-brought s kind name uses None = NoMember
-brought s kind name uses (Some one) =
-    if list_any (brings_other s kind name one.path) uses then Conflict
-    else public_of s kind name one.path
+-- what the first of these modules brings, unless another one brings another member
+abbrev pub star_of : State → Kind → List ℕ → List (List ℕ) → Option (List ℕ) → Answer
+star_of s kind name stars None = NoMember
+star_of s kind name stars (Some path) =
+    if list_any (brings_other s kind name path) stars then Conflict else public_of s kind name path
 
 -- a public member of the modules that are used `as *`
-abbrev pub star_member : State → Kind → List ℕ → List Use → Answer
-star_member s kind name uses = brought s kind name uses (find (brings s kind name) uses)
+abbrev pub star_member : State → Kind → List ℕ → List (List ℕ) → Answer
+star_member s kind name stars = star_of s kind name stars (find (brings s kind name) stars)
 
 abbrev pub used_member : State → Uses → Option (List ℕ) → Kind → List ℕ → Answer
-used_member s uses None kind name = star_member s kind name uses.others
+used_member s uses None kind name = star_member s kind name uses.stars
 used_member s uses (Some space) kind name = public_member s kind name (lookup (bytes_eq space) uses.named)
 
 -- ---- at a place

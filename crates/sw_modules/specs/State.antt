@@ -9,6 +9,7 @@ use Rattle.sw_values.specs.declared.plain.Plain.{Plain}
 use Rattle.sw_world.specs.declared.op.How.{How}
 use Rattle.sw_world.specs.declared.op.Saying.{Saying}
 use Rattle.sw_world.specs.declared.end.Finish.{Finish}
+use Rattle.sw_modules.specs.declared.members.Entry.{Entry}
 use Rattle.sw_modules.specs.declared.module.Module.{Module}
 use Rattle.sw_modules.specs.declared.module.Opened.{Opened}
 use Rattle.sw_modules.specs.declared.uses.Uses.{Uses}
@@ -49,9 +50,9 @@ with_uses opened now =
     option_map_or (λ load. slice_set opened (length opened - 1) (record load { uses = now load.uses }))
     (last_open opened) opened
 
--- the innermost open load uses the module at a path too
-abbrev pub with_use : How → List ℕ → List Opened → List Opened
-with_use how path opened = with_uses opened (with_one how path)
+-- the innermost open load uses the module at a path too, which brings these members
+abbrev pub with_use : How → List ℕ → List Entry → List Opened → List Opened
+with_use how path brought opened = with_uses opened (with_one how path brought)
 
 -- the open loads without the innermost one
 abbrev pub below : List Opened → List Opened

@@ -5,10 +5,12 @@ ghost use Rattle.sw_modules.specs.BuiltIns.{is_sass, is_built_in};
 ghost use Rattle.sw_modules.specs.Loads.{refused, first_explicit, built_in_unless, built_in_used, AnswersLoad};
 
 use crate::Live;
+use crate::interfaces::brought_of_built_in;
 use crate::live::MOST_OPEN;
 use crate::loads::{first_explicit, refused};
+use crate::uses::Source;
 use sw_builtins::member;
-use sw_text::{FaultCode, List, Memory, Name, Shared, Span};
+use sw_text::{FaultCode, Memory, Name, Span};
 use sw_world::{Answer, Given, How};
 
 /// Whether a URL or a path is that of a built-in module, if there is one.
@@ -30,8 +32,8 @@ fn is_built_in(url: &str) -> bool
 
 impl<'a> Live<'a> {
     /// The answer to the load of a built-in module. The refusals come in this order: there is no such module; 64 loads
-    /// are open; a `with` gives values to it; its namespace stands for a module already. After `Memory` the state is as
-    /// before.
+    /// are open; a `with` gives values to it; its namespace stands for a module already, or a forward of it brings what
+    /// another one brought from elsewhere. After `Memory` the state is as before.
     pub(crate) fn use_built_in(
         &mut self,
         url: &Name,
@@ -54,8 +56,13 @@ impl<'a> Live<'a> {
         match first_explicit(config) {
             Some(given) => refused(FaultCode::NotConfigurable, &given.span),
             None => {
-                let none = Shared::new(self.alloc, List::new(self.alloc))?;
-                self.used_as(how, url.share()?, 0, none, span)
+                let brought = brought_of_built_in(self.alloc, how, url)?;
+                let source = Source {
+                    path: url.share()?,
+                    near: 0,
+                    brought,
+                };
+                self.used_at_once(how, source, span)
             }
         }
     }

@@ -3,19 +3,24 @@ ghost use Rattle.std.specs.Prelude.{◌≡◌, ◌<◌, ◌+◌, ◌-◌, ◌++�
 ghost use Rattle.indexmap.specs.IndexMap.{insert_entry};
 ghost use Rattle.sw_world.specs.Questions.{IsLoad};
 ghost use Rattle.sw_world.specs.declared.answer.Answer.TheVariants.{Loaded as Loaded_answer};
-ghost use Rattle.sw_modules.specs.Uses.{is_taken, no_uses, with_one, without_last};
+ghost use Rattle.sw_modules.specs.Interfaces.{brought};
+ghost use Rattle.sw_modules.specs.Uses.{is_taken, no_uses, with_one, first_uses};
 ghost use Rattle.sw_modules.specs.State.{below, changed_below, closed, module_of, used_by, loaded_now, path_in, uses_in, with_use};
-ghost use Rattle.sw_modules.specs.Loads.{refused, first_untaken, used_unless, ended_by, left_by, AnswersLoad};
+ghost use Rattle.sw_modules.specs.Loads.{refused, first_untaken, used_unless, interface_at_end, ended_by, left_by, AnswersLoad};
 
-use crate::loads::{below, drop_use_at, first_untaken, refused, share_names, takes, use_at};
-use crate::{Live, Opened};
-use sw_text::{FaultCode, Memory, Name, Shared, Span};
+use crate::interfaces::brought_of;
+use crate::loads::{
+    below, counts, first_untaken, refused, share_names, takes, truncate_at, use_at,
+};
+use crate::uses::Source;
+use crate::{Entry, Live, Module, Opened, UsesCounts};
+use sw_text::{FaultCode, List, Memory, Name, Shared, Span};
 use sw_world::{Answer, End, Finish, Given, How, Op};
 
 impl<'a> Live<'a> {
     /// The answer to the innermost open load, whose body ended so. At its end the module is recorded and used; a name
-    /// of a `with` that it didn't take, or a namespace that stands for a module already, refuses the load. After
-    /// `Memory` the state is as before.
+    /// of a `with` that it didn't take refuses the load, and so does a namespace that stands for a module already, or
+    /// a member that another forward brought from elsewhere. After `Memory` the state is as before.
     pub fn end(&mut self, op: &Op, end: &End) -> Result<Answer, Memory>
         requires is_load { IsLoad op.now }
         requires is_open { 0 < length self.old.opened }
@@ -53,7 +58,8 @@ impl<'a> Live<'a> {
     ) -> Result<Answer, Memory>
         requires { 0 < length self.old.opened }
         ensures ok { IfOk result (λ answer. used_unless (first_untaken config.now finish.now.taken) how.now
-            (path_in self.old.opened) finish.now.taken span.now (loaded_now finish.now self.old) ≡ (answer, self.new)) }
+            (path_in self.old.opened) (interface_at_end (path_in self.old.opened) finish.now self.old) finish.now.taken
+            span.now (loaded_now finish.now self.old) ≡ (answer, self.new)) }
         ensures kind { IfOk result AnswersLoad }
         ensures closes { OnOk result (length self.new.opened + 1 ≡ length self.old.opened) }
         ensures err { OnErr result (self.new ≡ self.old) }
@@ -61,12 +67,29 @@ impl<'a> Live<'a> {
         match first_untaken(config, finish.get().taken.as_slice()) {
             Some(given) => self.end_refused(FaultCode::NotConfigurable, &given.span, finish),
             None => {
-                if takes(below(&self.opened), how) {
+                let brought = self.brought_at_end(how, finish)?;
+                if takes(below(&self.opened), how, brought.as_slice()) {
                     self.end_refused(FaultCode::MemberConflict, span, finish)
                 } else {
-                    self.end_used(how, finish)
+                    self.end_used(how, brought, finish)
                 }
             }
+        }
+    }
+
+    /// What a use of the innermost open load's module brings, whose body ended so.
+    fn brought_at_end(&self, how: &How, finish: &Shared<Finish>) -> Result<List<Entry>, Memory>
+        requires { 0 < length self.now.opened }
+        ensures { IfOk result (λ entries. entries
+            ≡ brought how.now (interface_at_end (path_in self.now.opened) finish.now self.now)) }
+    {
+        if let How::Use { .. } = how {
+            return Ok(List::new(self.alloc));
+        }
+        let held = Module::of(self.alloc, finish)?;
+        match self.opened.last() {
+            Some(load) => brought_of(self.alloc, how, &load.path, &held, &load.uses.forwarded),
+            None => unreachable!(),
         }
     }
 
@@ -89,51 +112,61 @@ impl<'a> Live<'a> {
     }
 
     /// Records the module of the innermost open load, and that the one below uses it.
-    fn end_used(&mut self, how: &How, finish: &Shared<Finish>) -> Result<Answer, Memory>
+    fn end_used(
+        &mut self,
+        how: &How,
+        brought: List<Entry>,
+        finish: &Shared<Finish>,
+    ) -> Result<Answer, Memory>
         requires is_open { 0 < length self.old.opened }
-        requires free { is_taken how.now (uses_in (below self.old.opened)) ≡ false }
+        requires free { is_taken how.now brought (uses_in (below self.old.opened)) ≡ false }
         ensures answer { IfOk result (λ answer. answer ≡ Loaded_answer (path_in self.old.opened) finish.now.taken) }
         ensures state { OnOk result (self.new ≡ record (loaded_now finish.now self.old) {
-          opened = with_use how.now (path_in self.old.opened) (below self.old.opened);
+          opened = with_use how.now (path_in self.old.opened) brought (below self.old.opened);
         }) }
         ensures closes { OnOk result (length self.new.opened + 1 ≡ length self.old.opened) }
         ensures err { OnErr result (self.new ≡ self.old) }
     {
         let taken = share_names(self.alloc, finish.get().taken.as_slice())?;
         let path = self.path()?;
-        self.use_below(how, &path)?;
+        let counts = counts(below(&self.opened));
+        self.use_below(how, &path, brought)?;
         match self.record(finish) {
             Ok(()) => Ok(Answer::Loaded { path, taken }),
             Err(memory) => {
-                self.drop_use_below(how);
+                self.drop_use_below(counts);
                 Err(memory)
             }
         }
     }
 
     /// The load below the innermost one, if there is one, uses the module at this path too.
-    fn use_below(&mut self, how: &How, path: &Name) -> Result<(), Memory>
+    fn use_below(&mut self, how: &How, path: &Name, brought: List<Entry>) -> Result<(), Memory>
         ensures ok { OnOk result (self.new
-            ≡ record self.old { opened = changed_below (with_one how.now path.now) self.old.opened }) }
+            ≡ record self.old { opened = changed_below (with_one how.now path.now brought) self.old.opened }) }
         ensures err { OnErr result (self.new ≡ self.old) }
         ensures same_count { length self.new.opened ≡ length self.old.opened }
     {
-        let path = path.share()?;
+        let source = Source {
+            path: path.share()?,
+            near: self.loaded.len(),
+            brought,
+        };
         let count = self.opened.len();
         if count > 1 {
-            use_at(&mut self.opened, count - 2, how, path, self.loaded.len())
+            use_at(&mut self.opened, count - 2, how, source)
         } else {
             Ok(())
         }
     }
 
-    /// Takes its last use of this kind back.
-    fn drop_use_below(&mut self, how: &How)
-        ensures { self.new ≡ record self.old { opened = changed_below (without_last how.now) self.old.opened } }
+    /// It keeps the first uses of each kind.
+    fn drop_use_below(&mut self, counts: UsesCounts)
+        ensures { self.new ≡ record self.old { opened = changed_below (first_uses counts) self.old.opened } }
     {
         let count = self.opened.len();
         if count > 1 {
-            drop_use_at(&mut self.opened, count - 2, how);
+            truncate_at(&mut self.opened, count - 2, counts);
         }
     }
 

@@ -9,7 +9,9 @@ ghost use Rattle.sw_world.specs.declared.op.How.{How};
 ghost use Rattle.sw_modules.specs.Loads.{entry_fault, is_explicit, refused, first_untaken};
 
 use crate::built_ins::is_sass;
+use crate::interfaces::brought_of;
 use crate::loads::{add_use, config_of, is_explicit, is_open, refused, takes};
+use crate::uses::Source;
 use crate::{Loaded, Opened, Uses};
 use std::alloc::Global;
 use std::marker::Model;
@@ -94,7 +96,7 @@ impl<'a> Model for Live<'a> {
 
 impl<'a> Live<'a> {
     ghost use Rattle.sw_modules.specs.State.{nothing_loaded, closed, loaded_now, path_in, with_variable};
-    ghost use Rattle.sw_modules.specs.Loads.{begun, begin_path, begin_module, used_as, used_unless, ended_by, left_by, entry_text, entered, AnswersLoad, IsBegun, IsEntered};
+    ghost use Rattle.sw_modules.specs.Loads.{begun, begin_path, begin_module, used_with, used_unless, ended_by, left_by, entry_text, entered, AnswersLoad, IsBegun, IsEntered};
 
     /// Nothing is loaded or open. Takes no memory.
     pub fn new(alloc: Global, folder: &'a Folder, paths: &'a [Name]) -> Live<'a>
@@ -170,7 +172,8 @@ impl<'a> Live<'a> {
 
     /// The answer to a load, or the module whose body has to run for it. The refusals of a URL of the folder come in
     /// this order: it means no file or several; the module is being loaded; 64 loads are open; the module is loaded and
-    /// a `with` gives values to it; its namespace stands for a module already. After `Memory` the state is as before.
+    /// a `with` gives values to it; its namespace stands for a module already, or a forward of it brings what another one
+    /// brought from elsewhere. After `Memory` the state is as before.
     pub fn begin(&mut self, op: &Op) -> Result<Begin, Memory>
         requires { IsLoad op.now }
         ensures ok { IfOk result (λ begin. begun op.now self.old ≡ (begin, self.new)) }
@@ -220,34 +223,45 @@ impl<'a> Live<'a> {
             return Ok(Begin::Answered(refused(FaultCode::Depth, span)?));
         }
         match self.loaded.find(&path, self.recent.module) {
-            Some((near, _)) => {
-                let answer = self.begin_loaded(path, near, span, how, config)?;
+            Some((near, held)) => {
+                if is_explicit(config) {
+                    return Ok(Begin::Answered(refused(FaultCode::AlreadyLoaded, span)?));
+                }
+                let brought = brought_of(self.alloc, how, &path, held, &held.uses.forwarded)?;
+                let source = Source {
+                    path,
+                    near,
+                    brought,
+                };
+                let answer = self.used_at_once(how, source, span)?;
                 Ok(Begin::Answered(answer))
             }
             None => self.begin_new(path, span, config),
         }
     }
 
-    fn begin_loaded(
+    /// Uses a module that takes nothing.
+    pub(crate) fn used_at_once(
         &mut self,
-        path: Name,
-        near: usize,
-        span: &Span,
         how: &How,
-        config: &[Given],
+        source: Source,
+        span: &Span,
     ) -> Result<Answer, Memory>
-        ensures ok { IfOk result (λ answer.
-            (if is_explicit config.now then (refused FaultCode.AlreadyLoaded span.now, self.old)
-            else used_as how.now path [] span.now self.old) ≡ (answer, self.new)) }
+        ensures ok { IfOk result (λ answer. used_with how.now source.path source.brought [] span.now self.old
+            ≡ (answer, self.new)) }
         ensures kind { IfOk result AnswersLoad }
         ensures same_depth { length self.new.opened ≡ length self.old.opened }
         ensures err { OnErr result (self.new ≡ self.old) }
     {
-        if is_explicit(config) {
-            return refused(FaultCode::AlreadyLoaded, span);
+        if takes(&self.opened, how, source.brought.as_slice()) {
+            return refused(FaultCode::MemberConflict, span);
         }
-        let none = Shared::new(self.alloc, List::new(self.alloc))?;
-        self.used_as(how, path, near, none, span)
+        let answer = Answer::Loaded {
+            path: source.path.share()?,
+            taken: Shared::new(self.alloc, List::new(self.alloc))?,
+        };
+        add_use(&mut self.opened, how, source)?;
+        Ok(answer)
     }
 
     fn begin_new(&mut self, path: Name, span: &Span, config: &[Given]) -> Result<Begin, Memory>
@@ -270,30 +284,6 @@ impl<'a> Live<'a> {
                 Ok(Begin::Open { path, text, config })
             }
         }
-    }
-
-    pub(crate) fn used_as(
-        &mut self,
-        how: &How,
-        path: Name,
-        near: usize,
-        taken: Shared<List<Name>>,
-        span: &Span,
-    ) -> Result<Answer, Memory>
-        ensures ok { IfOk result (λ answer. used_as how.now path taken span.now self.old ≡ (answer, self.new)) }
-        ensures kind { IfOk result AnswersLoad }
-        ensures same_depth { length self.new.opened ≡ length self.old.opened }
-        ensures err { OnErr result (self.new ≡ self.old) }
-    {
-        if takes(&self.opened, how) {
-            return refused(FaultCode::MemberConflict, span);
-        }
-        let answer = Answer::Loaded {
-            path: path.share()?,
-            taken,
-        };
-        add_use(&mut self.opened, how, path, near)?;
-        Ok(answer)
     }
 
     pub(crate) fn allocator(&self) -> Global {

@@ -90,7 +90,7 @@ impl Loaded {
         ensures { self.new ≡ used_by self.old path.now uses }
     {
         if let Some(held) = self.entries.get_mut(path) {
-            held.uses = uses;
+            held.set_uses(uses);
         }
     }
 

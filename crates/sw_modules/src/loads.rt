@@ -4,10 +4,11 @@ ghost use Rattle.std.specs.List.{list_any};
 ghost use Rattle.std.specs.Map.{lookup};
 ghost use Rattle.std.specs.Option.{option_copied, option_map};
 ghost use Rattle.sw_modules.specs.State.{below, changed_at, path_in, uses_in, with_use};
-ghost use Rattle.sw_modules.specs.Uses.{is_taken, no_uses, with_one, without_last};
+ghost use Rattle.sw_modules.specs.Uses.{is_taken, no_uses, with_one, uses_counts, first_uses};
 ghost use Rattle.sw_modules.specs.Loads.{refused, is_open, config_of, is_explicit, first_explicit, first_untaken};
 
-use crate::Opened;
+use crate::uses::Source;
+use crate::{Counts, Entry, Opened, UsesCounts};
 use std::alloc::Global;
 use sw_text::{Fault, FaultCode, List, Memory, Name, Shared, Span};
 use sw_world::{Answer, Config, Given, How, Table};
@@ -37,40 +38,61 @@ pub(crate) fn is_innermost(opened: &[Opened], path: &Name) -> bool
     }
 }
 
-/// Whether a use brings the innermost open load a namespace that stands for a module already.
-pub(crate) fn takes(opened: &[Opened], how: &How) -> bool
-    ensures { result ≡ is_taken how.now (uses_in opened.now) }
+/// Whether a use brings the innermost open load a namespace that stands for a module already, or a member that another
+/// forward brought from elsewhere.
+pub(crate) fn takes(opened: &[Opened], how: &How, brought: &[Entry]) -> bool
+    ensures { result ≡ is_taken how.now brought.now (uses_in opened.now) }
 {
     match opened.last() {
-        Some(load) => load.uses.takes(how),
-        None => none_takes(how),
+        Some(load) => load.uses.takes(how, brought),
+        None => none_takes(how, brought),
     }
 }
 
-fn none_takes(how: &How) -> bool
-    ensures { result ≡ is_taken how.now no_uses }
+fn none_takes(how: &How, brought: &[Entry]) -> bool
+    ensures { result ≡ is_taken how.now brought.now no_uses }
 {
     let _how = how;
+    let _brought = brought;
     false
 }
 
 /// The innermost open load uses a module too. After `Memory` the uses are as before.
-pub(crate) fn add_use(
-    opened: &mut [Opened],
-    how: &How,
-    path: Name,
-    near: usize,
-) -> Result<(), Memory>
-    ensures ok { OnOk result (opened.new ≡ with_use how.now path opened.old) }
+pub(crate) fn add_use(opened: &mut [Opened], how: &How, source: Source) -> Result<(), Memory>
+    ensures ok { OnOk result (opened.new ≡ with_use how.now source.path source.brought opened.old) }
     ensures err { OnErr result (opened.new ≡ opened.old) }
     ensures same_count { length opened.new ≡ length opened.old }
 {
     let count = opened.len();
     if count > 0 {
         let load = &mut opened[count - 1];
-        load.uses.add(how, path, near)?;
+        load.uses.add(how, source)?;
     }
     Ok(())
+}
+
+/// How many uses the innermost open load has.
+pub(crate) fn counts(opened: &[Opened]) -> UsesCounts
+    ensures { result ≡ uses_counts (uses_in opened.now) }
+{
+    match opened.last() {
+        Some(load) => load.uses.counts(),
+        None => no_counts(),
+    }
+}
+
+fn no_counts() -> UsesCounts
+    ensures { result ≡ uses_counts no_uses }
+{
+    UsesCounts {
+        named: 0,
+        stars: 0,
+        forwarded: Counts {
+            variables: 0,
+            functions: 0,
+            mixins: 0,
+        },
+    }
 }
 
 /// The open loads without the innermost one.
@@ -85,26 +107,26 @@ pub(crate) fn use_at(
     opened: &mut Vec<Opened>,
     at: usize,
     how: &How,
-    path: Name,
-    near: usize,
+    source: Source,
 ) -> Result<(), Memory>
     requires { at < length opened.old.items }
-    ensures ok { OnOk result (opened.new.items ≡ changed_at at (with_one how.now path) opened.old.items) }
+    ensures ok { OnOk result (opened.new.items
+        ≡ changed_at at (with_one how.now source.path source.brought) opened.old.items) }
     ensures err { OnErr result (opened.new.items ≡ opened.old.items) }
     ensures same_count { length opened.new.items ≡ length opened.old.items }
 {
     let load = &mut opened[at];
-    load.uses.add(how, path, near)
+    load.uses.add(how, source)
 }
 
-/// The last use of this kind of the open load at a place is taken back.
-pub(crate) fn drop_use_at(opened: &mut Vec<Opened>, at: usize, how: &How)
+/// The open load at a place keeps the first uses of each kind.
+pub(crate) fn truncate_at(opened: &mut Vec<Opened>, at: usize, counts: UsesCounts)
     requires { at < length opened.old.items }
-    ensures after { opened.new.items ≡ changed_at at (without_last how.now) opened.old.items }
+    ensures after { opened.new.items ≡ changed_at at (first_uses counts) opened.old.items }
     ensures same_count { length opened.new.items ≡ length opened.old.items }
 {
     let load = &mut opened[at];
-    load.uses.drop_last(how);
+    load.uses.truncate(counts);
 }
 
 pub(crate) fn is_explicit(config: &[Given]) -> bool

@@ -6,13 +6,13 @@ ghost use Rattle.std.specs.Map.{lookup};
 ghost use Rattle.sw_syntax_tree.specs.declared.callable.Kind.{Kind};
 ghost use Rattle.sw_modules.specs.Uses.{no_uses};
 ghost use Rattle.sw_modules.specs.State.{uses_in};
-ghost use Rattle.sw_modules.specs.Names.{member_of, public_of, public_member, is_member, brings, brings_other, star_member, used_member, own_or_used, own_member, loaded_member, found};
+ghost use Rattle.sw_modules.specs.Names.{member_of, forwarded_origin, public_origin, public_of, public_member, is_member, brings, brings_other, star_member, used_member, own_or_used, own_member, loaded_member, found};
 
 use crate::built_ins::is_sass;
 use crate::live::Recent;
 use crate::loads::is_innermost;
-use crate::names::{Found, built_in_member, has_meaning, has_own, is_member, is_star, own_member};
-use crate::{Live, Module, Use, Used, Uses};
+use crate::names::{Found, built_in_member, has_meaning, has_own, is_member, own_member};
+use crate::{Live, Module, Origin, Used, Uses};
 use sw_builtins::find;
 use sw_syntax_tree::Kind;
 use sw_text::{Memory, Name};
@@ -85,7 +85,7 @@ impl<'a> Live<'a> {
         ensures { IfOk result (λ it. it.answer ≡ used_member self.now uses.now space.now kind name.now) }
     {
         match space {
-            None => self.star_member(uses.others.as_slice(), kind, name),
+            None => self.star_member(uses.stars.as_slice(), kind, name),
             Some(space) => {
                 let used = uses.named.find(space, self.recent.space);
                 self.public_member(kind, name, used)
@@ -119,7 +119,7 @@ impl<'a> Live<'a> {
         name: &Name,
     ) -> Result<Found, Memory>
         ensures { IfOk result (λ it. it.answer ≡ own_or_used (own_member kind name.now site.now at.entry.1.now)
-            (star_member self.now kind name.now at.entry.1.now.uses.others)) }
+            (star_member self.now kind name.now at.entry.1.now.uses.stars)) }
     {
         let near = Recent {
             space: self.recent.space,
@@ -130,61 +130,97 @@ impl<'a> Live<'a> {
         if is_member(&own.answer) {
             return Ok(own);
         }
-        self.star_member(at.1.uses.others.as_slice(), kind, name)
+        self.star_member(at.1.uses.stars.as_slice(), kind, name)
     }
 
     // ---- without a namespace
 
-    fn star_member(&self, uses: &[Use], kind: Kind, name: &Name) -> Result<Found, Memory>
-        ensures { IfOk result (λ it. it.answer ≡ star_member self.now kind name.now uses.now) }
+    fn star_member(&self, stars: &[Name], kind: Kind, name: &Name) -> Result<Found, Memory>
+        ensures { IfOk result (λ it. it.answer ≡ star_member self.now kind name.now stars.now) }
     {
-        match self.first_star(uses, kind, name) {
+        match self.first_star(stars, kind, name) {
             None => Ok(self.missed(Answer::NoMember)),
-            Some(one) => {
-                if self.other_brings(one, uses, kind, name) {
+            Some(path) => {
+                if self.other_brings(path, stars, kind, name) {
                     Ok(self.missed(Answer::Conflict))
                 } else {
-                    self.public_of(kind, name, &one.path, self.recent)
+                    self.public_of(kind, name, path, self.recent)
                 }
             }
         }
     }
 
-    fn first_star<'u>(&self, uses: &'u [Use], kind: Kind, name: &Name) -> Option<&'u Use>
-        ensures { option_copied result ≡ find (brings self.now kind name.now) uses.now }
+    fn first_star<'u>(&self, stars: &'u [Name], kind: Kind, name: &Name) -> Option<&'u Name>
+        ensures { option_copied result ≡ find (brings self.now kind name.now) stars.now }
     {
-        'uses: for one in uses {
-            if self.brings(one, kind, name) {
-                return Some(one);
+        'stars: for path in stars {
+            if self.brings(path, kind, name) {
+                return Some(path);
             }
         }
         None
     }
 
-    fn other_brings(&self, one: &Use, uses: &[Use], kind: Kind, name: &Name) -> bool
-        ensures { result ≡ list_any (brings_other self.now kind name.now one.now.path) uses.now }
+    fn other_brings(&self, path: &Name, stars: &[Name], kind: Kind, name: &Name) -> bool
+        ensures { result ≡ list_any (brings_other self.now kind name.now path.now) stars.now }
     {
-        'uses: for other in uses {
-            if self.brings(other, kind, name) && !one.path.same(&other.path) {
+        'stars: for other in stars {
+            if self.brings_other(path, other, kind, name) {
                 return true;
             }
         }
         false
     }
 
-    fn brings(&self, one: &Use, kind: Kind, name: &Name) -> bool
-        ensures { result ≡ brings self.now kind name.now one.now }
+    fn brings(&self, path: &Name, kind: Kind, name: &Name) -> bool
+        ensures { result ≡ brings self.now kind name.now path.now }
     {
-        is_star(&one.how) && self.has_public(kind, name, &one.path)
+        match self.public_origin(kind, name, path) {
+            Some(_) => true,
+            None => false,
+        }
     }
 
-    fn has_public(&self, kind: Kind, name: &Name, path: &Name) -> bool
-        ensures { result ≡ is_member (public_of self.now kind name.now path.now) }
+    fn brings_other(&self, path: &Name, other: &Name, kind: Kind, name: &Name) -> bool
+        ensures { result ≡ brings_other self.now kind name.now path.now other.now }
+    {
+        match self.public_origin(kind, name, path) {
+            Some(one) => match self.public_origin(kind, name, other) {
+                Some(other) => !(one.0.same(other.0) && one.1.same(other.1)),
+                None => false,
+            },
+            None => false,
+        }
+    }
+
+    // The path and the name of an origin.
+    fn public_origin<'o>(
+        &'o self,
+        kind: Kind,
+        name: &'o Name,
+        path: &'o Name,
+    ) -> Option<(&'o Name, &'o Name)>
+        ensures { option_map (λ origin. record { path = origin.0.now; name = origin.1.now }) result
+            ≡ public_origin self.now kind name.now path.now }
     {
         if name.is_private() {
-            false
-        } else {
-            self.has_member(kind, name, path)
+            return None;
+        }
+        if self.has_member(kind, name, path) {
+            return Some((path, name));
+        }
+        match self.forwarded_origin(kind, name, path) {
+            Some(origin) => Some((&origin.path, &origin.name)),
+            None => None,
+        }
+    }
+
+    fn forwarded_origin(&self, kind: Kind, name: &Name, path: &Name) -> Option<&Origin>
+        ensures { option_copied result ≡ forwarded_origin self.now kind name.now path.now }
+    {
+        match self.loaded().get(path) {
+            Some(held) => held.uses.forwarded.origin(kind, name),
+            None => None,
         }
     }
 
@@ -228,9 +264,15 @@ impl<'a> Live<'a> {
         ensures { IfOk result (λ it. it.answer ≡ public_of self.now kind name.now path.now) }
     {
         if name.is_private() {
-            Ok(self.missed(Answer::NoMember))
-        } else {
-            self.member_of(kind, name, path, near)
+            return Ok(self.missed(Answer::NoMember));
+        }
+        let own = self.member_of(kind, name, path, near)?;
+        if is_member(&own.answer) {
+            return Ok(own);
+        }
+        match self.forwarded_origin(kind, name, path) {
+            Some(origin) => self.member_of(kind, &origin.name, &origin.path, near),
+            None => Ok(self.missed(Answer::NoMember)),
         }
     }
 

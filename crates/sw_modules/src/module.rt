@@ -37,4 +37,11 @@ impl Module {
             uses: Uses::new(alloc),
         })
     }
+
+    /// Its uses are known now.
+    pub(crate) fn set_uses(&mut self, uses: Uses)
+        ensures { self.new ≡ record self.old { uses = uses } }
+    {
+        self.uses = uses;
+    }
 }

@@ -2,14 +2,15 @@
 ghost use Rattle.std.specs.Prelude.{◌≡◌, bytes_eq, ℕ, List, IfOk};
 ghost use Rattle.std.specs.Map.{lookup};
 ghost use Rattle.std.specs.Option.{option_copied};
-ghost use Rattle.sw_modules.specs.Names.{variable_of, callable_of, own_member, built_in_member, is_member, is_star};
+ghost use Rattle.sw_modules.specs.Interfaces.{has_own};
+ghost use Rattle.sw_modules.specs.Names.{variable_of, callable_of, own_member, built_in_member, is_member};
 
 use crate::live::Recent;
 use crate::{Module, Variables};
 use sw_builtins::Found as Meaning;
 use sw_syntax_tree::{Callable, Kind};
 use sw_text::{Memory, Name, Shared};
-use sw_world::{Answer, How};
+use sw_world::Answer;
 
 /// What a name means, and the places at which that was found.
 #[derive(Drop)]
@@ -101,20 +102,10 @@ pub(crate) fn is_member(answer: &Answer) -> bool
     !matches!(answer, Answer::NoMember)
 }
 
-/// Whether the members of a module that is used so are written as the sheet's own.
-pub(crate) fn is_star(how: &How) -> bool
-    ensures { result ≡ is_star how.now }
-{
-    match how {
-        How::Use { space: None } => true,
-        How::Use { space: Some(_) } => false,
-        How::Forward { .. } => false,
-    }
-}
-
 /// Whether a module has an own member.
 pub(crate) fn has_own(held: &Module, kind: Kind, name: &Name) -> bool
-    ensures { (path : List ℕ) → result ≡ is_member (own_member kind name.now path held.now) }
+    ensures has { result ≡ has_own kind name.now held.now }
+    ensures member { (path : List ℕ) → result ≡ is_member (own_member kind name.now path held.now) }
 {
     match kind {
         Kind::Variable => held.variables.has(name),

@@ -1,7 +1,8 @@
 // Which modules a module uses, and how.
-ghost use Rattle.std.specs.Prelude.{◌≡◌, ◌++◌, ◌∷◌, [], OnOk, OnErr};
-ghost use Rattle.sw_modules.specs.Uses.{no_uses, is_taken, with_one, without_last};
+ghost use Rattle.std.specs.Prelude.{◌≡◌, OnOk, OnErr};
+ghost use Rattle.sw_modules.specs.Uses.{no_uses, is_taken, with_one, uses_counts, first_uses};
 
+use crate::{Counts, Entry, Members};
 use std::alloc::Global;
 use std::marker::Model;
 use sw_text::{List, Memory, Name};
@@ -37,19 +38,30 @@ impl Used {
     }
 }
 
-/// A module that is used, and how.
+/// A module that a use is about to name: its path, or the URL of a built-in one, a guess of its place among the loaded
+/// ones, and what the use makes the user's own.
 #[derive(Drop)]
-pub struct Use {
-    pub how: How,
-    pub path: Name,
+pub(crate) struct Source {
+    pub(crate) path: Name,
+    pub(crate) near: usize,
+    pub(crate) brought: List<Entry>,
 }
 
-/// The modules that a module uses, in the order of their loads: those behind a namespace by its name, and the others,
-/// whose members are its own or become so.
+/// What a module uses, in the order of its loads: the modules behind a namespace by its name, those whose members are
+/// written as its own, and the members that its forwards brought.
 #[derive(Drop)]
 pub struct Uses {
     pub named: Table<Used>,
-    pub others: List<Use>,
+    pub stars: List<Name>,
+    pub forwarded: Members,
+}
+
+/// How many uses there are of each kind.
+#[derive(Clone, Copy, Drop)]
+pub struct UsesCounts {
+    pub named: usize,
+    pub stars: usize,
+    pub forwarded: Counts,
 }
 
 impl Uses {
@@ -59,52 +71,59 @@ impl Uses {
     {
         Uses {
             named: Table::new(alloc),
-            others: List::new(alloc),
+            stars: List::new(alloc),
+            forwarded: Members::new(alloc),
         }
     }
 
-    /// Whether a use brings a namespace that stands for a module already.
-    pub(crate) fn takes(&self, how: &How) -> bool
-        ensures { result ≡ is_taken how.now self.now }
+    /// Whether a use brings a namespace that stands for a module already, or a member that another forward brought from
+    /// elsewhere.
+    pub(crate) fn takes(&self, how: &How, brought: &[Entry]) -> bool
+        ensures { result ≡ is_taken how.now brought.now self.now }
     {
         match how {
             How::Use { space: Some(space) } => self.named.has(space),
             How::Use { space: None } => false,
-            How::Forward { .. } => false,
+            How::Forward { .. } => self.forwarded.conflicts(brought),
         }
     }
 
-    /// One more module is used, which is near this place among the loaded ones. After `Memory` the uses are as before.
-    pub(crate) fn add(&mut self, how: &How, path: Name, near: usize) -> Result<(), Memory>
-        ensures ok { OnOk result (self.new ≡ with_one how.now path self.old) }
+    /// One more module is used. After `Memory` the uses are as before.
+    pub(crate) fn add(&mut self, how: &How, source: Source) -> Result<(), Memory>
+        ensures ok { OnOk result (self.new ≡ with_one how.now source.path source.brought self.old) }
         ensures err { OnErr result (self.new ≡ self.old) }
     {
+        let Source {
+            path,
+            near,
+            brought,
+        } = source;
         match how {
-            How::Use { space: Some(space) } => self
-                .named
-                .add(space.share()?, Used::new(path, near)),
-            How::Use { space: None } => self.add_other(how, path),
-            How::Forward { .. } => self.add_other(how, path),
+            How::Use { space: Some(space) } => {
+                let space = space.share()?;
+                self.named.add(space, Used::new(path, near))
+            }
+            How::Use { space: None } => self.stars.push(path),
+            How::Forward { .. } => self.forwarded.join(brought.as_slice()),
         }
     }
 
-    fn add_other(&mut self, how: &How, path: Name) -> Result<(), Memory>
-        ensures ok { OnOk result (self.new
-            ≡ record self.old { others = self.old.others ++ (record { how = how.now; path = path }) ∷ [] }) }
-        ensures err { OnErr result (self.new ≡ self.old) }
+    pub(crate) fn counts(&self) -> UsesCounts
+        ensures { result ≡ uses_counts self.now }
     {
-        let how = how.share()?;
-        self.others.push(Use { how, path })
+        UsesCounts {
+            named: self.named.len(),
+            stars: self.stars.len(),
+            forwarded: self.forwarded.counts(),
+        }
     }
 
-    /// Takes the last use of this kind away. Takes no memory.
-    pub(crate) fn drop_last(&mut self, how: &How)
-        ensures { self.new ≡ without_last how.now self.old }
+    /// Keeps the first of each kind. Takes no memory.
+    pub(crate) fn truncate(&mut self, counts: UsesCounts)
+        ensures { self.new ≡ first_uses counts self.old }
     {
-        match how {
-            How::Use { space: Some(_) } => self.named.truncate(self.named.len().saturating_sub(1)),
-            How::Use { space: None } => self.others.truncate(self.others.len().saturating_sub(1)),
-            How::Forward { .. } => self.others.truncate(self.others.len().saturating_sub(1)),
-        }
+        self.named.truncate(counts.named);
+        self.stars.truncate(counts.stars);
+        self.forwarded.truncate(counts.forwarded);
     }
 }

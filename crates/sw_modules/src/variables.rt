@@ -42,6 +42,16 @@ impl Variables {
         })
     }
 
+    /// The names with their values.
+    pub(crate) fn table(&self) -> &Table<Value>
+        ensures { result.now ≡ self.now }
+    {
+        match &self.own {
+            Some(own) => own,
+            None => &self.finish.get().variables,
+        }
+    }
+
     /// Whether there is a value of this name.
     pub fn has(&self, name: &Name) -> bool
         ensures { result ≡ is_some (lookup (bytes_eq name.now) self.now) }

@@ -21,8 +21,6 @@ begin = record {
   css = nothing;
   nesting = at_top;
   outer = [];
-  taken = [];
-  given = None;
   late = false;
   turns = 1000000;
 }
