@@ -12,31 +12,31 @@ use Rattle.sw_talk.specs.Ran.{Stand, Ran, op_at}
 use Rattle.sw_talk.specs.Told.{IsRest, Told, tells}
 use Rattle.sw_state.specs.Left.{end_of, finish_of}
 use Rattle.sw_state.specs.Begin.{begin}
-use Rattle.sw_eval.specs.Means.{body, tops}
+use Rattle.sw_eval.specs.Means.{body, from}
 use Rattle.sw_talk.specs.Turns.{TurnDid}
 use Rattle.sw_eval.specs.Resume.{IsResume}
 use Rattle.sw_state.specs.declared.state.State.{State}
 
 pub turn_told : {W : Type 0} (gives : W → Op → Answer → W → Type 0) (job : Job) (ps : List Pair) (n i : ℕ) (s : State) (w x : W) (u : Talk (Unit {0} × State)) (b : Stand)
-    → IsResume job ps n i s → Ran gives (tops i (drop i job.sheet.statements) s) (record { path = job.path; pairs = ps; at = n }) w u b x → Told gives (end_of job.sheet) job.path (body job) ps w u b x
-turn_told gives job ps n i s w x u b is ran = tells (end_of job.sheet) job.path (body job) (tops i (drop i job.sheet.statements) s) u ps n b w x is.within is.rest ran
+    → IsResume job ps n i s → Ran gives (from job i s) (record { path = job.path; pairs = ps; at = n }) w u b x → Told gives (end_of job.sheet) job.path (body job) ps w u b x
+turn_told gives job ps n i s w x u b is ran = tells (end_of job.sheet) job.path (body job) (from job i s) u ps n b w x is.within is.rest ran
 
 pub turn_did : {W : Type 0} (gives : W → Op → Answer → W → Type 0) (job : Job) (ps : List Pair) (w x : W) (u : Talk (Unit {0} × State)) (s : Stand) → Told gives (end_of job.sheet) job.path (body job) ps w u s x → TurnDid gives (body job) ps w s.pairs x
 turn_did gives job ps w x u s t = record { asked = t.asked; grew = t.grew; led = t.led; goes = t.goes }
 
 pub resume_begin : (job : Job) (qs : List Pair) → IsResume job qs 0 0 begin
 unfolding body
-resume_begin job qs = record { rest = λ more. ap (λ l. run (end_of job.sheet) job.path most_asked [] (tops 0 job.sheet.statements begin) (answers l ++ more)) (none qs) ∙ from (most_asked) refl qs more; within = omega arith }
+resume_begin job qs = record { rest = λ more. ap (λ l. run (end_of job.sheet) job.path most_asked [] (from job 0 begin) (answers l ++ more)) (none qs) ∙ from (most_asked) refl qs more; within = omega arith }
   where
     none : (ps : List Pair) → take 0 ps ≡ []
     none [] = refl
     none (p ∷ ps) = refl
 
-    from : (m : ℕ) → most_asked ≡ m → (ps : List Pair) (more : List Answer) → run (end_of job.sheet) job.path m [] (tops 0 job.sheet.statements begin) more
-        ≡ run (end_of job.sheet) job.path (most_asked - 0) (answers (take 0 ps)) (tops 0 (drop 0 job.sheet.statements) begin) more
+    from : (m : ℕ) → most_asked ≡ m → (ps : List Pair) (more : List Answer) → run (end_of job.sheet) job.path m [] (from job 0 begin) more
+        ≡ run (end_of job.sheet) job.path (most_asked - 0) (answers (take 0 ps)) (from job 0 begin) more
     from m e ps more =
         let k : m ≡ most_asked - 0 = omega (arith, e) in
-        ap (λ j. run (end_of job.sheet) job.path j [] (tops 0 job.sheet.statements begin) more) k ∙ ap (λ l. run (end_of job.sheet) job.path (most_asked - 0) (answers l) (tops 0 job.sheet.statements begin) more) (sym (none ps))
+        ap (λ j. run (end_of job.sheet) job.path j [] (from job 0 begin) more) k ∙ ap (λ l. run (end_of job.sheet) job.path (most_asked - 0) (answers l) (from job 0 begin) more) (sym (none ps))
 
 take_all : (ps : List Pair) (n : ℕ) → length ps ≤ n → take n ps ≡ ps
 take_all [] zero le = refl

@@ -18,7 +18,7 @@ use sw_world::World;
 
 // The value of an expression that is nested no deeper.
 #[cycle(knot)]
-fn value_at<W: World>(
+pub(crate) fn value_at<W: World>(
     walk: &mut Walk,
     depth: u32,
     parens: Parens,
@@ -64,7 +64,7 @@ fn value_at<W: World>(
 
 // The body of what is called, which is nested no deeper. The call stands here.
 #[cycle(knot)]
-fn enter_at<W: World>(
+pub(crate) fn enter_at<W: World>(
     walk: &mut Walk,
     depth: u32,
     at: &Span,

@@ -6,7 +6,7 @@ mod engine;
 mod knot;
 mod laws;
 mod lower;
-mod top;
+mod outermost;
 mod turn;
 
 pub use engine::{Evaluation, Evaluator};

@@ -5,11 +5,12 @@ ghost use Rattle.sw_talk.specs.Turns.{TurnDid, IsStep, HasRoomAt};
 ghost use Rattle.sw_state.specs.Begin.{begin};
 ghost use Rattle.sw_eval.specs.Resume.{IsResume};
 
-use crate::top::walk_on;
+use crate::outermost::Outermost;
 use sw_state::{State, finish};
 use sw_syntax_tree::Sheet;
 use sw_talk::Stop;
 use sw_text::Memory;
+use sw_tops::walk_on;
 use sw_walk::Walk;
 use sw_world::{Config, End, Turn, World};
 
@@ -47,7 +48,8 @@ pub(crate) fn turn<W: World>(
         walk.new.asked.pairs.items t) }
     ensures room { IfOk result (λ t. HasRoomAt t (vec_len walk.new.asked.pairs) (vec_capacity walk.new.asked.pairs)) }
 {
-    match walk_on(walk, sheet.statements.as_slice(), next, world) {
+    let all = sheet.statements.as_slice();
+    match walk_on(walk, Outermost, config.get().as_slice(), all, next, world) {
         Ok(Some(op)) => Ok(Turn::Load(op)),
         Ok(None) => {
             let end = finish(walk.alloc, sheet, &mut walk.state);

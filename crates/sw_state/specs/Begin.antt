@@ -21,6 +21,8 @@ begin = record {
   css = nothing;
   nesting = at_top;
   outer = [];
+  taken = [];
+  given = None;
   late = false;
   turns = 1000000;
 }

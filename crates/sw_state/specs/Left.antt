@@ -53,7 +53,7 @@ declared done (x ∷ xs) = declared (and_one done (callable_of x)) xs
 
 unfoldable pub finish_of : Sheet → State → Finish
 finish_of sheet s =
-    record { variables = left_by s.scopes (globals sheet) []; callables = declared [] sheet.statements; css = s.css; taken = [] }
+    record { variables = left_by s.scopes (globals sheet) []; callables = declared [] sheet.statements; css = s.css; taken = s.taken }
 
 -- the same of what a sheet's talk gives
 abbrev pub end_of : Sheet → Unit {0} × State → Finish

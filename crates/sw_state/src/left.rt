@@ -76,20 +76,21 @@ fn declared(alloc: Global, statements: &[Statement]) -> Result<List<Shared<Calla
     Ok(all)
 }
 
-/// What a body leaves behind that ended. Its output is taken out of the state.
+/// What a body leaves behind that ended. Its output and what it took are taken out of the state.
 pub fn finish(alloc: Global, sheet: &Sheet, state: &mut State) -> Result<End, Memory>
     ensures { IfOk result (λ end. end ≡ Done (finish_of sheet.now state.old)) }
 {
     let names = globals_of(alloc, sheet)?;
     let variables = left_by(alloc, &state.scopes, names.as_slice())?;
     let callables = declared(alloc, sheet.statements.as_slice())?;
+    let taken = mem::replace(&mut state.taken, List::new(alloc));
     let css = mem::replace(&mut state.css, CssTree::new(alloc));
     let css = Shared::new(alloc, css)?;
     let finish = Finish {
         variables,
         callables,
         css,
-        taken: List::new(alloc),
+        taken,
     };
     Ok(End::Done(Shared::new(alloc, finish)?))
 }

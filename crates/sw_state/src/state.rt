@@ -16,7 +16,7 @@ use sw_syntax_tree::Callable;
 use sw_talk::Stop;
 use sw_text::{FaultCode, List, Name, Shared, Span};
 use sw_values::Value;
-use sw_world::Table;
+use sw_world::{Given, Table};
 
 /// What an evaluation has made so far.
 #[derive(Drop)]
@@ -35,6 +35,10 @@ pub struct State {
     pub nesting: Nesting,
     /// What that is nested in, the innermost last.
     pub outer: List<Nesting>,
+    /// The names of its configuration that the module took.
+    pub taken: List<Name>,
+    /// The values that the next load gives, once they are known.
+    pub given: Option<Shared<List<Given>>>,
     /// No load may follow.
     pub late: bool,
     /// How many turns of loops and calls are left.
@@ -59,6 +63,8 @@ impl State {
             css: CssTree::new(alloc),
             nesting: Nesting::at_top(),
             outer: List::new(alloc),
+            taken: List::new(alloc),
+            given: None,
             late: false,
             turns: 1_000_000,
         }

@@ -1,0 +1,4 @@
+pub mod Taking
+pub mod Loading
+pub mod Tops
+pub mod Walks
