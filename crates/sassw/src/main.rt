@@ -1,14 +1,22 @@
 //! The program `sassw`: a Sass compiler for a session of requests over standard input and output, and for folders.
-//! Words, bytes and files flow in, replies and CSS flow out, and the status tells how it ended.
+//! Words, bytes and files flow in, replies and CSS flow out, messages go to standard error too, and the status tells how
+//! it ended.
 #![tactic(auto)]
 
+mod reporter;
 mod words;
 
+use crate::reporter::MessageReporter;
 use crate::words::words;
 use std::process::ExitCode;
 use sw_commands::run;
 use sw_eval::Evaluator;
+use sw_hub::Hub;
 use sw_io::{FolderDisk, StdSink, StdSource};
+use sw_protocol::Output;
+
+// No memory was found for the words or for who reports.
+const NO_MEMORY: u8 = 6;
 
 fn main(rt: HostRuntime) -> ExitCode {
     let alloc = rt.alloc();
@@ -16,15 +24,23 @@ fn main(rt: HostRuntime) -> ExitCode {
         Ok(words) => words,
         Err(fault) => return ExitCode::from(fault.status()),
     };
+    let mut hub = Hub::new(alloc);
+    let reporter = MessageReporter::new(alloc, StdSink::new(rt.stderr()));
+    if hub.attach(reporter).is_err() {
+        return ExitCode::from(NO_MEMORY);
+    }
     let mut source = StdSource::new(rt.stdin());
-    let mut sink = StdSink::new(rt.stdout());
+    let mut output = Output {
+        sink: StdSink::new(rt.stdout()),
+        audience: hub,
+    };
     let mut disk = FolderDisk::new(rt);
     let mut engine = Evaluator::new(alloc);
     ExitCode::from(run(
         alloc,
         words.as_slice(),
         &mut source,
-        &mut sink,
+        &mut output,
         &mut disk,
         &mut engine,
     ))

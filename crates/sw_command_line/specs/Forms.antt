@@ -1,5 +1,5 @@
 -- The forms of the command line. This project's own rule.
-use Rattle.std.specs.Prelude.{ℕ, Bool, false, not, ◌&&◌, ◌||◌, ◌==◌, nat_le, if◌then◌else◌, List, [], ◌∷◌, length, codes, bytes_eq, Option, None, Some, option_map}
+use Rattle.std.specs.Prelude.{ℕ, ◌+◌, ◌-◌, ◌*◌, Bool, false, not, ◌&&◌, ◌||◌, ◌==◌, nat_le, if◌then◌else◌, List, [], ◌∷◌, length, codes, bytes_eq, Option, None, Some, option_map}
 use Rattle.std.specs.List.{list_all}
 use Rattle.sw_folder.specs.Paths.{is_path}
 use Rattle.sw_command_line.specs.declared.command.Command.{Command}
@@ -16,6 +16,7 @@ pub data Form : Type 0 where
   Session : Form
   Once : Target → Form
   Poll : Target → Form
+  Make : ℕ → Form
 
 -- no word begins like an option
 abbrev pub is_plain : List ℕ → Bool
@@ -41,12 +42,34 @@ abbrev pub session_by : List (List ℕ) → Option Form
 session_by [] = Some Session
 session_by (word ∷ words) = None
 
+-- a digit may stand behind the digits of n, at most six in all
+abbrev pub can_follow : ℕ → ℕ → Bool
+can_follow n digit = nat_le 48 digit && (nat_le digit 57 && nat_le n 99999)
+
+-- with n for the digits so far
+unfoldable pub number_from : ℕ → List ℕ → Option ℕ
+number_from n [] = Some n
+number_from n (digit ∷ digits) = if can_follow n digit then number_from (10 * n + (digit - 48)) digits else None
+
+-- one to six digits, with no 0 before others
+abbrev pub number_of : List ℕ → Option ℕ
+number_of [] = None
+number_of (digit ∷ []) = number_from 0 (digit ∷ [])
+number_of (digit ∷ more ∷ digits) = if digit == 48 then None else number_from 0 (digit ∷ more ∷ digits)
+
+-- a number alone
+abbrev pub make_by : List (List ℕ) → Option Form
+make_by [] = None
+make_by (word ∷ []) = option_map Make (number_of word)
+make_by (word ∷ more ∷ words) = None
+
 -- what a command's name asks for with these words behind it
 abbrev pub named : List ℕ → List (List ℕ) → Option Form
 named name words =
     if bytes_eq name (codes "session") then session_by words
     else if bytes_eq name (codes "once") then option_map Once (target_of words)
     else if bytes_eq name (codes "poll") then option_map Poll (target_of words)
+    else if bytes_eq name (codes "make") then make_by words
     else None
 
 abbrev pub form_by : List (List ℕ) → Option Form
@@ -64,3 +87,4 @@ abbrev pub form_seen : Command → Form
 form_seen code.Session = Session
 form_seen (code.Once target) = Once (target_seen target)
 form_seen (code.Poll target) = Poll (target_seen target)
+form_seen (code.Make number) = Make number

@@ -1,8 +1,9 @@
 // Which command the words of a command line ask for.
 ghost use Rattle.std.specs.Prelude.{◌≡◌, option_map};
 ghost use Rattle.std.specs.List.{list_all};
-ghost use Rattle.sw_command_line.specs.Forms.{form_of, form_by, form_seen, named, Once, Poll, target_of, target_seen, session_by, is_target, is_load_path, is_plain};
+ghost use Rattle.sw_command_line.specs.Forms.{form_of, form_by, form_seen, named, Once, Poll, make_by, target_of, target_seen, session_by, is_target, is_load_path, is_plain};
 
+use crate::number::read_number;
 use sw_folder::is_path;
 use sw_text::Name;
 
@@ -28,11 +29,14 @@ pub enum Command<'a> {
     Once(Target<'a>),
     /// Compiles whenever it is asked to.
     Poll(Target<'a>),
+    /// Makes the workload of this number.
+    Make(u32),
 }
 
-/// The command that the words behind the program's name ask for: `session`, `once DIR ENTRY LOAD..` or
+/// The command that the words behind the program's name ask for: `session`, `once DIR ENTRY LOAD..`,
 /// `poll DIR ENTRY LOAD..` with at most eight LOAD, where DIR isn't empty, ENTRY is a path of a folder, each LOAD is
-/// one or `.`, and no word begins with `-`. `None` exactly where the words are in none of these forms. Takes no memory.
+/// one or `.`, or `make N` with one to six digits and no 0 before others; and no word begins with `-`. `None` exactly
+/// where the words are in none of these forms. Takes no memory.
 #[tactic(auto, unfolding(crate::specs::Forms::form_of))]
 pub fn command_of<'a>(words: &'a [Name]) -> Option<Command<'a>>
     ensures { option_map form_seen result ≡ form_of words.now }
@@ -55,6 +59,8 @@ fn named<'a>(name: &str, words: &'a [Name]) -> Option<Command<'a>>
         once(target_in(words))
     } else if name == "poll" {
         poll(target_in(words))
+    } else if name == "make" {
+        make(words)
     } else {
         None
     }
@@ -84,6 +90,18 @@ fn poll<'a>(target: Option<Target<'a>>) -> Option<Command<'a>>
     match target {
         None => None,
         Some(target) => Some(Command::Poll(target)),
+    }
+}
+
+fn make<'a>(words: &'a [Name]) -> Option<Command<'a>>
+    ensures { option_map form_seen result ≡ make_by words.now }
+{
+    match words {
+        [word] => match read_number(word.as_str().as_bytes()) {
+            None => None,
+            Some(number) => Some(Command::Make(number)),
+        },
+        _ => None,
     }
 }
 

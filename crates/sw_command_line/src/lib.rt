@@ -3,5 +3,6 @@
 #![tactic(auto)]
 
 mod command;
+mod number;
 
 pub use command::{Command, Target, command_of};

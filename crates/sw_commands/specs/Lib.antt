@@ -1,1 +1,4 @@
+pub mod Poll
+pub mod Listings
+pub mod Served
 pub mod Run

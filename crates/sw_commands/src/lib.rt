@@ -3,5 +3,13 @@
 #![tactic(auto)]
 
 mod command;
+mod laws;
+mod poll;
+mod scan;
+mod service;
+mod word;
 
 pub use command::run;
+pub use laws::{poll_answers_all, poll_ends_exactly, scans_read_in_turn};
+pub use service::poll_folder;
+pub use word::Word;

@@ -9,12 +9,13 @@ use Rattle.sw_command_line.specs.Forms.{Target}
 use Rattle.sw_syntax_tree.specs.declared.sheet.Sheet.{Sheet}
 use Rattle.sw_world.specs.Body.{BodyOf}
 use Rattle.sw_modules.specs.Fresh.{Setting, setting_of}
-use Rattle.sw_record.specs.declared.reply.Cause.{Cause}
 use Rattle.sw_record.specs.declared.reply.Outcome.{Outcome}
+use Rattle.sw_record.specs.declared.reply.Reply.{Reply}
 use Rattle.sw_record.specs.declared.reply.Outcome.TheVariants.{Css, Error}
 use Rattle.sw_record.specs.Ran.{Ran}
 use Rattle.sw_keeper.specs.Compile.{compiled, paths_of}
 use Rattle.sw_wire.specs.Replies.{fault_text}
+use Rattle.sw_protocol.specs.Heard.{Hearing}
 use Rattle.sw_disk_compile.specs.declared.ending.Ending.{Ending}
 use Rattle.sw_disk_compile.specs.declared.ending.Ending.TheVariants.{Css as Css_end, Error as Error_end, SinkFailed, Memory, DiskFailed}
 
@@ -43,27 +44,38 @@ abbrev pub text_of : Outcome → List ℕ
 text_of (Css bytes) = bytes
 text_of (Error fault) = fault_text fault
 
--- the folder was read, and its evaluation from nothing has this outcome; the bodies of all its runs ran
-pub record Compiles (setting : Setting) (target : Target) (outcome : Outcome) (old new : Surroundings) : Type 0 where
+-- the folder was read, and this is the reply of its evaluation from nothing; the bodies of all its runs ran
+pub record Compiles (setting : Setting) (target : Target) (reply : Reply) (old new : Surroundings) : Type 0 where
   pub folder : Files
   pub read : IsRead old.course new.course folder
-  pub outcome_is : outcome ≡ (compiled setting folder target.paths target.entry []).outcome
-  pub bodies : List (List ℕ × Cause)
-  pub are : Ran [] (compiled setting folder target.paths target.entry []).runs bodies
-  pub told : new.ran ≡ old.ran ++ paths_of bodies
+  pub says : reply.says ≡ (compiled setting folder target.paths target.entry []).says
+  pub outcome : reply.outcome ≡ (compiled setting folder target.paths target.entry []).outcome
+  pub bodies : Ran [] (compiled setting folder target.paths target.entry []).runs reply.ran
+  pub told : new.ran ≡ old.ran ++ paths_of reply.ran
+
+-- what is to be written of an outcome was written, and then the whole reply was heard
+pub record Writes {State : Type 0} (setting : Setting) (target : Target) (hears : Hearing Reply State)
+    (outcome : Outcome) (old new : Surroundings) (before now : State) : Type 0 where
+  pub reply : Reply
+  pub compiles : Compiles setting target reply old new
+  pub is : reply.outcome ≡ outcome
+  pub sends : Appends old.written new.written (text_of outcome)
+  pub heard : hears reply before now
 
 -- a front of what is to be written was written
 pub record Breaks (setting : Setting) (target : Target) (old new : Surroundings) : Type 0 where
-  pub outcome : Outcome
-  pub compiles : Compiles setting target outcome old new
+  pub reply : Reply
+  pub compiles : Compiles setting target reply old new
   pub front : List ℕ
   pub back : List ℕ
-  pub parts : text_of outcome ≡ front ++ back
+  pub parts : text_of reply.outcome ≡ front ++ back
   pub sends : Appends old.written new.written front
 
--- nothing was written
+-- nothing was written; the bodies that ran are told
 pub record Forgets (old new : Surroundings) : Type 0 where
   pub read : IsBrokenOff old.course new.course
+  pub more : List (List ℕ)
+  pub told : new.ran ≡ old.ran ++ more
   pub sends : Appends old.written new.written []
 
 -- a front of these bytes was written
@@ -81,12 +93,22 @@ WritesBy SinkFailed outcome written now = WritesFront (text_of outcome) written 
 WritesBy Memory outcome written now = Appends written now []
 WritesBy DiskFailed outcome written now = ⊥
 
+-- who hears of a reply, by how it ends: only what was written whole is told
+abbrev pub HearsBy : {State : Type 0} → Ending → Hearing Reply State → Reply → State → State → Type 0
+HearsBy Css_end hears reply before now = hears reply before now
+HearsBy Error_end hears reply before now = hears reply before now
+HearsBy SinkFailed hears reply before now = now ≡ before
+HearsBy Memory hears reply before now = now ≡ before
+HearsBy DiskFailed hears reply before now = now ≡ before
+
 -- what was done, by how it ended
-abbrev pub EndsBy : Ending → Setting → Target → Surroundings → Surroundings → Type 0
-EndsBy Css_end setting target old new =
-    (bytes : List ℕ) × Compiles setting target (Css bytes) old new × Appends old.written new.written bytes
-EndsBy Error_end setting target old new =
-    (fault : Fault) × Compiles setting target (Error fault) old new × Appends old.written new.written (fault_text fault)
-EndsBy SinkFailed setting target old new = Breaks setting target old new
-EndsBy Memory setting target old new = Forgets old new
-EndsBy DiskFailed setting target old new = Forgets old new × (new.ran ≡ old.ran)
+abbrev pub EndsBy : {State : Type 0} → Ending → Setting → Target → Hearing Reply State → Surroundings → Surroundings
+    → State → State → Type 0
+EndsBy Css_end setting target hears old new before now =
+    (bytes : List ℕ) × Writes setting target hears (Css bytes) old new before now
+EndsBy Error_end setting target hears old new before now =
+    (fault : Fault) × Writes setting target hears (Error fault) old new before now
+EndsBy SinkFailed setting target hears old new before now = Breaks setting target old new × (now ≡ before)
+EndsBy Memory setting target hears old new before now = Forgets old new × (now ≡ before)
+EndsBy DiskFailed setting target hears old new before now =
+    Forgets old new × (new.ran ≡ old.ran) × (now ≡ before)

@@ -1,8 +1,8 @@
 -- One more of those that are attached hears a reply.
-use Rattle.std.proofs.Common.{◌≡◌, ◌≢◌, ℕ, ◌+◌, ◌≤◌, ◌<◌, ◌⊎◌, inl, inr, List, length, drop, get_or, refl, sym, ◌∙◌, ap, subst, arith, Some}
-use Rattle.std.specs.Prelude.{slice_get, slice_set}
-use Rattle.std.proofs.lemmas.Option.{slice_get-get_or, slice_get_within, get_or_from_slice_get}
-use Rattle.std.proofs.lemmas.List.{get_or-set_same, get_or-set_other, length-set, get_or-drop, drop-set-lt}
+use Rattle.std.proofs.Common.{◌≡◌, ◌≢◌, ℕ, ◌+◌, ◌≤◌, ◌<◌, ◌⊎◌, inl, inr, List, [], ◌++◌, length, take, drop, get_or, refl, sym, ◌∙◌, ap, subst, arith, Option, None, Some}
+use Rattle.std.specs.Prelude.{slice_get, slice_set, map, option_map}
+use Rattle.std.proofs.lemmas.Option.{slice_get-get_or, slice_get_within, get_or_from_slice_get, slice_get-map}
+use Rattle.std.proofs.lemmas.List.{length-map, append-nil, drop_all, take_all, get_or-set_same, get_or-set_other, length-set, get_or-drop, drop-set-lt}
 use Rattle.std.proofs.lemmas.Grind.{drop_more_same}
 use Rattle.sw_hub.specs.Hubs.{Each}
 
@@ -56,3 +56,31 @@ going_done before now i is end g = record {
   count = g.count;
   each = λ k old new eo en. let inside = slice_get_within before k old eo in g.each k old new (omega (arith, inside, end)) eo en;
 }
+
+-- a fact of each, seen through a function
+module _ {A B : Type 0} (f : A → B) (is : B → B → Type 0) (before now : List A) (e : Each before now (λ x y. is (f x) (f y))) where
+  each_by : (k : ℕ) (old new : B) (a b : Option A) → slice_get before k ≡ a → slice_get now k ≡ b → option_map f a ≡ Some old → option_map f b ≡ Some new → is old new
+  each_by k old new None b x y u v = cc
+  each_by k old new (Some p) None x y u v = cc
+  each_by k old new (Some p) (Some q) x y u v =
+      let first : f p ≡ old = cc in
+      let second : f q ≡ new = cc in
+      subst (λ (z : B). is z new) first (subst (λ (z : B). is (f p) z) second (e.each k p q x y))
+
+  pub each_map : Each (map f before) (map f now) is
+  each_map = record {
+    count = length-map now f ∙ e.count ∙ sym (length-map before f);
+    each = λ k old new x y.
+        each_by k old new (slice_get before k) (slice_get now k) refl refl (sym (slice_get-map f before k) ∙ x) (sym (slice_get-map f now k) ∙ y);
+  }
+
+-- what was lent by a vector stands in it again
+pub each_back : {A B : Type 0} (f : A → B) (is : B → B → Type 0) (held before now : List A) (len : ℕ) → before ≡ held → length before ≡ len → Each (map f before) (map f now) is
+    → Each (map f held) (map f (take len (now ++ drop (length now) held))) is
+each_back {A} {B} f is held before now len e l x =
+    let same : length now ≡ length before = sym (length-map now f) ∙ x.count ∙ length-map before f in
+    let of_held : length before ≡ length held = ap length e in
+    let rest : drop (length now) held ≡ [] = drop_all (length now) held (omega (arith, same, of_held)) in
+    let whole : take len (now ++ drop (length now) held) ≡ now =
+    ap (λ t. take len (now ++ t)) rest ∙ ap (take len) (append-nil now) ∙ take_all len now (omega (arith, same, l)) in
+    subst (λ (t : List A). Each (map f held) (map f t) is) (sym whole) (subst (λ (t : List A). Each (map f t) (map f now) is) e x)

@@ -1,11 +1,11 @@
 // Who is attached, and hears replies.
-ghost use Rattle.std.specs.Prelude.{◌≡◌, ◌<◌, ◌+◌, ◌↔◌, ◌++◌, ◌∷◌, [], false, length, take, drop, slice_get, ◌≤◌, option_map, unwrap_or, IfOk, IfErr, OnOk, OnErr};
-ghost use Rattle.sw_hub.specs.Hubs.{Told, Each, first_of, without_first};
+ghost use Rattle.std.specs.Prelude.{◌≡◌, ◌<◌, ◌+◌, ◌↔◌, ◌++◌, ◌∷◌, [], false, length, take, drop, slice_get, ◌≤◌, option_map, unwrap_or, map, IfOk, IfErr, OnOk, OnErr};
+ghost use Rattle.sw_hub.specs.Hubs.{Tells, known, first_of, without_first};
 
 use crate::Reporter;
-use crate::seat::{Member, Seat, push_seat};
+use crate::seat::{Seat, push_seat};
 use std::alloc::Global;
-use std::marker::Model;
+use sw_protocol::Audience;
 use sw_record::Reply;
 
 /// A hub gives at most so many numbers.
@@ -22,21 +22,21 @@ pub enum AttachFault {
 
 /// A reporter that isn't attached, handed back.
 #[derive(Drop)]
-pub struct NotAttached {
+pub struct NotAttached<M> {
     pub why: AttachFault,
-    pub reporter: Member,
+    pub reporter: M,
 }
 
 /// The reporters that hear replies, in order of their numbers. Numbers count from 0 and aren't used again.
 #[derive(Drop)]
-pub struct Hub {
-    pub(crate) seats: Vec<Seat>,
+pub struct Hub<M> {
+    pub(crate) seats: Vec<Seat<M>>,
     pub(crate) given: u32,
 }
 
-impl Hub {
+impl<M: Reporter> Hub<M> {
     /// Nobody is attached. Takes no memory.
-    pub fn new(alloc: Global) -> Hub
+    pub fn new(alloc: Global) -> Hub<M>
         ensures seats { result.seats.items ≡ [] }
         ensures given { result.given ≡ 0 }
     {
@@ -48,7 +48,7 @@ impl Hub {
 
     /// Attaches a reporter and gives its number. `NoNumber` comes exactly where 4,294,967,295 numbers were given, and
     /// `Memory` only where none was found; then the reporter is handed back and the hub is as before.
-    pub fn attach(&mut self, reporter: Member) -> Result<u32, NotAttached>
+    pub fn attach(&mut self, reporter: M) -> Result<u32, NotAttached<M>>
         ensures number { IfOk result (λ number. (number ≡ self.old.given) × (self.new.given ≡ self.old.given + 1)) }
         ensures seat { IfOk result (λ number. self.new.seats.items
             ≡ self.old.seats.items ++ record { number = number; silent = false; reporter = reporter } ∷ []) }
@@ -83,7 +83,7 @@ impl Hub {
 
     /// Takes the reporter with this number off and hands it back; `None` exactly where the number isn't attached. Takes
     /// no memory.
-    pub fn detach(&mut self, number: u32) -> Option<Member>
+    pub fn detach(&mut self, number: u32) -> Option<M>
         ensures reporter { result
             ≡ option_map (λ seat. seat.reporter) (first_of self.old.seats.items (λ seat. seat.number) number) }
         ensures rest { self.new.seats.items ≡ without_first self.old.seats.items (λ seat. seat.number) number }
@@ -111,29 +111,36 @@ impl Hub {
     /// on, and no other becomes silent. Takes no memory.
     pub fn tell(&mut self, reply: &Reply)
         ensures given { self.new.given ≡ self.old.given }
-        ensures told { Each self.old.seats.items self.new.seats.items (λ old new. Told old.silent reply.now
-            (record {
-              number = old.number;
-              silent = old.silent;
-              heard = (⟦<dyn Reporter as Reporter>⟧ old.reporter.vtable).heard old.reporter.value;
-              count = (⟦<dyn Reporter as Reporter>⟧ old.reporter.vtable).number old.reporter.value;
-              faults = (⟦<dyn Reporter as Reporter>⟧ old.reporter.vtable).faults old.reporter.value;
-            })
-            (record {
-              number = new.number;
-              silent = new.silent;
-              heard = (⟦<dyn Reporter as Reporter>⟧ new.reporter.vtable).heard new.reporter.value;
-              count = (⟦<dyn Reporter as Reporter>⟧ new.reporter.vtable).number new.reporter.value;
-              faults = (⟦<dyn Reporter as Reporter>⟧ new.reporter.vtable).faults new.reporter.value;
-            })) }
+        ensures told { Tells reply.now
+            (map (λ seat. known M.heard M.number M.faults seat.number seat.silent seat.reporter) self.old.seats.items)
+            (map (λ seat. known M.heard M.number M.faults seat.number seat.silent seat.reporter)
+            self.new.seats.items) }
     {
         tell_all(&mut self.seats, reply);
     }
 }
 
+impl<M: Reporter> Audience<Reply> for Hub<M> {
+    ghost use Rattle.std.specs.Prelude.{map};
+    ghost use Rattle.sw_hub.specs.Hubs.{Attached, HubTells, known};
+
+    ghost State = { Attached };
+
+    ghost state = { λ hub. record {
+      seats = map (λ seat. known M.heard M.number M.faults seat.number seat.silent seat.reporter) hub.seats.items;
+      given = hub.given;
+    } };
+
+    ghost hears = { HubTells };
+
+    fn hear(&mut self, reply: &Reply) {
+        self.tell(reply);
+    }
+}
+
 // Where the seat with a number stands; the length where there is none.
 #[tactic(auto, using(crate::proofs::Seats::passed, crate::proofs::Seats::stays, crate::proofs::Seats::found, crate::proofs::Seats::taken_off, crate::proofs::Seats::lost, crate::proofs::Seats::all_stay))]
-fn place_of(seats: &[Seat], number: u32) -> usize
+fn place_of<M>(seats: &[Seat<M>], number: u32) -> usize
     ensures seat { slice_get seats.now result ≡ first_of seats.now (λ seat. seat.number) number }
     ensures rest { take result seats.now ++ drop (result + 1) seats.now
         ≡ without_first seats.now (λ seat. seat.number) number }
@@ -148,22 +155,10 @@ fn place_of(seats: &[Seat], number: u32) -> usize
 }
 
 // Each seat hears a reply.
-fn tell_all(seats: &mut [Seat], reply: &Reply)
-    ensures { Each seats.old seats.new (λ old new. Told old.silent reply.now
-        (record {
-          number = old.number;
-          silent = old.silent;
-          heard = (⟦<dyn Reporter as Reporter>⟧ old.reporter.vtable).heard old.reporter.value;
-          count = (⟦<dyn Reporter as Reporter>⟧ old.reporter.vtable).number old.reporter.value;
-          faults = (⟦<dyn Reporter as Reporter>⟧ old.reporter.vtable).faults old.reporter.value;
-        })
-        (record {
-          number = new.number;
-          silent = new.silent;
-          heard = (⟦<dyn Reporter as Reporter>⟧ new.reporter.vtable).heard new.reporter.value;
-          count = (⟦<dyn Reporter as Reporter>⟧ new.reporter.vtable).number new.reporter.value;
-          faults = (⟦<dyn Reporter as Reporter>⟧ new.reporter.vtable).faults new.reporter.value;
-        })) }
+fn tell_all<M: Reporter>(seats: &mut [Seat<M>], reply: &Reply)
+    ensures { Tells reply.now
+        (map (λ seat. known M.heard M.number M.faults seat.number seat.silent seat.reporter) seats.old)
+        (map (λ seat. known M.heard M.number M.faults seat.number seat.silent seat.reporter) seats.new) }
 {
     'seats: for seat in seats.iter_mut() {
         seat.hear(reply);

@@ -1,39 +1,24 @@
 // A reporter that is attached.
 ghost use Rattle.std.specs.Prelude.{◌≡◌, ◌<◌, ◌++◌, ◌∷◌, [], vec_len, vec_capacity};
-ghost use Rattle.sw_hub.specs.Hubs.{Told};
+ghost use Rattle.sw_hub.specs.Hubs.{Told, known};
 
 use crate::Reporter;
 use sw_record::Reply;
 
-/// A reporter, whatever kind it is.
-pub type Member = Box<dyn Reporter>;
-
 /// A reporter under its number, and whether it is silent.
 #[derive(Drop)]
-pub struct Seat {
+pub struct Seat<M> {
     pub number: u32,
     pub silent: bool,
-    pub reporter: Member,
+    pub reporter: M,
 }
 
-impl Seat {
+impl<M: Reporter> Seat<M> {
     /// The reporter hears a reply, unless it is silent; it is silent from then on where it fails.
     pub fn hear(&mut self, reply: &Reply)
         ensures { Told self.old.silent reply.now
-            (record {
-              number = self.old.number;
-              silent = self.old.silent;
-              heard = (⟦<dyn Reporter as Reporter>⟧ self.old.reporter.vtable).heard self.old.reporter.value;
-              count = (⟦<dyn Reporter as Reporter>⟧ self.old.reporter.vtable).number self.old.reporter.value;
-              faults = (⟦<dyn Reporter as Reporter>⟧ self.old.reporter.vtable).faults self.old.reporter.value;
-            })
-            (record {
-              number = self.new.number;
-              silent = self.new.silent;
-              heard = (⟦<dyn Reporter as Reporter>⟧ self.new.reporter.vtable).heard self.new.reporter.value;
-              count = (⟦<dyn Reporter as Reporter>⟧ self.new.reporter.vtable).number self.new.reporter.value;
-              faults = (⟦<dyn Reporter as Reporter>⟧ self.new.reporter.vtable).faults self.new.reporter.value;
-            }) }
+            (known M.heard M.number M.faults self.old.number self.old.silent self.old.reporter)
+            (known M.heard M.number M.faults self.new.number self.new.silent self.new.reporter) }
     {
         if self.silent {
             return;
@@ -45,7 +30,7 @@ impl Seat {
 }
 
 /// Puts a seat behind the others, for which there is room.
-pub fn push_seat(seats: &mut Vec<Seat>, seat: Seat)
+pub fn push_seat<M: Drop>(seats: &mut Vec<Seat<M>>, seat: Seat<M>)
     requires { vec_len seats.old < vec_capacity seats.old }
     ensures { seats.new.items ≡ seats.old.items ++ seat ∷ [] }
 {

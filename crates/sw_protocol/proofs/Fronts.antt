@@ -1,5 +1,5 @@
 -- A line that was read, and what comes of it.
-use Rattle.std.proofs.Common.{◌≡◌, ℕ, List, [], ◌∷◌, ◌++◌, Ok, Err, IfErr, OnOk, OnErr, inl, inr, refl, ap, ◌∙◌, append_assoc}
+use Rattle.std.proofs.Common.{◌≡◌, ℕ, List, [], ◌∷◌, ◌++◌, Ok, Err, IfErr, IfOk, OnOk, OnErr, inl, inr, refl, ap, ◌∙◌, append_assoc}
 use Rattle.std.specs.declared.option.Option.{Option}
 use Rattle.std.specs.declared.result.Result.{Result}
 use Rattle.std.specs.Io.KnownBytes.{Appends}
@@ -109,8 +109,8 @@ module _ {Event Mark Held Reply : Type 0} (p : Protocol Event Mark Held Reply) w
     leaves_on : (stop : Stop) → Leaves stop (p.grammar.front line) p (place ahead left old.written) s new t → Leaves stop (next p.grammar) p old s new t
     leaves_on stop x = record { event = x.event; takes = takes_on x.event x.takes; says = x.says }
 
-    pub turn_answers : Answers (p.grammar.front line) p (place ahead left old.written) s new t → Answers (next p.grammar) p old s new t
-    turn_answers x = record { event = x.event; takes = takes_on x.event x.takes; says = x.says }
+    pub turn_answers : (told : List Reply) → Answers (p.grammar.front line) p told (place ahead left old.written) s new t → Answers (next p.grammar) p told old s new t
+    turn_answers told x = record { event = x.event; takes = takes_on x.event x.takes; says = x.says }
 
     pub turn_stops : (stop : Stop) → TurnEnds (p.grammar.front line) p stop (place ahead left old.written) s new t → TurnEnds (next p.grammar) p stop old s new t
     turn_stops Ended x = (finds_on Closing x.0, x.1)
@@ -134,3 +134,7 @@ on_ok (Err x) f p = tt
 pub on_err : {T E P Q : Type 0} → (r : Result T E) → (P → Q) → OnErr r P → OnErr r Q
 on_err (Ok x) f p = tt
 on_err (Err x) f p = f p
+
+pub if_ok : {T E : Type 0} {P Q : T → Type 0} → (r : Result T E) → ((x : T) → P x → Q x) → IfOk r P → IfOk r Q
+if_ok (Ok x) f p = f x p
+if_ok (Err e) f p = tt

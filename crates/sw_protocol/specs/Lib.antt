@@ -4,5 +4,6 @@ pub mod Protocol
 pub mod Transcript
 pub mod Turns
 pub mod Served
+pub mod Heard
 pub mod Exactly
 pub mod One

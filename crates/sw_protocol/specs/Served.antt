@@ -5,7 +5,7 @@ use Rattle.sw_protocol.specs.declared.stop.Stop.{Stop}
 use Rattle.sw_protocol.specs.declared.stop.Stop.TheVariants.{Ended, Wrong, CutOff, SourceFailed, SinkFailed, Memory, OutsideFailed, Over as Over_stop}
 use Rattle.sw_protocol.specs.Script.{Ending, End, Bad, Over, Cut, Grammar, script, behind}
 use Rattle.sw_protocol.specs.Protocol.{Protocol, Turn}
-use Rattle.sw_protocol.specs.Transcript.{AreMarks, turns, text, ran_in, held_after}
+use Rattle.sw_protocol.specs.Transcript.{AreMarks, AreSaid, turns, text, ran_in, held_after}
 
 -- what is around the answers: the bytes left in the source, those written into the sink, what is held, and the paths of
 -- the bodies that ran
@@ -77,6 +77,26 @@ TellsBy p Memory events marks done taken out = (out ≡ text done) ⊎ LeavesOff
 TellsBy p OutsideFailed events marks done taken out = LeavesOff p OutsideFailed marks done out
 TellsBy p Over_stop events marks done taken out = Tells events marks done out
 
+-- all but the last request that was carried out were answered
+pub record AllButLast {Event Mark Held Reply : Type 0} (p : Protocol Event Mark Held Reply) (held : Held)
+    (events : List Event) (marks : List Mark) : Type 0 where
+  pub firsts : List Mark
+  pub last : Mark
+  pub order : marks ≡ firsts ++ last ∷ []
+  pub said : AreSaid p held events firsts
+
+-- which requests were answered of those that were carried out
+abbrev pub SaidBy : {Event Mark Held Reply : Type 0} → Protocol Event Mark Held Reply → Stop → Held → List Event
+    → List Mark → Type 0
+SaidBy p Ended held events marks = AreSaid p held events marks
+SaidBy p Wrong held events marks = AreSaid p held events marks
+SaidBy p CutOff held events marks = AreSaid p held events marks
+SaidBy p SourceFailed held events marks = AreSaid p held events marks
+SaidBy p SinkFailed held events marks = AllButLast p held events marks
+SaidBy p Memory held events marks = AreSaid p held events marks ⊎ AllButLast p held events marks
+SaidBy p OutsideFailed held events marks = AllButLast p held events marks
+SaidBy p Over_stop held events marks = AreSaid p held events marks
+
 -- the source gave some bytes; their script ends as the stop says, and the turns of its requests that have a mark, from
 -- what was held, are what was done
 pub record Served {Event Mark Held Reply : Type 0} (p : Protocol Event Mark Held Reply) (most : ℕ) (stop : Stop)
@@ -88,6 +108,7 @@ pub record Served {Event Mark Held Reply : Type 0} (p : Protocol Event Mark Held
   pub sink : Appends old.written new.written out
   pub ending : EndsIn stop (script p.grammar most taken).ending new.left
   pub marked : AreMarks p old.held (script p.grammar most taken).events marks
+  pub said : SaidBy p stop old.held (script p.grammar most taken).events marks
   pub did : Did (turns p old.held (script p.grammar most taken).events marks) old new
   pub tells : TellsBy p stop (script p.grammar most taken).events marks
       (turns p old.held (script p.grammar most taken).events marks) taken out

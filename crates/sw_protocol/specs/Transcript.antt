@@ -10,6 +10,14 @@ AreMarks p held [] (mark ∷ marks) = ⊥
 AreMarks p held (event ∷ events) (mark ∷ marks) =
     p.IsMark held event mark × AreMarks p (p.turn_of held event mark).held events marks
 
+-- with these marks the first requests are answered, as many as there are marks
+unfoldable pub AreSaid : {Event Mark Held Reply : Type 0} → Protocol Event Mark Held Reply → Held → List Event
+    → List Mark → Type 0
+AreSaid p held events [] = ⊤
+AreSaid p held [] (mark ∷ marks) = ⊥
+AreSaid p held (event ∷ events) (mark ∷ marks) =
+    p.IsSaid held event mark × AreSaid p (p.turn_of held event mark).held events marks
+
 -- what comes of the first requests, those that have a mark
 unfoldable pub turns : {Event Mark Held Reply : Type 0} → Protocol Event Mark Held Reply → Held → List Event → List Mark
     → List (Turn Held Reply)

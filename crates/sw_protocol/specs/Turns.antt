@@ -37,10 +37,12 @@ pub record Does {Event Mark Held Reply : Type 0} (p : Protocol Event Mark Held R
   pub ran : after.ran ≡ before.ran ++ (p.turn_of before.held event mark).ran
   pub held : after.held ≡ (p.turn_of before.held event mark).held
 
--- a request was carried out, and its reply was written
+-- a request was carried out, and its reply was written; these replies are to be told
 pub record Says {Event Mark Held Reply : Type 0} (p : Protocol Event Mark Held Reply) (event : Event)
-    (before after : Standing Held) (written now : Option (List ℕ)) : Type 0 where
+    (told : List Reply) (before after : Standing Held) (written now : Option (List ℕ)) : Type 0 where
   pub does : Does p event before after
+  pub tells : (p.turn_of before.held event does.mark).told ≡ told
+  pub said : p.IsSaid before.held event does.mark
   pub sends : Appends written now (p.turn_of before.held event does.mark).text
 
 -- a request was carried out, and a front of its reply was written
@@ -77,12 +79,12 @@ pub record Takes {Event : Type 0} (meaning : List ℕ → Next Event) (event : E
   pub uses : Uses old used new
   pub whole : (rest : List ℕ) → meaning (used ++ rest) ≡ Whole event rest
 
--- a request was read and carried out, and its reply was written
+-- a request was read and carried out, and its reply was written; these replies are to be told
 pub record Answers {Event Mark Held Reply : Type 0} (meaning : List ℕ → Next Event) (p : Protocol Event Mark Held Reply)
-    (old : Place) (before : Standing Held) (new : Place) (after : Standing Held) : Type 0 where
+    (told : List Reply) (old : Place) (before : Standing Held) (new : Place) (after : Standing Held) : Type 0 where
   pub event : Event
   pub takes : Takes meaning event old new
-  pub says : Says p event before after old.written new.written
+  pub says : Says p event told before after old.written new.written
 
 -- a request was read and carried out, and a front of its reply was written; little was taken past it
 pub record Breaks {Event Mark Held Reply : Type 0} (meaning : List ℕ → Next Event) (p : Protocol Event Mark Held Reply)

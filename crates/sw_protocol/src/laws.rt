@@ -12,7 +12,7 @@ use crate::Protocol;
 /// Where what a line begins stays as it is whatever follows, and over a source that tells its bytes: what no fault and
 /// no want of memory breaks off ends exactly as the script of all these bytes calls for, and it has answered that
 /// script.
-pub fn ends_exactly<E, O, P: Protocol<E, O>>()
+pub fn ends_exactly<E, O, R, P: Protocol<E, O, R>>()
     ensures { Grows P.rules.grammar
         → (most : ℕ) (stop : Stop) (bytes : List ℕ) (left written written_now : Option (List ℕ))
         (ran ran_now : List (List ℕ)) (held held_now : P.Held)
@@ -23,7 +23,7 @@ pub fn ends_exactly<E, O, P: Protocol<E, O>>()
 
 /// There too, a script of at most so many requests and then the line `end`, over a sink that tells its bytes, is
 /// carried out whole, unless a fault or want of memory breaks it off.
-pub fn answers_all<E, O, P: Protocol<E, O>>()
+pub fn answers_all<E, O, R, P: Protocol<E, O, R>>()
     ensures { Grows P.rules.grammar
         → (most : ℕ) (stop : Stop) (bytes before now : List ℕ) (left : Option (List ℕ)) (ran ran_now : List (List ℕ))
         (held held_now : P.Held)

@@ -1,25 +1,24 @@
 // What answers requests.
-ghost use Rattle.std.specs.Prelude.{◌≡◌, ◌≤◌, ℕ, List, length, OnOk, IfErr};
+ghost use Rattle.std.specs.Prelude.{◌≡◌, ◌≤◌, ℕ, List, length, IfOk, IfErr};
 ghost use Rattle.sw_protocol.specs.Protocol as specs;
 ghost use Rattle.sw_protocol.specs.Endings.{LastLine};
+ghost use Rattle.sw_protocol.specs.Heard.{told_of};
 ghost use Rattle.sw_protocol.specs.Turns.{place, standing, Answers, TurnEnds, Cause};
 
 use crate::{Lines, Stop};
 use sw_io::{Sink, Source};
 
-/// What answers the requests of one command. `E` runs bodies, and `O` is what is asked beside the source, as the
-/// functions of a host.
-pub trait Protocol<E, O> {
+/// What answers the requests of one command. `E` runs bodies, `O` is what is asked beside the source, as the functions
+/// of a host, and `R` are the replies of which an audience is told.
+pub trait Protocol<E, O, R> {
     ghost Event: { Type 0 };
 
     ghost Mark: { Type 0 };
 
     ghost Held: { Type 0 };
 
-    ghost Reply: { Type 0 };
-
     /// What requests are, and what comes of each; the same for all values of the type.
-    ghost rules: { specs.Protocol Event Mark Held Reply };
+    ghost rules: { specs.Protocol Event Mark Held R };
 
     ghost held: { Self → O → Held };
 
@@ -29,7 +28,8 @@ pub trait Protocol<E, O> {
     /// How often what is asked has failed. The count never falls.
     ghost faults: { O → ℕ };
 
-    /// Answers the request of the line that was read, which may go on behind it, and sends the reply.
+    /// Answers the request of the line that was read, which may go on behind it, sends the reply, and gives it where an
+    /// audience is to be told of it.
     fn turn<S: Source, K: Sink>(
         &mut self,
         lines: &mut Lines,
@@ -37,9 +37,9 @@ pub trait Protocol<E, O> {
         sink: &mut K,
         engine: &mut E,
         outside: &mut O,
-    ) -> Result<(), Stop>
+    ) -> Result<Option<R>, Stop>
         requires { length lines.old.reader ≤ 4096 }
-        ensures ok { OnOk result (Answers (rules.grammar.front lines.old.line.items) rules
+        ensures ok { IfOk result (λ reply. Answers (rules.grammar.front lines.old.line.items) rules (told_of reply)
             (place lines.old.reader (S.left source.old) (K.written sink.old))
             (standing (held self.old outside.old) (ran engine.old))
             (place lines.new.reader (S.left source.new) (K.written sink.new))

@@ -1,5 +1,5 @@
 -- What comes of the request of a line.
-use Rattle.std.proofs.Common.{◌≡◌, ℕ, ◌≤◌, List, [], ◌∷◌, ◌++◌, length, Some, Ok, Err, IfErr, inl, inr, refl, sym, ap, ◌∙◌, subst}
+use Rattle.std.proofs.Common.{◌≡◌, ℕ, ◌≤◌, List, [], ◌∷◌, ◌++◌, length, Some, Ok, Err, IfOk, IfErr, OnOk, inl, inr, refl, sym, ap, ◌∙◌, subst}
 use Rattle.std.specs.declared.option.Option.{Option}
 use Rattle.std.specs.declared.result.Result.{Result}
 use Rattle.std.specs.Io.KnownBytes.{Appends}
@@ -23,10 +23,11 @@ use Rattle.sw_protocol.specs.declared.stop.Stop.TheVariants.{Ended, Wrong, CutOf
 use Rattle.sw_protocol.specs.Protocol.{Turn}
 use Rattle.sw_protocol.specs.Script.{Whole}
 use Rattle.sw_protocol.specs.Endings.{LastLine}
+use Rattle.sw_protocol.specs.Heard.{told_of}
 use Rattle.sw_protocol.specs.Turns.{Place, place, Standing, standing, Does, Says, SaysSome, SayStops, Takes, Answers, TurnEnds}
 use Rattle.sw_protocol.proofs.Writing.{appends_none}
 use Rattle.sw_session.specs.Script.{Event, Put, Remove, Compile, front_by, last_by, grammar}
-use Rattle.sw_session.specs.Transcript.{Mark, Edited, Answered, Refused, Held, held, holding, edit_turn, compile_turn, IsMark, turn_of, session}
+use Rattle.sw_session.specs.Transcript.{Mark, Edited, Answered, Refused, Held, held, holding, edit_turn, compile_turn, reply_of, IsMark, turn_of, session}
 use Rattle.sw_session.specs.Edits.{last_stop, LineStops, SendEnds, PutAnswers, PutStops}
 use Rattle.sw_session.proofs.Nexts.{put_of, put_whole, put_wrong, put_short}
 
@@ -68,8 +69,8 @@ module _ (setting : Setting) (line ahead : List ℕ) (left written now : Option 
     takes : Takes (grammar.front line) event (place ahead left written) (place ahead left now)
     takes = record { used = []; uses = reads_none _ _; whole = λ rest. ap (λ x. front_by x rest) e ∙ w rest }
 
-    pub line_answers : Says (session setting) event s t written now → Answers (grammar.front line) (session setting) (place ahead left written) s (place ahead left now) t
-    line_answers x = record { event = event; takes = takes; says = x }
+    pub line_answers : (told : List Reply) → Says (session setting) event told s t written now → Answers (grammar.front line) (session setting) told (place ahead left written) s (place ahead left now) t
+    line_answers told x = record { event = event; takes = takes; says = x }
 
     pub line_breaks : (stop : Stop) → length ahead ≤ 4096 → SayStops (session setting) stop event s t written now
         → TurnEnds (grammar.front line) (session setting) stop (place ahead left written) s (place ahead left now) t
@@ -109,9 +110,12 @@ module _ (setting : Setting) (event : Event) (mark : Mark) (before after : Stand
     held = h ∙ ap (λ (x : Turn Held Reply). x.held) (sym is);
   }
 
-  says : (written now : Option (List ℕ)) (reply : List ℕ) → reply ≡ turn.text → Appends written now reply → Says (session setting) event before after written now
-  says written now reply e a = record {
+  says : (told : List Reply) → turn.told ≡ told → (written now : Option (List ℕ)) (reply : List ℕ) → reply ≡ turn.text → Appends written now reply
+      → Says (session setting) event told before after written now
+  says told o written now reply e a = record {
     does = does;
+    tells = ap (λ (x : Turn Held Reply). x.told) is ∙ o;
+    said = tt;
     sends = subst (λ (x : List ℕ). Appends written now x) (e ∙ ap (λ (x : Turn Held Reply). x.text) (sym is)) a;
   }
 
@@ -131,16 +135,21 @@ held_same f f' k k' h h' a b c = ap (λ (x : Files). held x k h) a ∙ ap (λ (x
 abbrev pub keeping : Held → Keeping
 keeping h = record { folder = h.folder; kept = h.kept }
 
-reply_is : (reply : Reply) (c : Compiled) → reply.says ≡ c.says → reply.outcome ≡ c.outcome → reply_text reply ≡ reply_text (record { says = c.says; ran = reply.ran; outcome = c.outcome })
+pub reply_is : (reply : Reply) (c : Compiled) → reply.says ≡ c.says → reply.outcome ≡ c.outcome → reply_text reply ≡ reply_text (record { says = c.says; ran = reply.ran; outcome = c.outcome })
 reply_is reply c a b = ap (λ (x : List Saying). says_text x ++ ran_text reply.ran ++ outcome_text reply.outcome) a
     ∙ ap (λ (x : Outcome). says_text c.says ++ ran_text reply.ran ++ outcome_text x) b
 
+pub one_reply : (reply : Reply) (c : Compiled) → reply.says ≡ c.says → reply.outcome ≡ c.outcome → reply_of c reply.ran ∷ [] ≡ reply ∷ []
+one_reply reply c a b = ap (λ (x : List Saying). let r : Reply = record { says = x; ran = reply.ran; outcome = c.outcome } in r ∷ []) (sym a)
+    ∙ ap (λ (x : Outcome). let r : Reply = record { says = reply.says; ran = reply.ran; outcome = x } in r ∷ []) (sym b)
+
 module _ (setting : Setting) (entry : List ℕ) (paths : List (List ℕ)) (before after : Standing Held) (reply : Reply) (written now : Option (List ℕ))
     (c : CompilesTo (compiled setting before.held.folder paths entry before.held.hosts) entry reply (keeping before.held) (keeping after.held) after.held.hosts before.ran after.ran) where
-  pub compile_says : Appends written now (reply_text reply) → Says (session setting) (Compile entry paths) before after written now
+  pub compile_says : Appends written now (reply_text reply) → Says (session setting) (Compile entry paths) (reply ∷ []) before after written now
   compile_says a =
       says setting (Compile entry paths) (Answered reply.ran) before after (compile_turn setting before.held entry paths (Answered reply.ran))
-      (compile_is setting before.held entry paths (Answered reply.ran)) c.ran (held_same _ _ _ _ _ _ c.folder c.kept c.hosts) c.told written now (reply_text reply)
+      (compile_is setting before.held entry paths (Answered reply.ran)) c.ran (held_same _ _ _ _ _ _ c.folder c.kept c.hosts) c.told
+      (reply ∷ []) (one_reply reply (compiled setting before.held.folder paths entry before.held.hosts) c.says c.outcome) written now (reply_text reply)
       (reply_is reply (compiled setting before.held.folder paths entry before.held.hosts) c.says c.outcome) a
 
   pub compile_stops : (stop : Stop) → SendEnds stop (reply_text reply) written now → SayStops (session setting) stop (Compile entry paths) before after written now
@@ -164,11 +173,11 @@ module _ (setting : Setting) (entry : List ℕ) (paths : List (List ℕ)) (befor
 -- a compile was refused for want of memory
 module _ (setting : Setting) (entry : List ℕ) (paths : List (List ℕ)) (before after : Keeping) (hosts hosts_now : HostState) (ran ran_now : List (List ℕ)) (written now : Option (List ℕ)) (reply : List ℕ)
     (k : after ≡ before) (m : BreaksOff setting before.folder paths entry hosts hosts_now ran ran_now) (e : reply ≡ memory_text) where
-  pub refusal_says : Appends written now reply → Says (session setting) (Compile entry paths) (standing (holding before hosts) ran) (standing (holding after hosts_now) ran_now) written now
+  pub refusal_says : Appends written now reply → Says (session setting) (Compile entry paths) [] (standing (holding before hosts) ran) (standing (holding after hosts_now) ran_now) written now
   refusal_says a =
       says setting (Compile entry paths) (Refused m.more m.count) (standing (holding before hosts) ran) (standing (holding after hosts_now) ran_now)
       (compile_turn setting (holding before hosts) entry paths (Refused m.more m.count)) (compile_is setting (holding before hosts) entry paths (Refused m.more m.count)) m.few
-      (ap (λ (x : Keeping). holding x hosts_now) k ∙ ap (λ (x : HostState). holding before x) m.hosts) m.told written now reply e a
+      (ap (λ (x : Keeping). holding x hosts_now) k ∙ ap (λ (x : HostState). holding before x) m.hosts) m.told [] refl written now reply e a
 
   pub refusal_says_some : SendsSome reply written now → SaysSome (session setting) (Compile entry paths) (standing (holding before hosts) ran) (standing (holding after hosts_now) ran_now) written now
   refusal_says_some s =
@@ -179,10 +188,10 @@ module _ (setting : Setting) (entry : List ℕ) (paths : List (List ℕ)) (befor
 -- an edit that was judged
 module _ (setting : Setting) (hosts : HostState) (ran : List (List ℕ)) (before after : Keeping) (written now : Option (List ℕ)) (path reply : List ℕ) (kept : after.kept ≡ before.kept) where
   module _ (r : reply ≡ edit_text (after_removal path before.folder)) (f : after.folder ≡ folder_after (after_removal path before.folder) before.folder) where
-    pub removal_says : Appends written now reply → Says (session setting) (Remove path) (standing (holding before hosts) ran) (standing (holding after hosts) ran) written now
+    pub removal_says : Appends written now reply → Says (session setting) (Remove path) [] (standing (holding before hosts) ran) (standing (holding after hosts) ran) written now
     removal_says a =
         says setting (Remove path) Edited (standing (holding before hosts) ran) (standing (holding after hosts) ran) (edit_turn (holding before hosts) (after_removal path before.folder))
-        (removal_is setting (holding before hosts) path) tt (held_same _ _ _ _ _ _ f kept refl) (sym (append-nil ran)) written now reply r a
+        (removal_is setting (holding before hosts) path) tt (held_same _ _ _ _ _ _ f kept refl) (sym (append-nil ran)) [] refl written now reply r a
 
     pub removal_breaks : SendsSome reply written now → SaysSome (session setting) (Remove path) (standing (holding before hosts) ran) (standing (holding after hosts) ran) written now
     removal_breaks s =
@@ -190,10 +199,10 @@ module _ (setting : Setting) (hosts : HostState) (ran : List (List ℕ)) (before
         (removal_is setting (holding before hosts) path) tt (held_same _ _ _ _ _ _ f kept refl) (sym (append-nil ran)) written now reply r s
 
   module _ (bytes : List ℕ) (r : reply ≡ edit_text (after_put path bytes before.folder)) (f : after.folder ≡ folder_after (after_put path bytes before.folder) before.folder) where
-    put_says : Appends written now reply → Says (session setting) (Put path bytes) (standing (holding before hosts) ran) (standing (holding after hosts) ran) written now
+    put_says : Appends written now reply → Says (session setting) (Put path bytes) [] (standing (holding before hosts) ran) (standing (holding after hosts) ran) written now
     put_says a =
         says setting (Put path bytes) Edited (standing (holding before hosts) ran) (standing (holding after hosts) ran) (edit_turn (holding before hosts) (after_put path bytes before.folder))
-        (put_is setting (holding before hosts) path bytes) tt (held_same _ _ _ _ _ _ f kept refl) (sym (append-nil ran)) written now reply r a
+        (put_is setting (holding before hosts) path bytes) tt (held_same _ _ _ _ _ _ f kept refl) (sym (append-nil ran)) [] refl written now reply r a
 
     put_breaks : SendsSome reply written now → SaysSome (session setting) (Put path bytes) (standing (holding before hosts) ran) (standing (holding after hosts) ran) written now
     put_breaks s =
@@ -205,7 +214,7 @@ module _ (setting : Setting) (hosts : HostState) (ran : List (List ℕ)) (line p
   front_is : (bytes : List ℕ) → grammar.front line bytes ≡ put_of path count bytes
   front_is bytes = ap (λ x. front_by x bytes) e
 
-  pub put_answers : PutAnswers path count old before new after → Answers (grammar.front line) (session setting) old (standing (holding before hosts) ran) new (standing (holding after hosts) ran)
+  pub put_answers : PutAnswers path count old before new after → Answers (grammar.front line) (session setting) [] old (standing (holding before hosts) ran) new (standing (holding after hosts) ran)
   put_answers p = record {
     event = Put path p.bytes;
     takes = record { used = p.bytes ++ 10 ∷ []; uses = p.uses; whole = λ rest. front_is ((p.bytes ++ 10 ∷ []) ++ rest) ∙ put_whole path p.bytes count p.long rest };
@@ -251,3 +260,8 @@ module _ (setting : Setting) (hosts : HostState) (ran : List (List ℕ)) (line p
 pub not_source : {A T : Type 0} (P : Stop → Type 0) (r : Result T Stop) → (P SourceFailed → ⊥) → IfErr r P → r ≡ Err SourceFailed → A
 not_source P (Ok x) n p e = cc
 not_source P (Err stop) n p e = let same : stop ≡ SourceFailed = cc in absurd (n (subst P same p))
+
+-- a result that two clauses tell of
+pub given_by : {R E Q : Type 0} (P : Option R → Type 0) (reply : Option R) (r : Result (Option R) E) → IfOk r (λ given. given ≡ reply) → OnOk r Q → (Q → P reply) → IfOk r P
+given_by P reply (Ok given) e q f = subst P (sym e) (f q)
+given_by P reply (Err stop) e q f = tt

@@ -3,4 +3,3 @@ pub mod Script
 pub mod Transcript
 pub mod Edits
 pub mod Served
-pub mod Commands

@@ -3,11 +3,14 @@ use Rattle.std.specs.Prelude.{◌≡◌, ◌⊎◌, ℕ, List, [], Option, ⊤}
 use Rattle.std.specs.FinMap.{empty}
 use Rattle.sw_world.specs.Hosts.{HostState}
 use Rattle.sw_modules.specs.Fresh.{Setting}
+use Rattle.sw_record.specs.declared.reply.Reply.{Reply}
 use Rattle.sw_protocol.specs.declared.stop.Stop.{Stop}
 use Rattle.sw_protocol.specs.declared.stop.Stop.TheVariants.{Ended, Wrong, CutOff, SourceFailed, SinkFailed, Memory, OutsideFailed, Over}
 use Rattle.sw_protocol.specs.Script.{script}
 use Rattle.sw_protocol.specs.Endings.{status_of, stop_at}
+use Rattle.sw_protocol.specs.Transcript.{turns}
 use Rattle.sw_protocol.specs.Served as protocol
+use Rattle.sw_protocol.specs.Heard.{Hearing, HeardBy}
 use Rattle.sw_session.specs.Script.{grammar}
 use Rattle.sw_session.specs.Transcript.{Held, held, session}
 
@@ -37,9 +40,19 @@ pub record Served (setting : Setting) (most : ℕ) (stop : Stop) (old new : Surr
   pub hosts : new.hosts ≡ holds.hosts
   pub served : protocol.Served (session setting) most stop (around old (nothing_held old.hosts)) (around new holds)
 
+-- and the replies of the compiles that were answered were heard
+pub record ServedAndHeard {State : Type 0} (setting : Setting) (hears : Hearing Reply State) (most : ℕ) (stop : Stop)
+    (old new : Surroundings) (before now : State) : Type 0 where
+  pub served : Served setting most stop old new
+  pub heard : HeardBy (session setting) stop hears served.served.marks
+      (turns (session setting) (nothing_held old.hosts) (script grammar most served.served.taken).events
+      served.served.marks) served.served.out before now
+
 -- a session of at most 1,000,000 requests ended with this status
-abbrev pub ServedWith : Setting → ℕ → Surroundings → Surroundings → Type 0
-ServedWith setting status old new = (stop : Stop) × (status ≡ status_of stop) × Served setting 1000000 stop old new
+abbrev pub ServedWith : {State : Type 0} → Setting → Hearing Reply State → ℕ → Surroundings → Surroundings → State
+    → State → Type 0
+ServedWith setting hears status old new before now =
+    (stop : Stop) × (status ≡ status_of stop) × ServedAndHeard setting hears 1000000 stop old new before now
 
 -- a fault of the source or the sink, or want of memory
 abbrev pub IsBrokenOff : Stop → Type 0

@@ -114,7 +114,13 @@ IsLeft OutsideFailed mark = ⊥
 IsLeft Over mark = ⊥
 
 abbrev pub session : Setting → Protocol Event Mark Held Reply
-session setting = record { grammar = grammar; turn_of = turn_of setting; IsMark = IsMark setting; IsLeft = IsLeft }
+session setting = record {
+  grammar = grammar;
+  turn_of = turn_of setting;
+  IsMark = IsMark setting;
+  IsSaid = λ h event mark. ⊤;
+  IsLeft = IsLeft;
+}
 
 -- what is free in a mark: what a refused compile ran, and how many calls it made
 pub record Refusal : Type 0 where

@@ -1,10 +1,11 @@
 // A request is carried out: its reply is made, and sent.
-ghost use Rattle.std.specs.Prelude.{◌≡◌, ◌≤◌, List, ℕ, length, IfErr, OnOk, OnErr};
+ghost use Rattle.std.specs.Prelude.{◌≡◌, ◌≤◌, List, ℕ, length, None, Some, IfOk, IfErr, OnOk, OnErr};
 ghost use Rattle.std.specs.Io.KnownBytes.{Appends};
 ghost use Rattle.sw_io.specs.Causes.{HasCause};
 ghost use Rattle.sw_world.specs.Hosts.{HostState};
 ghost use Rattle.sw_modules.specs.Fresh.{Setting, setting_of};
 ghost use Rattle.sw_wire.specs.Replies.{reply_text};
+ghost use Rattle.sw_protocol.specs.Heard.{told_of};
 ghost use Rattle.sw_protocol.specs.Turns.{place, standing, Says, SaysSome, SayStops, Cause};
 ghost use Rattle.sw_session.specs.Script.{Compile, Remove};
 ghost use Rattle.sw_file_parse.specs.Files.{sheet_at};
@@ -23,8 +24,8 @@ use sw_wire::{memory_reply, write_reply};
 use sw_world::{Engine, Hosts};
 
 impl<E: Engine> Session<E> {
-    /// Compiles a file and sends the reply. A compile that finds no memory is refused; where no memory is found for the
-    /// reply, the session ends.
+    /// Compiles a file, sends the reply, and gives it. A compile that finds no memory is refused, and gives none; where
+    /// no memory is found for the reply's text, the session ends.
     pub(crate) fn compile<K: Sink, H: Hosts>(
         &mut self,
         entry: &Name,
@@ -32,9 +33,9 @@ impl<E: Engine> Session<E> {
         sink: &mut K,
         engine: &mut E,
         hosts: &mut H,
-    ) -> Result<(), Stop>
-        ensures ok { OnOk result (Says (session (setting_of H.answer H.after sheet_at E.body))
-            (Compile entry.now paths.now)
+    ) -> Result<Option<Reply>, Stop>
+        ensures ok { IfOk result (λ reply. Says (session (setting_of H.answer H.after sheet_at E.body))
+            (Compile entry.now paths.now) (told_of reply)
             (standing (holding self.old.keeper (H.state hosts.old)) (E.ran engine.old))
             (standing (holding self.new.keeper (H.state hosts.new)) (E.ran engine.new)) (K.written sink.old)
             (K.written sink.new)) }
@@ -50,17 +51,21 @@ impl<E: Engine> Session<E> {
             .keeper
             .compile(&reader, entry, paths.as_slice(), engine, hosts)
         {
-            Ok(reply) => send_reply(self.alloc, &reply, sink),
+            Ok(reply) => send_reply(self.alloc, reply, sink),
             Err(Memory) => match send(sink, memory_reply()) {
-                Ok(()) => Ok(()),
+                Ok(()) => Ok(None),
                 Err(Failed) => Err(Stop::SinkFailed),
             },
         }
     }
 
-    pub(crate) fn remove<K: Sink>(&mut self, path: &Name, sink: &mut K) -> Result<(), Stop>
-        ensures ok { OnOk result ((setting : Setting) (hosts : HostState) (ran : List (List ℕ))
-            → Says (session setting) (Remove path.now)
+    pub(crate) fn remove<K: Sink>(
+        &mut self,
+        path: &Name,
+        sink: &mut K,
+    ) -> Result<Option<Reply>, Stop>
+        ensures ok { IfOk result (λ reply. (setting : Setting) (hosts : HostState) (ran : List (List ℕ))
+            → Says (session setting) (Remove path.now) (told_of reply)
             (standing (holding self.old.keeper hosts) ran) (standing (holding self.new.keeper hosts) ran)
             (K.written sink.old) (K.written sink.new)) }
         ensures err { IfErr result (λ stop. (setting : Setting) (hosts : HostState) (ran : List (List ℕ))
@@ -71,7 +76,7 @@ impl<E: Engine> Session<E> {
     {
         let reply = edits::remove(&mut self.keeper, path.as_str());
         match send(sink, reply) {
-            Ok(()) => Ok(()),
+            Ok(()) => Ok(None),
             Err(Failed) => Err(Stop::SinkFailed),
         }
     }
@@ -83,7 +88,8 @@ impl<E: Engine> Session<E> {
         reader: &mut Reader,
         source: &mut S,
         sink: &mut K,
-    ) -> Result<(), Stop>
+    ) -> Result<Option<Reply>, Stop>
+        ensures unheard { IfOk result (λ reply. reply ≡ None) }
         ensures ok { OnOk result (PutAnswers path.now count (place reader.old (S.left source.old) (K.written sink.old))
             self.old.keeper
             (place reader.new (S.left source.new) (K.written sink.new)) self.new.keeper) }
@@ -95,24 +101,24 @@ impl<E: Engine> Session<E> {
     {
         let reply = edits::put(self.alloc, path, count, reader, &mut self.keeper, source)?;
         match send(sink, reply) {
-            Ok(()) => Ok(()),
+            Ok(()) => Ok(None),
             Err(Failed) => Err(Stop::SinkFailed),
         }
     }
 }
 
-/// Sends the reply to a compile. Where no memory is found for its text, nothing is written.
-fn send_reply<K: Sink>(alloc: Global, reply: &Reply, sink: &mut K) -> Result<(), Stop>
-    ensures ok { OnOk result (Appends (K.written sink.old) (K.written sink.new) (reply_text reply.now)) }
-    ensures err { IfErr result (λ stop. SendEnds stop (reply_text reply.now) (K.written sink.old)
-        (K.written sink.new)) }
+/// Sends the reply to a compile, and gives it back. Where no memory is found for its text, nothing is written.
+pub fn send_reply<K: Sink>(alloc: Global, reply: Reply, sink: &mut K) -> Result<Option<Reply>, Stop>
+    ensures back { IfOk result (λ said. said ≡ Some reply) }
+    ensures ok { OnOk result (Appends (K.written sink.old) (K.written sink.new) (reply_text reply)) }
+    ensures err { IfErr result (λ stop. SendEnds stop (reply_text reply) (K.written sink.old) (K.written sink.new)) }
     ensures cause { Cause Stop.SinkFailed (K.faults sink.old) (K.faults sink.new) result }
 {
     let mut text = Vec::new(alloc);
-    match write_reply(alloc, reply, &mut text) {
+    match write_reply(alloc, &reply, &mut text) {
         Err(Memory) => Err(Stop::Memory),
         Ok(()) => match send(sink, &text) {
-            Ok(()) => Ok(()),
+            Ok(()) => Ok(Some(reply)),
             Err(Failed) => Err(Stop::SinkFailed),
         },
     }

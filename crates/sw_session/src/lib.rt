@@ -5,7 +5,6 @@
 
 mod answers;
 mod body;
-mod command;
 mod edits;
 mod laws;
 mod reading;
@@ -13,7 +12,7 @@ mod requests;
 mod service;
 mod session;
 
-pub use command::run;
+pub use answers::send_reply;
 pub use laws::{answers_all, ends_exactly, transcript_is_one};
 pub use reading::SheetReader;
 pub use service::{serve, serve_within};

@@ -1,6 +1,7 @@
 // What a session does at each request.
-ghost use Rattle.std.specs.Prelude.{◌≡◌, ◌≤◌, [], length, IfErr, OnOk};
+ghost use Rattle.std.specs.Prelude.{◌≡◌, ◌≤◌, [], length, IfOk, IfErr};
 ghost use Rattle.std.specs.FinMap as files;
+ghost use Rattle.sw_protocol.specs.Heard.{told_of};
 ghost use Rattle.sw_protocol.specs.Turns.{place, standing, Answers, TurnEnds, Cause};
 ghost use Rattle.sw_session.specs.Script.{grammar};
 ghost use Rattle.sw_modules.specs.Fresh.{setting_of};
@@ -13,6 +14,7 @@ use std::alloc::Global;
 use sw_io::{Sink, Source};
 use sw_keeper::Keeper;
 use sw_protocol::{Lines, Protocol, Stop};
+use sw_record::Reply;
 use sw_wire::Request;
 use sw_world::{Engine, Hosts};
 
@@ -35,8 +37,7 @@ impl<E: Engine> Session<E> {
     }
 }
 
-impl<E: Engine, H: Hosts> Protocol<E, H> for Session<E> {
-    ghost use Rattle.sw_record.specs.declared.reply.Reply.{Reply};
+impl<E: Engine, H: Hosts> Protocol<E, H, Reply> for Session<E> {
     ghost use Rattle.sw_session.specs.Script.{Event};
     ghost use Rattle.sw_session.specs.Transcript.{Mark, Held, holding, session};
     ghost use Rattle.sw_modules.specs.Fresh.{setting_of};
@@ -47,8 +48,6 @@ impl<E: Engine, H: Hosts> Protocol<E, H> for Session<E> {
     ghost Mark = { Mark };
 
     ghost Held = { Held };
-
-    ghost Reply = { Reply };
 
     ghost rules = { session (setting_of H.answer H.after sheet_at E.body) };
 
@@ -66,7 +65,7 @@ impl<E: Engine, H: Hosts> Protocol<E, H> for Session<E> {
         sink: &mut K,
         engine: &mut E,
         hosts: &mut H,
-    ) -> Result<(), Stop> {
+    ) -> Result<Option<Reply>, Stop> {
         turn(self, lines, source, sink, engine, hosts)
     }
 
@@ -85,10 +84,10 @@ fn turn<S: Source, K: Sink, E: Engine, H: Hosts>(
     sink: &mut K,
     engine: &mut E,
     hosts: &mut H,
-) -> Result<(), Stop>
+) -> Result<Option<Reply>, Stop>
     requires { length lines.old.reader ≤ 4096 }
-    ensures ok { OnOk result (Answers (grammar.front lines.old.line.items)
-        (protocol (setting_of H.answer H.after sheet_at E.body))
+    ensures ok { IfOk result (λ reply. Answers (grammar.front lines.old.line.items)
+        (protocol (setting_of H.answer H.after sheet_at E.body)) (told_of reply)
         (place lines.old.reader (S.left source.old) (K.written sink.old))
         (standing (holding session.old.keeper (H.state hosts.old)) (E.ran engine.old))
         (place lines.new.reader (S.left source.new) (K.written sink.new))

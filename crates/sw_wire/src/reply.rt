@@ -35,7 +35,9 @@ fn write_parts(alloc: Global, reply: &Reply, out: &mut Vec<u8>) -> Result<(), Me
     write_outcome(alloc, &reply.outcome, out)
 }
 
-fn write_says(alloc: Global, says: &[Saying], out: &mut Vec<u8>) -> Result<(), Memory>
+/// Writes the messages of a reply behind what stands in `out`, as `write_reply` does. After `Memory` what stood there
+/// stands there still, with a part of the messages behind it.
+pub fn write_says(alloc: Global, says: &[Saying], out: &mut Vec<u8>) -> Result<(), Memory>
     ensures ok { OnOk result (out.new.items ≡ out.old.items ++ says_text says.now) }
     ensures err { OnErr result (take (length out.old.items) out.new.items ≡ out.old.items) }
 {

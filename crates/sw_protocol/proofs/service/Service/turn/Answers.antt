@@ -1,6 +1,7 @@
 use Rattle.std.proofs.lemmas.Result.{err_from_is_err_and}
+use Rattle.sw_protocol.specs.Heard.{told_of}
 use Rattle.sw_protocol.proofs.Writing.{appends_none}
-use Rattle.sw_protocol.proofs.Fronts.{line_stops, turn_answers, turn_stops, on_ok, if_err}
+use Rattle.sw_protocol.proofs.Fronts.{line_stops, turn_answers, turn_stops, if_ok, if_err}
 use Rattle.sw_protocol.proofs.service.Service.turn.Goals as goal
 
 pub returns-in_err-line-clause-err : goal.returns-in_err-line-clause-err
@@ -12,7 +13,7 @@ returns-in_err-line-clause-err g c =
 pub returns-clause-ok : goal.returns-clause-ok
 returns-clause-ok g c =
     let r = c.in_ok-line.ensures.ok in
-    on_ok c.turn.result (turn_answers g.P.Protocol.rules c.line.new.line.items c.line.new.self (g.S.Source.left c.line.new.source) _ _ _ _ r.0 r.1) c.turn.ensures.ok
+    if_ok c.turn.result (λ reply. turn_answers g.P.Protocol.rules c.line.new.line.items c.line.new.self (g.S.Source.left c.line.new.source) _ _ _ _ r.0 r.1 (told_of reply)) c.turn.ensures.ok
 
 pub returns-clause-err : goal.returns-clause-err
 returns-clause-err g c =

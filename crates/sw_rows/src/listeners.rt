@@ -1,0 +1,81 @@
+// Who is told of a row's replies, and what has to have come of it.
+use crate::row::Row;
+use std::alloc::{AllocError, Global};
+use sw_hub::{Hub, MemReporter, Reporter};
+use sw_text::List;
+
+/// How many replies were heard, and whether the reporter fell silent.
+#[derive(Clone, Copy, Debug, PartialEq, Eq)]
+pub struct Heard {
+    pub count: u64,
+    pub is_silent: bool,
+}
+
+/// A reporter: the numbers of its calls that fail, and what has to have come of it.
+#[derive(Drop)]
+pub struct Listener {
+    pub fails: Vec<u32>,
+    pub wanted: Heard,
+}
+
+impl Listener {
+    /// A text `N.. => COUNT` or `N.. => COUNT silent`.
+    pub fn read(alloc: Global, text: &str) -> Result<Listener, AllocError> {
+        let (numbers, wanted) = text.split_once("=> ").unwrap_or((text, ""));
+        let (count, is_silent) = match wanted.strip_suffix(" silent") {
+            Some(count) => (count, true),
+            None => (wanted, false),
+        };
+        let mut fails = Vec::new(alloc);
+        for number in numbers.split(' ') {
+            if let Ok(number) = number.parse::<u32>() {
+                fails.push(number)?;
+            }
+        }
+        let count = count.parse::<u64>().unwrap_or(u64::MAX);
+        let wanted = Heard { count, is_silent };
+        Ok(Listener { fails, wanted })
+    }
+}
+
+/// The reporters of a row, in order, attached.
+pub fn hub_of(alloc: Global, row: &Row) -> Result<Hub<MemReporter>, AllocError> {
+    let mut hub: Hub<MemReporter> = Hub::new(alloc);
+    for listener in row.listeners.iter() {
+        let fails = List::from_vec(listener.fails.to_vec(alloc)?);
+        if hub.attach(MemReporter::new(alloc, fails)).is_err() {
+            return Err(AllocError);
+        }
+    }
+    Ok(hub)
+}
+
+/// What the reporters of a row have heard.
+pub fn heard_by(
+    alloc: Global,
+    row: &Row,
+    hub: &mut Hub<MemReporter>,
+) -> Result<Vec<Heard>, AllocError> {
+    let mut all = Vec::new(alloc);
+    let mut number = 0u32;
+    for _ in row.listeners.iter() {
+        let is_silent = hub.silent(number);
+        if let Some(reporter) = hub.detach(number) {
+            let count = reporter.count().unwrap_or(u64::MAX);
+            all.push(Heard { count, is_silent })?;
+        }
+        number = number.saturating_add(1);
+    }
+    Ok(all)
+}
+
+/// What differs from what the row says of its reporters, as a line to print.
+pub fn otherwise(alloc: Global, row: &Row, all: &[Heard]) -> Result<Option<String>, AllocError> {
+    for (number, listener) in row.listeners.iter().enumerate() {
+        let heard = all.get(number).copied();
+        if heard != Some(listener.wanted) {
+            return Ok(Some(format!(in alloc; "  reporter {number} has heard otherwise\n")?));
+        }
+    }
+    Ok(None)
+}
