@@ -26,15 +26,15 @@ turn_did gives job ps w x u s t = record { asked = t.asked; grew = t.grew; led =
 
 pub resume_begin : (job : Job) (qs : List Pair) → IsResume job qs 0 0 begin
 unfolding body
-resume_begin job qs = record { rest = λ more. ap (λ l. run (end_of job.sheet) job.path most_asked [] (from job 0 begin) (answers l ++ more)) (none qs) ∙ from (most_asked) refl qs more; within = omega arith }
+resume_begin job qs = record { rest = λ more. ap (λ l. run (end_of job.sheet) job.path most_asked [] (from job 0 begin) (answers l ++ more)) (none qs) ∙ counted most_asked refl qs more; within = omega arith }
   where
     none : (ps : List Pair) → take 0 ps ≡ []
     none [] = refl
     none (p ∷ ps) = refl
 
-    from : (m : ℕ) → most_asked ≡ m → (ps : List Pair) (more : List Answer) → run (end_of job.sheet) job.path m [] (from job 0 begin) more
+    counted : (m : ℕ) → most_asked ≡ m → (ps : List Pair) (more : List Answer) → run (end_of job.sheet) job.path m [] (from job 0 begin) more
         ≡ run (end_of job.sheet) job.path (most_asked - 0) (answers (take 0 ps)) (from job 0 begin) more
-    from m e ps more =
+    counted m e ps more =
         let k : m ≡ most_asked - 0 = omega (arith, e) in
         ap (λ j. run (end_of job.sheet) job.path j [] (from job 0 begin) more) k ∙ ap (λ l. run (end_of job.sheet) job.path (most_asked - 0) (answers l) (from job 0 begin) more) (sym (none ps))
 
