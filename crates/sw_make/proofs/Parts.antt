@@ -1,8 +1,7 @@
 -- One part more.
-use Rattle.std.proofs.Common.{◌≡◌, ℕ, ◌+◌, [], ◌++◌, codes, refl, add-one}
-use Rattle.std.specs.Fmt.{decimal}
+use Rattle.std.proofs.Common.{◌≡◌, ℕ, ◌+◌, refl, add-one}
 use Rattle.sw_folder.specs.Files.{Files}
-use Rattle.sw_make.specs.Texts.{uses, width_of, part_path, part_text}
+use Rattle.sw_made.specs.Texts.{width_of, part_path, part_text}
 use Rattle.sw_make.specs.Made.{with_file, with_parts}
 
 pub no_parts : (number : ℕ) (folder : Files) → with_parts number 0 folder ≡ folder
@@ -13,11 +12,3 @@ pub parts_more : (number place : ℕ) (folder : Files)
     → with_parts number (place + 1) folder ≡ with_file (part_path place) (part_text place (width_of number place)) (with_parts number place folder)
 unfolding with_parts
 parts_more number place folder = rw add-one refl
-
-pub no_uses : uses 0 ≡ []
-unfolding uses
-no_uses = refl
-
-pub uses_more : (place : ℕ) → uses (place + 1) ≡ uses place ++ (codes " @use \"m" ++ decimal place ++ codes "\";")
-unfolding uses
-uses_more place = rw add-one refl

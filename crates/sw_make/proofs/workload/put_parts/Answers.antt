@@ -1,5 +1,5 @@
 use Rattle.std.proofs.Common.{sym, ap, ◌∙◌}
-use Rattle.sw_make.specs.Texts.{part_path, part_text, width_of}
+use Rattle.sw_made.specs.Texts.{part_path, part_text, width_of}
 use Rattle.sw_make.specs.Made.{with_file}
 use Rattle.sw_folder.specs.Files.{Files}
 use Rattle.sw_make.proofs.Parts.{no_parts, parts_more}

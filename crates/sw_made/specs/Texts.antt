@@ -1,4 +1,4 @@
--- The texts of a made folder. This project's own rule.
+-- The texts of a made folder and of its summary. This project's own rule.
 use Rattle.std.specs.Prelude.{ℕ, suc, zero, ◌+◌, ◌*◌, ◌%◌, List, [], ◌++◌, codes}
 use Rattle.std.specs.Fmt.{decimal}
 
@@ -42,3 +42,10 @@ edited_place number turn = (number + 13 * turn) % parts_of number
 
 abbrev pub edited_width : ℕ → ℕ → ℕ
 edited_width number turn = (number + 7 * edited_place number turn + turn) % 100
+
+-- what is told in the end: of the parts, with the sheet that they use and the one that uses them; of the compiles; of
+-- the bodies that ran; and of the CSS of the last compile
+abbrev pub summary : ℕ → ℕ → ℕ → List ℕ
+summary modules ran css =
+    codes "modules " ++ decimal modules ++ codes "\ncompiles 51\nran " ++ decimal ran ++ codes "\ncss " ++ decimal css
+    ++ codes "\n"

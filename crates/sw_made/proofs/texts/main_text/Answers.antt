@@ -1,7 +1,7 @@
 use Rattle.std.proofs.Common.{codes, ap, ◌∙◌, sym, ◌++◌, append_assoc, arith}
 use Rattle.std.proofs.lemmas.Grind.{common_steps}
-use Rattle.sw_make.proofs.Parts.{no_uses, uses_more}
-use Rattle.sw_make.proofs.texts.main_text.Goals as goal
+use Rattle.sw_made.proofs.Uses.{no_uses, uses_more}
+use Rattle.sw_made.proofs.texts.main_text.Goals as goal
 
 pub parts-init : goal.parts-init
 parts-init c = grind (arith, common_steps, no_uses)
