@@ -22,13 +22,16 @@ part_path place = codes "m" ++ decimal place ++ codes ".scss"
 
 abbrev pub part_text : ℕ → ℕ → List ℕ
 part_text place width =
-    codes "@use \"lib\"; @include lib.bump(" ++ decimal width ++ codes "); .m" ++ decimal place
+    codes "@use \"lib\"; @include lib.bump(" ++ decimal width ++ codes ");" ++ (codes " .m" ++ decimal place)
     ++ codes " { w: lib.$c; }"
+
+abbrev pub use_text : ℕ → List ℕ
+use_text place = codes " @use \"m" ++ decimal place ++ codes "\";"
 
 -- the parts are used in order
 unfoldable pub uses : ℕ → List ℕ
 uses zero = []
-uses (suc place) = uses place ++ (codes " @use \"m" ++ decimal place ++ codes "\";")
+uses (suc place) = uses place ++ use_text place
 
 abbrev pub main_path : List ℕ
 main_path = codes "main.scss"
@@ -43,9 +46,11 @@ edited_place number turn = (number + 13 * turn) % parts_of number
 abbrev pub edited_width : ℕ → ℕ → ℕ
 edited_width number turn = (number + 7 * edited_place number turn + turn) % 100
 
--- what is told in the end: of the parts, with the sheet that they use and the one that uses them; of the compiles; of
--- the bodies that ran; and of the CSS of the last compile
+-- what was done: the parts, with the sheet that they use and the one that uses them; the compiles; the bodies that ran
+abbrev pub work_text : ℕ → ℕ → List ℕ
+work_text modules ran =
+    codes "modules " ++ decimal modules ++ codes "\ncompiles 51\n" ++ (codes "ran " ++ decimal ran ++ codes "\n")
+
+-- what is told in the end: of this, and of the CSS of the last compile
 abbrev pub summary : ℕ → ℕ → ℕ → List ℕ
-summary modules ran css =
-    codes "modules " ++ decimal modules ++ codes "\ncompiles 51\nran " ++ decimal ran ++ codes "\ncss " ++ decimal css
-    ++ codes "\n"
+summary modules ran css = work_text modules ran ++ (codes "css " ++ decimal css ++ codes "\n")

@@ -1,6 +1,6 @@
 // The texts of a made folder.
 ghost use Rattle.std.specs.Prelude.{◌≡◌, string_bytes, IfOk};
-ghost use Rattle.sw_made.specs.Texts.{parts_of, width_of, part_path, part_text, main_text, edited_place, edited_width, summary};
+ghost use Rattle.sw_made.specs.Texts.{parts_of, width_of, part_path, part_text, main_text, use_text, edited_place, edited_width, summary, work_text};
 
 use std::alloc::{AllocError, Global};
 
@@ -53,7 +53,11 @@ pub fn part_path(alloc: Global, place: u32) -> Result<String, AllocError>
 pub fn part_text(alloc: Global, place: u32, width: u32) -> Result<String, AllocError>
     ensures { IfOk result (λ text. string_bytes text ≡ part_text place width) }
 {
-    format!(in alloc; "@use \"lib\"; @include lib.bump({width}); .m{place} {{ w: lib.$c; }}")
+    let mut text = format!(in alloc; "@use \"lib\"; @include lib.bump({width});")?;
+    let rule = format!(in alloc; " .m{place}")?;
+    text.push_str(rule.as_str())?;
+    text.push_str(" { w: lib.$c; }")?;
+    Ok(text)
 }
 
 /// What stands in the sheet that uses so many parts.
@@ -62,16 +66,34 @@ pub fn main_text(alloc: Global, parts: u32) -> Result<String, AllocError>
 {
     let mut text = String::from_str(alloc, "@use \"lib\";")?;
     'parts: for place in 0..parts {
-        let part = format!(in alloc; " @use \"m{place}\";")?;
+        let part = use_text(alloc, place)?;
         text.push_str(part.as_str())?;
     }
     text.push_str(" .main { w: lib.$c; }")?;
     Ok(text)
 }
 
+fn use_text(alloc: Global, place: u32) -> Result<String, AllocError>
+    ensures { IfOk result (λ text. string_bytes text ≡ use_text place) }
+{
+    format!(in alloc; " @use \"m{place}\";")
+}
+
 /// What is told in the end.
 pub fn summary(alloc: Global, modules: u32, ran: u64, css: u64) -> Result<String, AllocError>
     ensures { IfOk result (λ text. string_bytes text ≡ summary modules ran css) }
 {
-    format!(in alloc; "modules {modules}\ncompiles 51\nran {ran}\ncss {css}\n")
+    let mut text = work_text(alloc, modules, ran)?;
+    let bytes = format!(in alloc; "css {css}\n")?;
+    text.push_str(bytes.as_str())?;
+    Ok(text)
+}
+
+fn work_text(alloc: Global, modules: u32, ran: u64) -> Result<String, AllocError>
+    ensures { IfOk result (λ text. string_bytes text ≡ work_text modules ran) }
+{
+    let mut text = format!(in alloc; "modules {modules}\ncompiles 51\n")?;
+    let bodies = format!(in alloc; "ran {ran}\n")?;
+    text.push_str(bodies.as_str())?;
+    Ok(text)
 }
