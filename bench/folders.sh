@@ -10,6 +10,7 @@ import shutil
 import subprocess
 import sys
 import tempfile
+import threading
 import time
 
 PROGRAM = os.path.abspath(sys.argv[1])
@@ -67,6 +68,8 @@ def rule(value):
 
 place = tempfile.mkdtemp()
 os.chmod(place, 0o755)
+PROGRAM = shutil.copy(PROGRAM, os.path.join(place, "program"))
+os.chmod(PROGRAM, 0o755)
 try:
     src = os.path.join(place, "src")
     put(src, "main.scss", '@use "lib"; a { b: lib.$n; }')
@@ -139,17 +142,36 @@ try:
     put(many, "a.scss", '@use "f4094"; a { b: f4094.$n; }')
     poll.scan()
     fastest = {"scan": 9e9, "read": 9e9}
-    for _ in range(5):
+    for _ in range(20):
         begun = time.perf_counter()
         poll.scan()
         fastest["scan"] = min(fastest["scan"], time.perf_counter() - begun)
         begun = time.perf_counter()
         for entry in os.scandir(many):
-            with open(entry.path, "rb") as file:
-                file.read()
+            file = os.open(entry.path, os.O_RDONLY)
+            os.read(file, 1048577)
+            os.close(file)
         fastest["read"] = min(fastest["read"], time.perf_counter() - begun)
+
+    # The last file in the order of reading comes and goes, so that it is often listed and then gone.
+    shown, hidden = os.path.join(many, "f4094.scss"), os.path.join(place, "hidden")
+    over = threading.Event()
+
+    def flicker():
+        while not over.wait(0.003):
+            os.rename(shown, hidden)
+            over.wait(0.003)
+            os.rename(hidden, shown)
+
+    thread = threading.Thread(target=flicker)
+    thread.start()
+    seen = {poll.scan()[1] for _ in range(200)}
+    over.set()
+    thread.join()
+    told("a file that comes and goes is there or isn't", seen, {rule("4094"), "error 19 a.scss 1:6 1:13"})
+    told("and is there at last", poll.scan()[1], rule("4094"))
     told("status", poll.ends(), 0)
-    print(f"a scan of 4,096 sheets takes {fastest['scan']:.3f} s, reading them by another program {fastest['read']:.3f} s")
+    print(f"a scan of 4,096 sheets takes {fastest['scan']:.3f} s, opening and reading each by another program {fastest['read']:.3f} s")
 finally:
     shutil.rmtree(place)
 PY

@@ -7,25 +7,29 @@ ghost use Rattle.sw_commands.specs.Run.{surroundings, Runs};
 
 use crate::service::poll_folder;
 use std::alloc::Global;
-use sw_command_line::{Command, command_of};
+use sw_command_line::Command;
 use sw_disk_compile::once;
 use sw_io::{Disk, Sink, Source};
 use sw_make::make;
 use sw_protocol::{Audience, Output};
 use sw_record::Reply;
 use sw_session::{SheetReader, serve};
-use sw_text::Name;
+use sw_text::{Memory, Name};
+use sw_words::read_words;
 use sw_world::{Engine, NoHosts};
 
 // The words are in no command's form.
 const NO_COMMAND: u8 = 7;
+
+// No memory was found to read them.
+const NO_MEMORY: u8 = 6;
 
 /// Does what the words of the command line ask for, without the program's name, and gives the status: `session` answers
 /// the requests of the source without functions of a host, `once DIR ENTRY LOAD..` compiles a folder of the disk and
 /// writes its CSS alone, or the line of its fault, and `poll DIR ENTRY LOAD..` reads and compiles it at each line `scan`
 /// of the source; `make N` compiles the made folder of this number and its edits and writes their summary. The audience is
 /// told of the reply to each compile, once it is written, and of those of `make` as they are formed. Words in no such form
-/// give 7, and nothing is read, written, run or told.
+/// give 7, and nothing is read, written, run or told; nor is it where no memory is found to read the words, which gives 6.
 pub fn run<S: Source, K: Sink, D: Disk, E: Engine, T: Audience<Reply>>(
     alloc: Global,
     words: &[Name],
@@ -48,9 +52,10 @@ pub fn run<S: Source, K: Sink, D: Disk, E: Engine, T: Audience<Reply>>(
     ensures sink_fault { result ≡ 5 → Rose (K.faults output.old.sink) (K.faults output.new.sink) }
     ensures disk_fault { result ≡ 8 → Rose (D.faults disk.old) (D.faults disk.new) }
 {
-    match command_of(words) {
-        None => NO_COMMAND,
-        Some(command) => carry_out(alloc, command, source, output, disk, engine),
+    match read_words(alloc, words) {
+        Ok(None) => NO_COMMAND,
+        Ok(Some(asked)) => carry_out(alloc, asked.command(), source, output, disk, engine),
+        Err(Memory) => NO_MEMORY,
     }
 }
 

@@ -1,2 +1,3 @@
 mod Going
 mod Parts
+mod Summing

@@ -1,7 +1,6 @@
 -- The folder of a made workload, what its compiles give, and what is told of them in the end. This project's own rule.
-use Rattle.std.specs.Prelude.{◌≡◌, ℕ, suc, zero, ◌+◌, List, [], ◌∷◌, ◌++◌, length, codes, None, Result}
+use Rattle.std.specs.Prelude.{◌≡◌, ℕ, suc, zero, ◌+◌, List, [], ◌∷◌, ◌++◌, length, None, Result}
 use Rattle.std.specs.FinMap.{empty}
-use Rattle.std.specs.Fmt.{decimal}
 use Rattle.sw_text.specs.declared.fault.Fault.{Fault}
 use Rattle.sw_folder.specs.Files.{Files}
 use Rattle.sw_folder.specs.Edits.{after_put, folder_after}
@@ -14,7 +13,7 @@ use Rattle.sw_record.specs.declared.reply.Reply.{Reply}
 use Rattle.sw_record.specs.Ran.{Ran}
 use Rattle.sw_keeper.specs.Compile.{Compile, compiled, paths_of}
 use Rattle.sw_keeper.specs.Keeping.{Keeping, table_of, kept_after}
-use Rattle.sw_make.specs.Texts.{lib_path, lib_text, parts_of, width_of, part_path, part_text, main_path, main_text, edited_place, edited_width}
+use Rattle.sw_made.specs.Texts.{lib_path, lib_text, parts_of, width_of, part_path, part_text, main_path, main_text, edited_place, edited_width, summary}
 
 -- without functions of a host
 abbrev pub hostless : (List ℕ → List ℕ → Result Sheet Fault) → BodyOf → Setting
@@ -99,12 +98,6 @@ abbrev pub css_after : ℕ → List Reply → ℕ
 css_after before [] = before
 css_after before (reply ∷ replies) = css_after (css_length reply.outcome) replies
 
--- what is told in the end: of the parts, with the sheet that they use and the one that uses them; of the compiles; of
--- the bodies that ran; and of the CSS of the last compile
-abbrev pub summary : ℕ → ℕ → ℕ → List ℕ
-summary modules ran css =
-    codes "modules " ++ decimal modules ++ codes "\ncompiles 51\nran " ++ decimal ran ++ codes "\ncss " ++ decimal css
-    ++ codes "\n"
-
+-- what is told in the end of these replies
 abbrev pub summary_of : ℕ → List Reply → List ℕ
 summary_of number replies = summary (parts_of number + 2) (bodies_in replies) (css_after 0 replies)

@@ -5,7 +5,6 @@
 mod ending;
 mod making;
 mod tally;
-mod texts;
 mod workload;
 
 pub use ending::Ending;

@@ -1,16 +1,16 @@
 // A made workload as a whole.
 ghost use Rattle.std.specs.Prelude.{◌≡◌, ◌+◌, IfOk, OnErr};
 ghost use Rattle.sw_io.specs.Causes.{Rose};
-ghost use Rattle.sw_make.specs.Texts.{parts_of};
-ghost use Rattle.sw_make.specs.Made.{hostless, summary};
+ghost use Rattle.sw_made.specs.Texts.{parts_of, summary};
+ghost use Rattle.sw_make.specs.Made.{hostless};
 ghost use Rattle.sw_make.specs.Ends.{standing, Counts, BreaksOff, EndsBy, WritesBy};
 
-use crate::texts::{parts_of, summary};
 use crate::workload::{compile, edit, folder_made};
 use crate::{Ending, Tally};
 use std::alloc::Global;
 use sw_io::Sink;
 use sw_keeper::Reader;
+use sw_made::{parts_of, summary};
 use sw_protocol::{Audience, Output, send};
 use sw_record::Reply;
 use sw_text::Memory;

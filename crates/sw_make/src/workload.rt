@@ -1,15 +1,16 @@
 // The folder of a made workload, and its compiles.
 ghost use Rattle.std.specs.Prelude.{◌≡◌, ◌++◌, [], List, ℕ, IfOk, OnOk, OnErr};
 ghost use Rattle.sw_keeper.specs.Compile.{paths_of};
+ghost use Rattle.sw_made.specs.Texts.{parts_of, part_path, part_text};
 ghost use Rattle.sw_make.specs.Made.{hostless, with_file, with_parts, made, edited, after_compile, IsReply};
 
-use crate::texts::{
-    LIB_PATH, LIB_TEXT, MAIN_PATH, edited_place, edited_width, main_text, part_path, part_text,
-    parts_of, width_of,
-};
 use std::alloc::Global;
 use sw_folder::EditFault;
 use sw_keeper::{Keeper, Reader};
+use sw_made::{
+    LIB_PATH, LIB_TEXT, MAIN_PATH, edited_place, edited_width, main_text, part_path, part_text,
+    parts_of, width_of,
+};
 use sw_record::Reply;
 use sw_text::{Memory, Name};
 use sw_world::{Engine, NoHosts};

@@ -50,7 +50,7 @@ pub fn hub_of(alloc: Global, row: &Row) -> Result<Hub<MemReporter>, AllocError> 
     Ok(hub)
 }
 
-/// What the reporters of a row have heard.
+/// What the reporters of a row have heard. Each is taken off, and then no number has one.
 pub fn heard_by(
     alloc: Global,
     row: &Row,
@@ -61,8 +61,12 @@ pub fn heard_by(
     for _ in row.listeners.iter() {
         let is_silent = hub.silent(number);
         if let Some(reporter) = hub.detach(number) {
-            let count = reporter.count().unwrap_or(u64::MAX);
-            all.push(Heard { count, is_silent })?;
+            let is_off = hub.detach(number).is_none() && !hub.silent(number);
+            let count = if is_off { reporter.count() } else { None };
+            all.push(Heard {
+                count: count.unwrap_or(u64::MAX),
+                is_silent,
+            })?;
         }
         number = number.saturating_add(1);
     }

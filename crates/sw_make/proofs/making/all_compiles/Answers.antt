@@ -2,13 +2,13 @@ use Rattle.std.proofs.Common.{◌≡◌, ℕ, [], refl, sym, subst, arith}
 use Rattle.std.proofs.lemmas.List.{append-nil}
 use Rattle.sw_make.specs.Made.{hostless}
 use Rattle.sw_make.specs.Ends.{standing, Counts}
-use Rattle.sw_make.proofs.Going.{going_start, nothing_yet, going_breaks, uncounted, going_on}
+use Rattle.sw_make.proofs.Going.{going_start, nothing_yet, on_err, going_breaks, uncounted, going_on}
 use Rattle.sw_make.proofs.making.all_compiles.Goals as goal
 
 pub returns-in_err-keeper-clause-err : goal.returns-in_err-keeper-clause-err
 returns-in_err-keeper-clause-err g c =
-    nothing_yet (hostless g.R.Reader.reads g.E.Engine.body) c.args.number g.T.Audience.hears
-    (standing (g.E.Engine.ran c.args.engine.now) (g.T.Audience.state c.args.audience.now))
+    on_err c.from_residual.result (nothing_yet (hostless g.R.Reader.reads g.E.Engine.body) c.args.number g.T.Audience.hears
+    (standing (g.E.Engine.ran c.args.engine.now) (g.T.Audience.state c.args.audience.now)))
 
 pub turns-init : goal.turns-init
 turns-init g c =
@@ -17,28 +17,28 @@ turns-init g c =
 
 pub returns-in_err-edit-clause-err : goal.returns-in_err-edit-clause-err
 returns-in_err-edit-clause-err g c =
-    going_breaks (hostless g.R.Reader.reads g.E.Engine.body) c.args.number g.T.Audience.hears c.turns.tally c.turns.keeper c.turns.turn
+    on_err c.from_residual-in_err-edit.result (going_breaks (hostless g.R.Reader.reads g.E.Engine.body) c.args.number g.T.Audience.hears c.turns.tally c.turns.keeper c.turns.turn
     (standing (g.E.Engine.ran c.args.engine.now) (g.T.Audience.state c.args.audience.now)) (standing (g.E.Engine.ran c.turns.engine) (g.T.Audience.state c.turns.audience)) c.turns.invariant
-    (standing (g.E.Engine.ran c.turns.engine) (g.T.Audience.state c.turns.audience)) [] (omega arith) (sym (append-nil (g.E.Engine.ran c.turns.engine))) refl
+    (standing (g.E.Engine.ran c.turns.engine) (g.T.Audience.state c.turns.audience)) [] (omega arith) (sym (append-nil (g.E.Engine.ran c.turns.engine))) refl)
 
 pub returns-in_err-reply-clause-err : goal.returns-in_err-reply-clause-err
 returns-in_err-reply-clause-err g c =
-    going_breaks (hostless g.R.Reader.reads g.E.Engine.body) c.args.number g.T.Audience.hears c.turns.tally c.turns.keeper c.turns.turn
+    on_err c.from_residual-in_err-reply.result (going_breaks (hostless g.R.Reader.reads g.E.Engine.body) c.args.number g.T.Audience.hears c.turns.tally c.turns.keeper c.turns.turn
     (standing (g.E.Engine.ran c.args.engine.now) (g.T.Audience.state c.args.audience.now)) (standing (g.E.Engine.ran c.turns.engine) (g.T.Audience.state c.turns.audience)) c.turns.invariant
-    (standing (g.E.Engine.ran c.compile-reply.new.engine) (g.T.Audience.state c.turns.audience)) c.in_err-reply.ensures.cut.0 (omega arith) c.in_err-reply.ensures.cut.1 refl
+    (standing (g.E.Engine.ran c.compile.new.engine) (g.T.Audience.state c.turns.audience)) c.in_err-reply.ensures.cut.0 (omega arith) c.in_err-reply.ensures.cut.1 refl)
 
 pub returns-in_err-count-clause-err : goal.returns-in_err-count-clause-err
 returns-in_err-count-clause-err g c =
-    uncounted (hostless g.R.Reader.reads g.E.Engine.body) c.args.number g.T.Audience.hears c.turns.tally c.turns.keeper c.turns.turn
+    on_err c.from_residual-in_err-count.result (uncounted (hostless g.R.Reader.reads g.E.Engine.body) c.args.number g.T.Audience.hears c.turns.tally c.turns.keeper c.turns.turn
     (standing (g.E.Engine.ran c.args.engine.now) (g.T.Audience.state c.args.audience.now)) (standing (g.E.Engine.ran c.turns.engine) (g.T.Audience.state c.turns.audience)) c.turns.invariant
-    c.edit.new.keeper c.compile-reply.new.keeper c.in_ok-reply.reply (standing (g.E.Engine.ran c.compile-reply.new.engine) (g.T.Audience.state c.hear.new.self))
-    c.in_ok-edit.ensures.folder c.edit.ensures.kept c.in_ok-reply.ensures.reply c.in_ok-reply.ensures.after c.in_ok-reply.ensures.ran c.hear.ensures (omega arith)
+    c.edit.new.keeper c.compile.new.keeper c.in_ok-reply.reply (standing (g.E.Engine.ran c.compile.new.engine) (g.T.Audience.state c.hear.new.self))
+    c.in_ok-edit.ensures.folder c.edit.ensures.kept c.in_ok-reply.ensures.reply c.in_ok-reply.ensures.after c.in_ok-reply.ensures.ran c.hear.ensures (omega arith))
 
 pub turns-preserved : goal.turns-preserved
 turns-preserved g c =
     going_on (hostless g.R.Reader.reads g.E.Engine.body) c.args.number g.T.Audience.hears c.turns.tally c.turns.keeper c.turns.turn
     (standing (g.E.Engine.ran c.args.engine.now) (g.T.Audience.state c.args.audience.now)) (standing (g.E.Engine.ran c.turns.engine) (g.T.Audience.state c.turns.audience)) c.turns.invariant
-    c.edit.new.keeper c.compile-reply.new.keeper c.in_ok-reply.reply (standing (g.E.Engine.ran c.compile-reply.new.engine) (g.T.Audience.state c.hear.new.self))
+    c.edit.new.keeper c.compile.new.keeper c.in_ok-reply.reply (standing (g.E.Engine.ran c.compile.new.engine) (g.T.Audience.state c.hear.new.self))
     c.in_ok-edit.ensures.folder c.edit.ensures.kept c.in_ok-reply.ensures.reply c.in_ok-reply.ensures.after c.in_ok-reply.ensures.ran c.hear.ensures c.count.new.self c.in_ok-count.ensures.ran c.in_ok-count.ensures.css
 
 pub returns-clause-ok : goal.returns-clause-ok

@@ -1,9 +1,12 @@
-use Rattle.std.proofs.Common.{sym, ap, ◌∙◌}
-use Rattle.sw_make.specs.Texts.{part_path, part_text, width_of}
-use Rattle.sw_make.specs.Made.{with_file}
-use Rattle.sw_folder.specs.Files.{Files}
-use Rattle.sw_make.proofs.Parts.{no_parts, parts_more}
+use Rattle.std.proofs.Common.{refl, sym, ap, ◌∙◌}
+use Rattle.sw_make.proofs.Parts.{no_parts, part_put}
 use Rattle.sw_make.proofs.workload.put_parts.Goals as goal
 
-pub parts-init-clause-folder : goal.parts-init-clause-folder
-parts-init-clause-folder g c = sym (no_parts c.args.number c.args.keeper.now.folder)
+pub parts-init : goal.parts-init
+parts-init g c = record { folder = sym (no_parts c.args.number c.args.keeper.now.folder); kept = refl }
+
+pub parts-preserved : goal.parts-preserved
+parts-preserved g c = record {
+  folder = part_put c.args.number c.parts.place c.width_of.result c.args.keeper.now.folder c.parts.keeper.folder c.put_part.new.keeper.folder c.width_of.ensures c.parts.invariant.folder c.in_ok-put_part.ensures.folder;
+  kept = c.put_part.ensures.kept ∙ c.parts.invariant.kept;
+}

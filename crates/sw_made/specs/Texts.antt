@@ -1,4 +1,4 @@
--- The texts of a made folder. This project's own rule.
+-- The texts of a made folder and of its summary. This project's own rule.
 use Rattle.std.specs.Prelude.{ℕ, suc, zero, ◌+◌, ◌*◌, ◌%◌, List, [], ◌++◌, codes}
 use Rattle.std.specs.Fmt.{decimal}
 
@@ -22,13 +22,16 @@ part_path place = codes "m" ++ decimal place ++ codes ".scss"
 
 abbrev pub part_text : ℕ → ℕ → List ℕ
 part_text place width =
-    codes "@use \"lib\"; @include lib.bump(" ++ decimal width ++ codes "); .m" ++ decimal place
+    codes "@use \"lib\"; @include lib.bump(" ++ decimal width ++ codes ");" ++ (codes " .m" ++ decimal place)
     ++ codes " { w: lib.$c; }"
+
+abbrev pub use_text : ℕ → List ℕ
+use_text place = codes " @use \"m" ++ decimal place ++ codes "\";"
 
 -- the parts are used in order
 unfoldable pub uses : ℕ → List ℕ
 uses zero = []
-uses (suc place) = uses place ++ (codes " @use \"m" ++ decimal place ++ codes "\";")
+uses (suc place) = uses place ++ use_text place
 
 abbrev pub main_path : List ℕ
 main_path = codes "main.scss"
@@ -42,3 +45,12 @@ edited_place number turn = (number + 13 * turn) % parts_of number
 
 abbrev pub edited_width : ℕ → ℕ → ℕ
 edited_width number turn = (number + 7 * edited_place number turn + turn) % 100
+
+-- what was done: the parts, with the sheet that they use and the one that uses them; the compiles; the bodies that ran
+abbrev pub work_text : ℕ → ℕ → List ℕ
+work_text modules ran =
+    codes "modules " ++ decimal modules ++ codes "\ncompiles 51\n" ++ (codes "ran " ++ decimal ran ++ codes "\n")
+
+-- what is told in the end: of this, and of the CSS of the last compile
+abbrev pub summary : ℕ → ℕ → ℕ → List ℕ
+summary modules ran css = work_text modules ran ++ (codes "css " ++ decimal css ++ codes "\n")
