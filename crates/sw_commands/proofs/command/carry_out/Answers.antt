@@ -71,17 +71,17 @@ returns-in-Poll-clause-no_outside g c = λ number n. let bad : Poll (target_seen
 
 pub returns-in-Make-clause-runs : goal.returns-in-Make-clause-runs
 returns-in-Make-clause-runs g c =
-    runs_as (hostless g.E.Engine.body) g.T.Audience.hears c.status.result
+    runs_as (hostless g.E.Engine.body) g.T.Audience.hears c.status-in-Make.result
     (surroundings (g.S.Source.left c.args.source.now) (g.K.Sink.written c.args.output.now.sink) (g.D.Disk.course c.args.disk.now) (g.E.Engine.ran c.args.engine.now))
     (surroundings (g.S.Source.left c.args.source.now) (g.K.Sink.written c.make.new.output.sink) (g.D.Disk.course c.args.disk.now) (g.E.Engine.ran c.make.new.engine))
     (g.T.Audience.state c.args.output.now.audience) (g.T.Audience.state c.make.new.output.audience) c.args.command (code.Make c.in-Make.number) c.in-Make.is
-    (record { ending = c.make.result; ends = c.make.ensures.ends; tells = c.status.ensures; left = refl; course = refl })
+    (record { ending = c.make.result; ends = c.make.ensures.ends; tells = c.status-in-Make.ensures; left = refl; course = refl })
 
 pub returns-in-Make-clause-source_fault : goal.returns-in-Make-clause-source_fault
-returns-in-Make-clause-source_fault g c = λ e. absurd (made_not_source c.make.result (sym c.status.ensures ∙ e))
+returns-in-Make-clause-source_fault g c = λ e. absurd (made_not_source c.make.result (sym c.status-in-Make.ensures ∙ e))
 
 pub returns-in-Make-clause-sink_fault : goal.returns-in-Make-clause-sink_fault
-returns-in-Make-clause-sink_fault g c = λ e. c.make.ensures.sink_fault (of_made_sink c.make.result (sym c.status.ensures ∙ e))
+returns-in-Make-clause-sink_fault g c = λ e. c.make.ensures.sink_fault (of_made_sink c.make.result (sym c.status-in-Make.ensures ∙ e))
 
 pub returns-in-Make-clause-disk_fault : goal.returns-in-Make-clause-disk_fault
-returns-in-Make-clause-disk_fault g c = λ e. absurd (made_not_disk c.make.result (sym c.status.ensures ∙ e))
+returns-in-Make-clause-disk_fault g c = λ e. absurd (made_not_disk c.make.result (sym c.status-in-Make.ensures ∙ e))

@@ -35,10 +35,14 @@ returns-in-Scan-clause-source_cause g c = record { later = omega arith; rose = n
 
 pub returns-in-End-clause-err : goal.returns-in-End-clause-err
 returns-in-End-clause-err g c =
-    line_closes (hostless g.E.Engine.body) c.args.lines.now.line.items c.args.lines.now.reader _ _ (g.K.Sink.written c.args.sink.now) _ _
+    let written = g.K.Sink.written c.args.sink.now in
+    let s = standing (held (target_seen c.args.poll.now.target) (g.D.Disk.course c.args.disk.now c.args.poll.now.target.dir.now) c.args.poll.now.watched.kept) (g.E.Engine.ran c.args.engine.now) in
+    line_closes (hostless g.E.Engine.body) c.args.lines.now.line.items c.args.lines.now.reader (g.S.Source.left c.args.source.now) written written s s
     (sym (ap word_of c.deref.ensures.value) ∙ sym c.word_of.ensures ∙ c.in-End.is)
 
 pub returns-in-Other-clause-err : goal.returns-in-Other-clause-err
 returns-in-Other-clause-err g c =
-    line_is_wrong (hostless g.E.Engine.body) c.args.lines.now.line.items c.args.lines.now.reader _ _ (g.K.Sink.written c.args.sink.now) _ _
+    let written = g.K.Sink.written c.args.sink.now in
+    let s = standing (held (target_seen c.args.poll.now.target) (g.D.Disk.course c.args.disk.now c.args.poll.now.target.dir.now) c.args.poll.now.watched.kept) (g.E.Engine.ran c.args.engine.now) in
+    line_is_wrong (hostless g.E.Engine.body) c.args.lines.now.line.items c.args.lines.now.reader (g.S.Source.left c.args.source.now) written written s s
     (sym (ap word_of c.deref.ensures.value) ∙ sym c.word_of.ensures ∙ c.in-Other.is)
