@@ -31,4 +31,5 @@ module _ {State : Type 0} (setting : Setting) (number : ℕ) (hears : Hearing Re
       told = c.compiles.told ∙ sym (append-nil (before.ran ++ paths_in c.compiles.replies));
       heard = c.compiles.heard;
     },
-    w)
+    w,
+  )
