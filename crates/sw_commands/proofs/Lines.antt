@@ -1,5 +1,5 @@
 -- What comes of a poll's line.
-use Rattle.std.proofs.Common.{◌≡◌, ◌≤◌, ℕ, List, [], length, inl, inr, refl, ap}
+use Rattle.std.proofs.Common.{◌≡◌, ◌≤◌, ℕ, List, [], length, inr, refl, ap}
 use Rattle.std.specs.declared.option.Option.{Option}
 use Rattle.sw_io.proofs.Reading.{reads_none}
 use Rattle.sw_modules.specs.Fresh.{Setting}

@@ -1,5 +1,5 @@
 -- What the words ask for is done.
-use Rattle.std.proofs.Common.{◌≡◌, ◌≢◌, ℕ, List, [], ◌++◌, Option, None, Some, inl, refl, sym, ap, ◌∙◌, subst, arith}
+use Rattle.std.proofs.Common.{◌≡◌, ◌≢◌, ℕ, [], ◌++◌, Option, None, Some, inl, refl, sym, ap, ◌∙◌, subst, arith}
 use Rattle.std.proofs.lemmas.List.{append-nil}
 use Rattle.sw_command_line.specs.declared.command.Command.{Command}
 use Rattle.sw_command_line.specs.Forms.{Form, Target, Session, Once, Poll, Make, form_seen}

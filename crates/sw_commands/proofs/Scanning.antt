@@ -7,20 +7,17 @@ use Rattle.sw_io.specs.Disks.{Course}
 use Rattle.sw_folder.specs.Files.{Files}
 use Rattle.sw_folders.specs.Held.{IsRead, IsBrokenOff}
 use Rattle.sw_command_line.specs.Forms.{Target}
-use Rattle.sw_wire.specs.Replies.{reply_text, says_text, ran_text, outcome_text, memory_text}
-use Rattle.sw_world.specs.declared.op.Saying.{Saying}
+use Rattle.sw_wire.specs.Replies.{reply_text, memory_text}
 use Rattle.sw_modules.specs.Fresh.{Setting}
-use Rattle.sw_record.specs.declared.reply.Outcome.{Outcome}
 use Rattle.sw_record.specs.declared.reply.Reply.{Reply}
-use Rattle.sw_keeper.specs.Compile.{Compile as Compiled, compiled, CompilesTo}
+use Rattle.sw_keeper.specs.Compile.{compiled, CompilesTo}
 use Rattle.sw_keeper.specs.Keeping.{Tables, Keeping}
 use Rattle.sw_protocol.specs.declared.stop.Stop.{Stop}
 use Rattle.sw_protocol.specs.declared.stop.Stop.TheVariants.{Ended, Wrong, CutOff, SourceFailed, SinkFailed, Memory, OutsideFailed, Over as Over_stop}
 use Rattle.sw_protocol.specs.Protocol.{Turn}
-use Rattle.sw_protocol.specs.Turns.{Standing, standing, Does, Says, SaysSome, SaysNothing, SayStops}
+use Rattle.sw_protocol.specs.Turns.{Standing, standing, Does, Says, SaysSome, SayStops}
 use Rattle.sw_protocol.proofs.Writing.{appends_none}
 use Rattle.sw_session.specs.Edits.{SendEnds}
-use Rattle.sw_session.specs.Transcript.{reply_of}
 use Rattle.sw_session.proofs.Turning.{one_reply, reply_is}
 use Rattle.sw_commands.specs.Poll.{Scan, Held, held, Mark, Answered, Refused, Unread, compiled_of, answered_turn, refused_turn, unread_turn, turn_of, IsMark, IsSaid, poll}
 

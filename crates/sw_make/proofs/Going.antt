@@ -1,5 +1,5 @@
 -- The compiles so far, with what was counted and heard of them.
-use Rattle.std.proofs.Common.{◌≡◌, ℕ, suc, zero, ◌+◌, ◌<◌, ◌≤◌, List, [], ◌∷◌, ◌++◌, length, Ok, Err, OnErr, refl, sym, ap, ◌∙◌, subst, append_assoc, arith, zero-add, add-zero, add-one, add_assoc}
+use Rattle.std.proofs.Common.{◌≡◌, ℕ, suc, ◌+◌, ◌<◌, ◌≤◌, List, [], ◌∷◌, ◌++◌, length, Ok, Err, OnErr, refl, sym, ap, ◌∙◌, subst, append_assoc, arith, zero-add, add-zero, add-one, add_assoc}
 use Rattle.std.proofs.lemmas.List.{append-nil}
 use Rattle.std.specs.declared.result.Result.{Result}
 use Rattle.sw_folder.specs.Files.{Files}
@@ -9,8 +9,8 @@ use Rattle.sw_protocol.specs.Heard.{Hearing, HearsAll}
 use Rattle.sw_keeper.specs.Compile.{paths_of}
 use Rattle.sw_keeper.specs.Keeping.{Keeping, Tables}
 use Rattle.sw_make.specs.declared.tally.Tally.{Tally}
-use Rattle.sw_make.specs.Made.{made, edited, at_turn, after_compile, held_after, IsReply, AreReplies, bodies_in, paths_in, css_length, css_after}
-use Rattle.sw_make.specs.Ends.{Standing, standing, Compiles, Counts, BreaksOff}
+use Rattle.sw_make.specs.Made.{made, edited, at_turn, after_compile, held_after, IsReply, bodies_in, paths_in, css_length, css_after}
+use Rattle.sw_make.specs.Ends.{Standing, Compiles, Counts, BreaksOff}
 
 bodies_more : (replies : List Reply) (reply : Reply) → bodies_in (replies ++ reply ∷ []) ≡ bodies_in replies + length reply.ran
 bodies_more [] reply = add-zero (length reply.ran) ∙ sym (zero-add (length reply.ran))

@@ -10,7 +10,7 @@ use Rattle.sw_made.specs.Texts.{parts_of, summary}
 use Rattle.sw_make.specs.declared.ending.Ending.{Ending}
 use Rattle.sw_make.specs.declared.ending.Ending.TheVariants.{Summed, SinkFailed, Memory}
 use Rattle.sw_make.specs.declared.tally.Tally.{Tally}
-use Rattle.sw_make.specs.Made.{paths_in, bodies_in, css_after, summary_of}
+use Rattle.sw_make.specs.Made.{paths_in, bodies_in, summary_of}
 use Rattle.sw_make.specs.Ends.{Standing, Counts, EndsBy, WritesBy}
 
 module _ {State : Type 0} (setting : Setting) (number : ℕ) (hears : Hearing Reply State) (tally : Tally) (before now : Standing State) (written written_now : Option (List ℕ))

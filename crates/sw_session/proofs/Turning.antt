@@ -23,7 +23,6 @@ use Rattle.sw_protocol.specs.declared.stop.Stop.TheVariants.{Ended, Wrong, CutOf
 use Rattle.sw_protocol.specs.Protocol.{Turn}
 use Rattle.sw_protocol.specs.Script.{Whole}
 use Rattle.sw_protocol.specs.Endings.{LastLine}
-use Rattle.sw_protocol.specs.Heard.{told_of}
 use Rattle.sw_protocol.specs.Turns.{Place, place, Standing, standing, Does, Says, SaysSome, SayStops, Takes, Answers, TurnEnds}
 use Rattle.sw_protocol.proofs.Writing.{appends_none}
 use Rattle.sw_session.specs.Script.{Event, Put, Remove, Compile, front_by, last_by, grammar}

@@ -2,7 +2,7 @@ use Rattle.std.proofs.Common.{◌≡◌, [], refl, sym, ◌∙◌}
 use Rattle.sw_session.specs.Sheets.{hostless}
 use Rattle.sw_session.specs.Served as session
 use Rattle.sw_command_line.specs.declared.command.Command.TheVariants as code
-use Rattle.sw_command_line.specs.Forms.{Form, Session, Once, Poll, Make, target_seen}
+use Rattle.sw_command_line.specs.Forms.{Session, Once, Poll, Make, target_seen}
 use Rattle.sw_commands.specs.Run.{surroundings}
 use Rattle.sw_commands.proofs.Running.{runs_as, form_as}
 use Rattle.sw_commands.proofs.Statuses.{no_outside, of_sink, of_disk, not_source, of_made_sink, made_not_source, made_not_disk}

@@ -1,4 +1,4 @@
-use Rattle.std.proofs.Common.{refl, sym, ap, ◌∙◌, arith}
+use Rattle.std.proofs.Common.{sym, ap, ◌∙◌, arith}
 use Rattle.sw_command_line.specs.Forms.{target_seen}
 use Rattle.sw_protocol.specs.Heard.{told_of}
 use Rattle.sw_protocol.specs.Turns.{standing}

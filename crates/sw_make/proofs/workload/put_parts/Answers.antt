@@ -1,4 +1,4 @@
-use Rattle.std.proofs.Common.{refl, sym, ap, ◌∙◌}
+use Rattle.std.proofs.Common.{refl, sym, ◌∙◌}
 use Rattle.sw_make.proofs.Parts.{no_parts, part_put}
 use Rattle.sw_make.proofs.workload.put_parts.Goals as goal
 
