@@ -4,17 +4,18 @@
 # its @extend is Sass of modules (the lines with @extend are left out for all three). A made system of 400 modules, of ten rules with 20 names
 # of two other modules each; sassc, which reads no @use, gets the same sheets with @import and a prefix for each module's names. Then an edit
 # of one of the modules that nothing else uses: a session's next compile, against a compile of the others from nothing.
-# The fastest of five runs counts. Where one of the two is missing, it is left out.
+# The least processor time of five runs counts, which other load on the machine changes less than what a clock shows. Where one of the two
+# is missing, it is left out.
 # Usage: others.sh PROGRAM
 set -eu
 exec python3 - "$(realpath "$1")" <<'END'
 import os
 import re
+import resource
 import shutil
 import subprocess
 import sys
 import tempfile
-import time
 
 BOOTSTRAP = "/usr/share/sass/bootstrap"
 MODULES, RULES, RUNS = 400, 10, 5
@@ -38,16 +39,28 @@ def joined(path):
     return "".join(lines)
 
 
+def of_children():
+    """The processor seconds of all that ran and ended."""
+    used = resource.getrusage(resource.RUSAGE_CHILDREN)
+    return used.ru_utime + used.ru_stime
+
+
+def of_running(process):
+    """The processor seconds of a process that still runs."""
+    with open(f"/proc/{process.pid}/schedstat") as file:
+        return int(file.read().split()[0]) / 1e9
+
+
 def fastest(words):
-    """The seconds of the fastest run; none where one had no end in time."""
+    """The processor seconds of the fastest run; none where one had no end in time."""
     times = []
     for _ in range(RUNS):
-        begun = time.perf_counter()
+        begun = of_children()
         try:
             done = subprocess.run(words, stdout=subprocess.PIPE, stderr=subprocess.PIPE, timeout=MOST_SECONDS)
         except subprocess.TimeoutExpired:
             return None
-        times.append(time.perf_counter() - begun)
+        times.append(of_children() - begun)
         assert done.returncode == 0, (words, done.stderr[-400:], done.stdout[-400:])
     return min(times)
 
@@ -97,7 +110,7 @@ class Session:
         assert self.process.stdout.readline() == b"ok\n"
 
     def compile(self):
-        begun = time.perf_counter()
+        begun = of_running(self.process)
         self.process.stdin.write(b"compile main.scss\n")
         self.process.stdin.flush()
         ran = 0
@@ -106,11 +119,11 @@ class Session:
         word, count = line.split()
         assert word == b"css", line
         self.process.stdout.read(int(count) + 1)
-        return time.perf_counter() - begun, ran
+        return of_running(self.process) - begun, ran
 
 
 def edited(program, files):
-    """The seconds of the fastest compile behind an edit of one module, of which the entry knows no name."""
+    """The processor seconds of the fastest compile behind an edit of one module, of which the entry knows no name."""
     session = Session(program, files)
     session.compile()
     times = []
