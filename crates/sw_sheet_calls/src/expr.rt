@@ -27,12 +27,16 @@ fn add_kind(writer: &mut Writer, kind: &ExprKind) {
         ExprKind::Parent => writer.text("&"),
         ExprKind::Important => writer.text("!important"),
         ExprKind::Call { callee, arguments } => {
-            add_call(writer, callee.get(), arguments.as_slice());
+            add_callee(writer, callee.get());
+            add_passed(writer, arguments.as_slice());
         }
         ExprKind::Prefixed { signs, operand } => {
             add_prefixed(writer, signs.as_slice(), operand.get());
         }
-        ExprKind::Chain { first, rest } => add_chain(writer, first.get(), rest.as_slice()),
+        ExprKind::Chain { first, rest } => {
+            add_first(writer, first.get());
+            add_links(writer, rest.as_slice());
+        }
         ExprKind::List {
             items,
             separator,
@@ -89,15 +93,20 @@ pub fn add_text(writer: &mut Writer, text: &Text) {
     writer.mark(&text.span);
 }
 
-// `(call name argument argument)`
+// `(call name`
 #[cycle(expr)]
-fn add_call(writer: &mut Writer, callee: &Callee, arguments: &[Argument]) {
+fn add_callee(writer: &mut Writer, callee: &Callee) {
     writer.text("(call ");
     if let Some(namespace) = &callee.namespace {
         add_namespace(writer, namespace);
     }
     add_parts(writer, &callee.name.parts);
     writer.mark(&callee.name.span);
+}
+
+// ` argument argument)`
+#[cycle(expr)]
+fn add_passed(writer: &mut Writer, arguments: &[Argument]) {
     add_spaced(writer, arguments);
     writer.text(")");
 }
@@ -135,16 +144,26 @@ fn add_signs(writer: &mut Writer, signs: &[Sign]) {
     }
 }
 
-// `(op first + operand - operand)`
+// `(op first`
 #[cycle(expr)]
-fn add_chain(writer: &mut Writer, first: &Expr, links: &[Link]) {
+fn add_first(writer: &mut Writer, first: &Expr) {
     writer.text("(op ");
     add_expr(writer, first);
+}
+
+// ` + operand - operand)`
+#[cycle(expr)]
+fn add_links(writer: &mut Writer, links: &[Link]) {
     for link in links {
-        writer.text(operator_name(link.operator));
-        add_expr(writer, &link.operand);
+        add_link(writer, link);
     }
     writer.text(")");
+}
+
+#[cycle(expr)]
+fn add_link(writer: &mut Writer, link: &Link) {
+    writer.text(operator_name(link.operator));
+    add_expr(writer, &link.operand);
 }
 
 #[cycle(expr)]

@@ -11,13 +11,14 @@ const MOST: usize = 10_000_000;
 
 /// A text as that of a sheet.
 pub fn text_of_sheet(alloc: Global, text: &str) -> Result<Shared<SheetText>, Refusal> {
-    if text.len() > MOST {
-        return Err(Refusal::NoCall);
-    }
-    Ok(Shared::new(alloc, sheet_text(alloc, text)?)?)
+    let text = sheet_text(alloc, text)?;
+    Ok(Shared::new(alloc, text)?)
 }
 
 fn sheet_text(alloc: Global, text: &str) -> Result<SheetText, Refusal> {
+    if text.len() > MOST {
+        return Err(Refusal::NoCall);
+    }
     let path = Name::new(alloc, "a.scss")?;
     let text = Name::new(alloc, text)?;
     Ok(SheetText::new(alloc, path, text)?)
