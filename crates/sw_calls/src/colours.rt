@@ -17,26 +17,35 @@ const ONE: i128 = 10_000_000_000;
 const HUNDRED: i128 = 1_000_000_000_000;
 
 pub fn answer(alloc: Global, name: &str, text: &str) -> Result<String, Refusal> {
-    let (left, right) = text.split_once(" ; ").unwrap_or((text, ""));
     match name {
-        "named" => shown(alloc, &found(alloc, Colour::by_name(alloc, text)?)?),
-        "hex" => shown(alloc, &found(alloc, Colour::from_hex(alloc, text)?)?),
-        "of_hsl" => shown(alloc, &of_hsl(alloc, text)?),
-        "equal" | "same" => compared(alloc, name, left, right),
-        "mix" => mixed(alloc, left, right),
-        _ => turned(alloc, name, &colour(alloc, left)?, right),
+        "equal" | "same" => compared(alloc, name, text),
+        "literal" => literal(alloc, text),
+        "hsl" => hsl(alloc, text),
+        _ => shown(alloc, &made(alloc, name, text)?),
     }
 }
 
-fn turned(alloc: Global, name: &str, colour: &Colour, text: &str) -> Result<String, Refusal> {
+// The colour that a call makes.
+fn made(alloc: Global, name: &str, text: &str) -> Result<Colour, Refusal> {
+    let (left, right) = text.split_once(" ; ").unwrap_or((text, ""));
     match name {
-        "colour" => shown(alloc, colour),
-        "literal" => spelt(alloc, &colour.share()?),
-        "hsl" => hsl(alloc, colour),
-        "adjust" => shown(alloc, &adjusted(alloc, colour, text)?),
-        "scale" => shown(alloc, &scaled(alloc, colour, text)?),
+        "named" => named(alloc, text),
+        "hex" => hex(alloc, text),
+        "of_hsl" => of_hsl(alloc, text),
+        "colour" => colour(alloc, text),
+        "mix" => mixed(alloc, left, right),
+        "adjust" => adjusted(alloc, left, right),
+        "scale" => scaled(alloc, left, right),
         _ => Err(Refusal::NoCall),
     }
+}
+
+fn named(alloc: Global, text: &str) -> Result<Colour, Refusal> {
+    found(alloc, Colour::by_name(alloc, text)?)
+}
+
+fn hex(alloc: Global, text: &str) -> Result<Colour, Refusal> {
+    found(alloc, Colour::from_hex(alloc, text)?)
 }
 
 fn found(alloc: Global, colour: Option<Colour>) -> Result<Colour, Refusal> {
@@ -51,9 +60,9 @@ fn colour(alloc: Global, text: &str) -> Result<Colour, Refusal> {
     if let Some((channels, alpha)) = text.rsplit_once(' ') {
         of_channels(alloc, channels, alpha)
     } else if text.starts_with('#') {
-        found(alloc, Colour::from_hex(alloc, text)?)
+        hex(alloc, text)
     } else {
-        found(alloc, Colour::by_name(alloc, text)?)
+        named(alloc, text)
     }
 }
 
@@ -90,24 +99,27 @@ fn of_hsl(alloc: Global, text: &str) -> Result<Colour, Refusal> {
     Ok(Colour::from_hsl(&hsl, alpha_of(alloc, "1")?))
 }
 
-fn compared(alloc: Global, name: &str, left: &str, right: &str) -> Result<String, Refusal> {
+fn compared(alloc: Global, name: &str, text: &str) -> Result<String, Refusal> {
+    let (left, right) = text.split_once(" ; ").unwrap_or((text, ""));
     let left = colour(alloc, left)?;
     let right = colour(alloc, right)?;
-    if name == "same" {
-        yes_or_no(alloc, left.same(&right))
+    let is_so = if name == "same" {
+        left.same(&right)
     } else {
-        yes_or_no(alloc, left.equals(&right))
-    }
+        left.equals(&right)
+    };
+    yes_or_no(alloc, is_so)
 }
 
-fn mixed(alloc: Global, one: &str, rest: &str) -> Result<String, Refusal> {
+fn mixed(alloc: Global, one: &str, rest: &str) -> Result<Colour, Refusal> {
     let (other, weight) = rest.split_once(" ; ").unwrap_or((rest, ""));
     let weight = decimal(alloc, weight)?;
     if weight.mantissa() < 0 || weight.mantissa() > HUNDRED {
         return Err(Refusal::NoCall);
     }
     let one = colour(alloc, one)?;
-    shown(alloc, &mix(&one, &colour(alloc, other)?, weight))
+    let other = colour(alloc, other)?;
+    Ok(mix(&one, &other, weight))
 }
 
 // The amount of a part, as of `alpha` in `hue 20, alpha -0.5`.
@@ -140,7 +152,12 @@ fn names_channels(text: &str) -> bool {
     text.contains("red ") || text.contains("green ") || text.contains("blue ")
 }
 
-fn adjusted(alloc: Global, colour: &Colour, text: &str) -> Result<Colour, Refusal> {
+fn adjusted(alloc: Global, from: &str, text: &str) -> Result<Colour, Refusal> {
+    let by = change(alloc, text)?;
+    Ok(adjust(&colour(alloc, from)?, &by))
+}
+
+fn change(alloc: Global, text: &str) -> Result<Change, Refusal> {
     let mut by = Change::default();
     by.alpha = amount(alloc, text, "alpha")?;
     if names_channels(text) {
@@ -152,10 +169,11 @@ fn adjusted(alloc: Global, colour: &Colour, text: &str) -> Result<Colour, Refusa
         by.saturation = amount(alloc, text, "saturation")?;
         by.lightness = amount(alloc, text, "lightness")?;
     }
-    Ok(adjust(colour, &by))
+    Ok(by)
 }
 
-fn scaled(alloc: Global, colour: &Colour, text: &str) -> Result<Colour, Refusal> {
+fn scaled(alloc: Global, from: &str, text: &str) -> Result<Colour, Refusal> {
+    let colour = colour(alloc, from)?;
     let mut by = Change::default();
     by.alpha = percent(alloc, text, "alpha")?;
     if names_channels(text) {
@@ -166,17 +184,22 @@ fn scaled(alloc: Global, colour: &Colour, text: &str) -> Result<Colour, Refusal>
         by.saturation = percent(alloc, text, "saturation")?;
         by.lightness = percent(alloc, text, "lightness")?;
     }
-    Ok(scale(colour, &by))
+    Ok(scale(&colour, &by))
 }
 
-fn hsl(alloc: Global, colour: &Colour) -> Result<String, Refusal> {
-    let hsl = colour.to_hsl();
-    let mut text = written(alloc, hsl.hue)?;
-    for part in [hsl.saturation, hsl.lightness] {
-        text.push(' ')?;
-        text.push_str(written(alloc, part)?.as_str())?;
-    }
-    Ok(text)
+fn hsl(alloc: Global, text: &str) -> Result<String, Refusal> {
+    let hsl = colour(alloc, text)?.to_hsl();
+    let mut bytes = Vec::new(alloc);
+    hsl.hue.write_into(&mut bytes)?;
+    bytes.push(b' ')?;
+    hsl.saturation.write_into(&mut bytes)?;
+    bytes.push(b' ')?;
+    hsl.lightness.write_into(&mut bytes)?;
+    text_of(alloc, &bytes)
+}
+
+fn literal(alloc: Global, text: &str) -> Result<String, Refusal> {
+    spelt(alloc, &colour(alloc, text)?.share()?)
 }
 
 fn spelt(alloc: Global, colour: &Colour) -> Result<String, Refusal> {

@@ -2,7 +2,7 @@
 // after another, and `failing 2 3 ; FOLDERS ; STEPS`, where the calls of these numbers fail.
 use std::alloc::Global;
 use sw_io::{Disk, DiskEnd, Folder, MemDisk, SteadyDisk};
-use sw_row_files::Refusal;
+use sw_row_files::{Refusal, TextWriter, text_of};
 use sw_text::{List, Name};
 
 // Disks in memory hold the same files under every name.
@@ -57,66 +57,55 @@ fn folder_of(alloc: Global, text: &str) -> Result<Folder, Refusal> {
 }
 
 fn file_of(alloc: Global, path: &str, text: &str) -> Result<(Name, List<u8>), Refusal> {
-    let mut bytes = Vec::new(alloc);
-    bytes.extend_from_slice(text.as_bytes())?;
-    Ok((Name::new(alloc, path)?, List::from_vec(bytes)))
+    let path = Name::new(alloc, path)?;
+    let bytes = text.as_bytes().to_vec(alloc)?;
+    Ok((path, List::from_vec(bytes)))
 }
 
 fn seen<D: Disk>(alloc: Global, disk: &mut D, steps: &str) -> Result<String, Refusal> {
-    let mut text = String::new(alloc);
+    let mut writer = TextWriter::new(alloc);
     for step in steps.split(" | ") {
-        if !text.is_empty() {
-            text.push_str(" | ")?;
+        if !writer.is_empty() {
+            writer.text(" | ");
         }
-        add_step(alloc, disk, step, &mut text)?;
+        add_step(alloc, disk, step, &mut writer);
     }
-    Ok(text)
+    writer.written()
 }
 
-fn add_step<D: Disk>(
-    alloc: Global,
-    disk: &mut D,
-    step: &str,
-    text: &mut String,
-) -> Result<(), Refusal> {
+fn add_step<D: Disk>(alloc: Global, disk: &mut D, step: &str, writer: &mut TextWriter) {
     match step.strip_prefix("read ") {
-        Some(path) => add_bytes(alloc, disk.read(alloc, DIR, path), text),
-        None if step == "list" => add_paths(disk.list(alloc, DIR), text),
-        None => Err(Refusal::NoCall),
+        Some(path) => add_bytes(alloc, disk.read(alloc, DIR, path), writer),
+        None if step == "list" => add_paths(disk.list(alloc, DIR), writer),
+        None => writer.refuse(Refusal::NoCall),
     }
 }
 
-fn add_paths(paths: Result<List<Name>, DiskEnd>, text: &mut String) -> Result<(), Refusal> {
+fn add_paths(paths: Result<List<Name>, DiskEnd>, writer: &mut TextWriter) {
     match paths {
-        Ok(paths) if paths.is_empty() => Ok(text.push_str("nothing")?),
-        Ok(paths) => add_names(paths.as_slice(), text),
-        Err(DiskEnd::Failed) => Ok(text.push_str("failed")?),
-        Err(DiskEnd::Memory) => Err(Refusal::Memory),
+        Ok(paths) => add_names(paths.as_slice(), writer),
+        Err(DiskEnd::Failed) => writer.text("failed"),
+        Err(DiskEnd::Memory) => writer.refuse(Refusal::Memory),
     }
 }
 
-fn add_names(names: &[Name], text: &mut String) -> Result<(), Refusal> {
+fn add_names(names: &[Name], writer: &mut TextWriter) {
+    if names.is_empty() {
+        writer.text("nothing");
+    }
     let mut between = "";
     for name in names {
-        text.push_str(between)?;
-        text.push_str(name.as_str())?;
+        writer.text(between);
+        writer.text(name.as_str());
         between = " ";
     }
-    Ok(())
 }
 
-fn add_bytes(
-    alloc: Global,
-    bytes: Result<Option<List<u8>>, DiskEnd>,
-    text: &mut String,
-) -> Result<(), Refusal> {
+fn add_bytes(alloc: Global, bytes: Result<Option<List<u8>>, DiskEnd>, writer: &mut TextWriter) {
     match bytes {
-        Ok(None) => Ok(text.push_str("none")?),
-        Ok(Some(bytes)) => {
-            let bytes = String::from_utf8_lossy(alloc, bytes.as_slice())?;
-            Ok(text.push_str(bytes.as_str())?)
-        }
-        Err(DiskEnd::Failed) => Ok(text.push_str("failed")?),
-        Err(DiskEnd::Memory) => Err(Refusal::Memory),
+        Ok(None) => writer.text("none"),
+        Ok(Some(bytes)) => writer.add(text_of(alloc, bytes.as_slice())),
+        Err(DiskEnd::Failed) => writer.text("failed"),
+        Err(DiskEnd::Memory) => writer.refuse(Refusal::Memory),
     }
 }

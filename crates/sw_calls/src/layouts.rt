@@ -8,5 +8,6 @@ pub fn answer(alloc: Global, name: &str, text: &str) -> Result<String, Refusal> 
     if name != "layout" {
         return Err(Refusal::NoCall);
     }
-    told(alloc, tokens_of(alloc, &shared(alloc, text)?))
+    let text = shared(alloc, text)?;
+    told(alloc, tokens_of(alloc, &text))
 }

@@ -27,7 +27,7 @@ use sw_row_files::{Libraries, Refusal, ended, run_calls, unescaped};
 struct Below;
 
 impl Libraries for Below {
-    // One line for each library, whose calls are in the file of that name. Where these have escapes they are read here.
+    // One line for each library, whose calls are in the file of that name.
     fn answer(
         &self,
         alloc: Global,
@@ -39,19 +39,26 @@ impl Libraries for Below {
             "colours" => colours::answer(alloc, name, text),
             "decimals" => decimals::answer(alloc, name, text),
             "disks" => disks::answer(alloc, name, text),
-            "layouts" => layouts::answer(alloc, name, unescaped(alloc, text)?.as_str()),
-            "lexemes" => lexemes::answer(alloc, name, unescaped(alloc, text)?.as_str()),
             "numbers" => numbers::answer(alloc, name, text),
             "output" => output::answer(alloc, name, text),
             "paths" => paths::answer(alloc, name, text),
-            "places" => places::answer(alloc, name, unescaped(alloc, text)?.as_str()),
             "queries" => queries::answer(alloc, name, text),
-            "runs" => runs::answer(alloc, name, unescaped(alloc, text)?.as_str()),
-            "selectors" => selectors::answer(alloc, name, unescaped(alloc, text)?.as_str()),
-            "tokens" => tokens::answer(alloc, name, unescaped(alloc, text)?.as_str()),
             "trees" => trees::answer(alloc, name, text),
-            _ => Err(Refusal::NoCall),
+            _ => of_unescaped(alloc, library, name, unescaped(alloc, text)?.as_str()),
         }
+    }
+}
+
+// The same of the libraries whose calls have escapes.
+fn of_unescaped(alloc: Global, library: &str, name: &str, text: &str) -> Result<String, Refusal> {
+    match library {
+        "layouts" => layouts::answer(alloc, name, text),
+        "lexemes" => lexemes::answer(alloc, name, text),
+        "places" => places::answer(alloc, name, text),
+        "runs" => runs::answer(alloc, name, text),
+        "selectors" => selectors::answer(alloc, name, text),
+        "tokens" => tokens::answer(alloc, name, text),
+        _ => Err(Refusal::NoCall),
     }
 }
 

@@ -3,7 +3,7 @@
 use crate::decimals::{decimal, sides, written};
 use std::alloc::Global;
 use sw_fixed::NumberFault;
-use sw_row_files::{Refusal, answer_of, names, order_name, yes_or_no};
+use sw_row_files::{Refusal, TextWriter, answer_of, names, order_name, yes_or_no};
 use sw_units::{
     Number, UnitNames, Units, add, compare, compatible, convert, div, equal, modulo, mul, sub,
 };
@@ -79,27 +79,27 @@ fn units(alloc: Global, text: &str) -> Result<Units, Refusal> {
 }
 
 fn shown(alloc: Global, number: &Number) -> Result<String, Refusal> {
-    let mut text = written(alloc, number.value)?;
+    let mut writer = TextWriter::new(alloc);
+    writer.add(written(alloc, number.value));
     if !number.units.is_unitless() {
-        text.push(' ')?;
-        add_names(&mut text, &number.units.over)?;
+        writer.text(" ");
+        add_names(&mut writer, &number.units.over);
     }
     if !number.units.under.is_empty() {
-        text.push('/')?;
-        add_names(&mut text, &number.units.under)?;
+        writer.text("/");
+        add_names(&mut writer, &number.units.under);
     }
-    Ok(text)
+    writer.written()
 }
 
-fn add_names(text: &mut String, names: &UnitNames) -> Result<(), Refusal> {
+fn add_names(writer: &mut TextWriter, names: &UnitNames) {
     match names {
         UnitNames::Empty => {}
-        UnitNames::One(name) => text.push_str(name.as_str())?,
+        UnitNames::One(name) => writer.text(name.as_str()),
         UnitNames::Two(one, other) => {
-            text.push_str(one.as_str())?;
-            text.push('*')?;
-            text.push_str(other.as_str())?;
+            writer.text(one.as_str());
+            writer.text("*");
+            writer.text(other.as_str());
         }
     }
-    Ok(())
 }

@@ -1,9 +1,9 @@
 // Calls on the output of modules: `output rule a | declare b c | close ; import "x.css"` gives the page, `parts` joins
 // it.
 use std::alloc::Global;
-use sw_css_print::{join, print, print_one};
+use sw_css_print::{Printed, join, print, print_one};
 use sw_css_tree::CssTree;
-use sw_row_files::{Refusal, add_unescaped, answer_of, text_of};
+use sw_row_files::{Refusal, TextWriter, add_unescaped, answer_of, text_of};
 use sw_text::{Name, Shared};
 
 /// Modules are parted by ` ; `, and the calls that one makes by ` | `.
@@ -19,7 +19,7 @@ pub fn answer(alloc: Global, name: &str, text: &str) -> Result<String, Refusal> 
 fn printed(alloc: Global, text: &str) -> Result<Vec<u8>, Refusal> {
     let mut trees = Vec::new(alloc);
     for module in text.split(" ; ") {
-        trees.push(Shared::new(alloc, tree(alloc, module)?)?)?;
+        trees.push(shared_tree(alloc, module)?)?;
     }
     Ok(print(alloc, trees.as_slice())?)
 }
@@ -27,10 +27,18 @@ fn printed(alloc: Global, text: &str) -> Result<Vec<u8>, Refusal> {
 fn joined(alloc: Global, text: &str) -> Result<Vec<u8>, Refusal> {
     let mut parts = Vec::new(alloc);
     for module in text.split(" ; ") {
-        let part = print_one(alloc, &tree(alloc, module)?)?;
-        parts.push(Shared::new(alloc, part)?)?;
+        parts.push(shared_part(alloc, module)?)?;
     }
     Ok(join(alloc, parts.as_slice())?)
+}
+
+fn shared_tree(alloc: Global, calls: &str) -> Result<Shared<CssTree>, Refusal> {
+    Ok(Shared::new(alloc, tree(alloc, calls)?)?)
+}
+
+fn shared_part(alloc: Global, calls: &str) -> Result<Shared<Printed>, Refusal> {
+    let part = print_one(alloc, &tree(alloc, calls)?)?;
+    Ok(Shared::new(alloc, part)?)
 }
 
 // The output of a module that makes these calls. `next` begins another statement.
@@ -60,27 +68,38 @@ fn begin(tree: &mut CssTree, statement: usize) -> Result<(), Refusal> {
 fn make(alloc: Global, tree: &mut CssTree, call: &str) -> Result<(), Refusal> {
     let (name, rest) = call.split_once(' ').unwrap_or((call, ""));
     match name {
-        "rule" => answer_of(alloc, tree.open_rule(text(alloc, rest)?)),
         "root" => answer_of(alloc, tree.open_root()),
         "close" => close(tree),
-        "comment" => answer_of(alloc, tree.comment(text(alloc, rest)?)),
-        "import" => answer_of(alloc, tree.import(text(alloc, rest)?)),
         "message" => answer_of(alloc, tree.message(rest.parse::<u32>()?)),
+        "rule" | "comment" | "import" => make_of_one(alloc, tree, name, rest),
         _ => make_of_two(alloc, tree, name, rest),
     }
+}
+
+// A call that takes a text.
+fn make_of_one(alloc: Global, tree: &mut CssTree, name: &str, rest: &str) -> Result<(), Refusal> {
+    let text = text(alloc, rest)?;
+    let made = match name {
+        "rule" => tree.open_rule(text),
+        "comment" => tree.comment(text),
+        _ => tree.import(text),
+    };
+    answer_of(alloc, made)
 }
 
 // A call that takes two texts, with a space between them.
 fn make_of_two(alloc: Global, tree: &mut CssTree, name: &str, rest: &str) -> Result<(), Refusal> {
     let (one, other) = rest.split_once(' ').unwrap_or((rest, ""));
-    let (one, other) = (text(alloc, one)?, text(alloc, other)?);
-    match name {
-        "at" => answer_of(alloc, tree.open_at(one, other)),
-        "bubble" => answer_of(alloc, tree.bubble(one, other)),
-        "line" => answer_of(alloc, tree.at(one, other)),
-        "declare" if tree.is_open() => answer_of(alloc, tree.declare(one, other)),
-        _ => Err(Refusal::NoCall),
-    }
+    let one = text(alloc, one)?;
+    let other = text(alloc, other)?;
+    let made = match name {
+        "at" => tree.open_at(one, other),
+        "bubble" => tree.bubble(one, other),
+        "line" => tree.at(one, other),
+        "declare" if tree.is_open() => tree.declare(one, other),
+        _ => return Err(Refusal::NoCall),
+    };
+    answer_of(alloc, made)
 }
 
 fn close(tree: &mut CssTree) -> Result<(), Refusal> {
@@ -103,14 +122,13 @@ fn escaped(alloc: Global, bytes: &[u8]) -> Result<String, Refusal> {
     if bytes.is_empty() {
         return Ok(String::from_str(alloc, "nothing")?);
     }
-    let written = text_of(alloc, bytes)?;
-    let mut text = String::new(alloc);
-    for character in written.as_str().chars() {
-        if character == '\n' {
-            text.push_str("\\n")?;
-        } else {
-            text.push(character)?;
+    let page = text_of(alloc, bytes)?;
+    let mut writer = TextWriter::new(alloc);
+    for character in page.as_str().chars() {
+        match character {
+            '\n' => writer.text("\\n"),
+            _ => writer.character(character),
         }
     }
-    Ok(text)
+    writer.written()
 }

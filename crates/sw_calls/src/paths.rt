@@ -2,8 +2,9 @@
 // `resolve main.scss ; lib ; lib.scss a/lib.scss ; a`, which is a sheet, a URL in it, the files of a folder, and load
 // paths.
 use std::alloc::Global;
-use sw_folder::{EditFault, Folder, is_path, unread_fault};
+use sw_folder::{EditFault, Folder, ResolveFault, is_path, unread_fault};
 use sw_row_files::{Refusal, answer_of, names, yes_or_no};
+use sw_text::Name;
 
 pub fn answer(alloc: Global, name: &str, text: &str) -> Result<String, Refusal> {
     match name {
@@ -26,9 +27,13 @@ fn resolved(alloc: Global, text: &str) -> Result<String, Refusal> {
     let (from, rest) = text.split_once(" ; ").unwrap_or((text, ""));
     let (url, rest) = rest.split_once(" ; ").unwrap_or((rest, ""));
     let (files, paths) = rest.split_once(" ; ").unwrap_or((rest, ""));
-    let folder = answer_of(alloc, folder(alloc, files))?;
     let paths = names(alloc, paths, ' ')?;
-    let path = answer_of(alloc, folder.resolve(from, url, &paths))?;
+    let folder = answer_of(alloc, folder(alloc, files))?;
+    path_text(alloc, folder.resolve(from, url, &paths))
+}
+
+fn path_text(alloc: Global, path: Result<Name, ResolveFault>) -> Result<String, Refusal> {
+    let path = answer_of(alloc, path)?;
     Ok(String::from_str(alloc, path.as_str())?)
 }
 

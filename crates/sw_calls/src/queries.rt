@@ -6,18 +6,19 @@ use sw_row_files::{Refusal, answer_of, yes_or_no};
 pub fn answer(alloc: Global, name: &str, text: &str) -> Result<String, Refusal> {
     let (outer, inner) = text.split_once(" ; ").unwrap_or((text, ""));
     match name {
-        "query" => written(alloc, &answer_of(alloc, read(alloc, text))?),
-        "join" => written(alloc, &answer_of(alloc, joined(alloc, outer, inner))?),
-        "is_empty" => yes_or_no(
-            alloc,
-            answer_of(alloc, joined(alloc, outer, inner))?.is_empty(),
-        ),
+        "query" => written(alloc, read(alloc, text)),
+        "join" => written(alloc, joined(alloc, outer, inner)),
+        "is_empty" => is_empty(alloc, joined(alloc, outer, inner)),
         _ => Err(Refusal::NoCall),
     }
 }
 
-fn written(alloc: Global, queries: &Queries) -> Result<String, Refusal> {
-    let text = queries.write(alloc)?;
+fn is_empty(alloc: Global, queries: Result<Queries, MediaFault>) -> Result<String, Refusal> {
+    yes_or_no(alloc, answer_of(alloc, queries)?.is_empty())
+}
+
+fn written(alloc: Global, queries: Result<Queries, MediaFault>) -> Result<String, Refusal> {
+    let text = answer_of(alloc, queries)?.write(alloc)?;
     Ok(String::from_str(alloc, text.as_str())?)
 }
 

@@ -1,27 +1,21 @@
 // Calls on selectors: `selector a>b`, `parts a>b`, `nest a ; &:hover`, `root a ; b`.
 use std::alloc::Global;
-use sw_row_files::{Refusal, answer_of};
+use sw_row_files::{Refusal, TextWriter, answer_of};
 use sw_selector::{SelectorFault, Selectors, nest, read};
 
 pub fn answer(alloc: Global, name: &str, text: &str) -> Result<String, Refusal> {
     let (parent, child) = text.split_once(" ; ").unwrap_or((text, ""));
     match name {
-        "selector" => written(alloc, &answer_of(alloc, read(alloc, text))?),
+        "selector" => written(alloc, read(alloc, text)),
         "parts" => parts(alloc, text),
-        "nest" => written(
-            alloc,
-            &answer_of(alloc, nested(alloc, parent, child, false))?,
-        ),
-        "root" => written(
-            alloc,
-            &answer_of(alloc, nested(alloc, parent, child, true))?,
-        ),
+        "nest" => written(alloc, nested(alloc, parent, child, false)),
+        "root" => written(alloc, nested(alloc, parent, child, true)),
         _ => Err(Refusal::NoCall),
     }
 }
 
-fn written(alloc: Global, selectors: &Selectors) -> Result<String, Refusal> {
-    let text = selectors.write(alloc)?;
+fn written(alloc: Global, selectors: Result<Selectors, SelectorFault>) -> Result<String, Refusal> {
+    let text = answer_of(alloc, selectors)?.write(alloc)?;
     Ok(String::from_str(alloc, text.as_str())?)
 }
 
@@ -44,15 +38,15 @@ fn nested(
 fn parts(alloc: Global, text: &str) -> Result<String, Refusal> {
     let selectors = answer_of(alloc, read(alloc, text))?;
     let all = selectors.parts(alloc)?;
-    let mut out = String::new(alloc);
+    let mut writer = TextWriter::new(alloc);
     let mut before = "";
     for complex in all.as_slice() {
         for part in complex.as_slice() {
-            out.push_str(before)?;
-            out.push_str(part.as_str())?;
+            writer.text(before);
+            writer.text(part.as_str());
             before = " | ";
         }
         before = " || ";
     }
-    Ok(out)
+    writer.written()
 }

@@ -2,7 +2,7 @@
 // the one at a place, `none a` the list without any.
 use crate::places::{ends, sheet};
 use std::alloc::{AllocError, Global};
-use sw_row_files::Refusal;
+use sw_row_files::{Refusal, TextWriter};
 use sw_text::{List, Shared, SheetText};
 use sw_tokens::{Fault10, Syntax, Token, TokenKind, Tokens};
 
@@ -30,7 +30,7 @@ fn all(alloc: Global, text: &str, syntax: Syntax) -> Result<String, Refusal> {
 /// The tokens, or where the fault stands.
 pub fn told(alloc: Global, tokens: Result<Tokens, Fault10>) -> Result<String, Refusal> {
     match tokens {
-        Ok(tokens) => Ok(listed(alloc, &tokens)?),
+        Ok(tokens) => listed(alloc, &tokens),
         Err(Fault10::Memory) => Err(Refusal::Memory),
         Err(Fault10::Fault(fault)) => {
             let ends = ends(alloc, &fault.span)?;
@@ -42,13 +42,20 @@ pub fn told(alloc: Global, tokens: Result<Tokens, Fault10>) -> Result<String, Re
 fn one(alloc: Global, text: &str) -> Result<String, Refusal> {
     let (at, text) = text.split_once(" ; ").unwrap_or((text, ""));
     let at = at.parse::<usize>()?;
-    let sheet = shared(alloc, text)?;
-    let Ok(tokens) = Tokens::of(alloc, &sheet) else {
-        return Err(Refusal::NoCall);
-    };
+    let tokens = tokens(alloc, text)?;
     match tokens.get(at) {
-        Some(token) => Ok(shown(alloc, token)?),
+        Some(token) => shown(alloc, token),
         None => Ok(String::from_str(alloc, "none")?),
+    }
+}
+
+/// The tokens of a text that has them.
+pub fn tokens(alloc: Global, text: &str) -> Result<Tokens, Refusal> {
+    let sheet = shared(alloc, text)?;
+    match Tokens::of(alloc, &sheet) {
+        Ok(tokens) => Ok(tokens),
+        Err(Fault10::Memory) => Err(Refusal::Memory),
+        Err(Fault10::Fault(_)) => Err(Refusal::NoCall),
     }
 }
 
@@ -59,25 +66,23 @@ fn without(alloc: Global, text: &str) -> Result<String, Refusal> {
     Ok(format!(in alloc; "{count} of {text}")?)
 }
 
-fn listed(alloc: Global, tokens: &Tokens) -> Result<String, AllocError> {
-    let mut text = String::new(alloc);
+fn listed(alloc: Global, tokens: &Tokens) -> Result<String, Refusal> {
+    let mut writer = TextWriter::new(alloc);
     for at in 0..tokens.len() {
         if let Some(token) = tokens.get(at) {
-            if at > 0 {
-                text.push(' ')?;
-            }
-            text.push_str(shown(alloc, token)?.as_str())?;
+            writer.text(if at == 0 { "" } else { " " });
+            writer.add(shown(alloc, token));
         }
     }
-    Ok(text)
+    writer.written()
 }
 
 // A token as its kind and its offsets, with `_` before it where white space or a comment stands.
-fn shown(alloc: Global, token: &Token) -> Result<String, AllocError> {
+fn shown(alloc: Global, token: &Token) -> Result<String, Refusal> {
     let mark = if token.spaced { "_" } else { "" };
     let kind = kind(alloc, &token.kind)?;
     let (from, to) = (token.from, token.to);
-    format!(in alloc; "{mark}{kind}{from}-{to}")
+    Ok(format!(in alloc; "{mark}{kind}{from}-{to}")?)
 }
 
 // A kind, with the text of one that has a text.

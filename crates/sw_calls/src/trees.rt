@@ -1,9 +1,9 @@
 // Calls on the trees of sheets: `globals $a: b; $c: d` gives the names that a sheet declares, `same $a: b ; $a: b`
 // whether the sheets of two texts are the same, spans and all.
-use crate::places::sheet;
+use crate::tokens::shared;
 use std::alloc::Global;
 use sw_expr_parse::ReadEnd;
-use sw_row_files::{Refusal, yes_or_no};
+use sw_row_files::{Refusal, TextWriter, yes_or_no};
 use sw_sheet_parse::read;
 use sw_syntax_tree::{Sheet, globals_of};
 use sw_text::Shared;
@@ -18,7 +18,7 @@ pub fn answer(alloc: Global, name: &str, text: &str) -> Result<String, Refusal> 
 }
 
 fn tree(alloc: Global, text: &str) -> Result<Shared<Sheet>, Refusal> {
-    let text = Shared::new(alloc, sheet(alloc, text)?)?;
+    let text = shared(alloc, text)?;
     match read(alloc, &text) {
         Ok(sheet) => Ok(sheet),
         Err(ReadEnd::Fault(_)) => Err(Refusal::named(alloc, "Syntax")?),
@@ -29,14 +29,12 @@ fn tree(alloc: Global, text: &str) -> Result<Shared<Sheet>, Refusal> {
 // The names with a space between two.
 fn globals(alloc: Global, sheet: &Sheet) -> Result<String, Refusal> {
     let names = globals_of(alloc, sheet)?;
-    let mut text = String::new(alloc);
-    for name in names.as_slice() {
-        if !text.is_empty() {
-            text.push(' ')?;
-        }
-        text.push_str(name.as_str())?;
+    let mut writer = TextWriter::new(alloc);
+    for (at, name) in names.as_slice().iter().enumerate() {
+        writer.text(if at == 0 { "" } else { " " });
+        writer.text(name.as_str());
     }
-    Ok(text)
+    writer.written()
 }
 
 fn compared(alloc: Global, left: &str, right: &str) -> Result<String, Refusal> {

@@ -8,6 +8,7 @@ mod files;
 mod refusal;
 mod tally;
 mod texts;
+mod writer;
 
 pub use calls::{Libraries, run_calls};
 pub use escapes::{add_unescaped, unescaped};
@@ -15,3 +16,4 @@ pub use files::{file_text, folder, row_files};
 pub use refusal::{Refusal, answer_of};
 pub use tally::{Tally, ended};
 pub use texts::{names, order_name, text_of, yes_or_no};
+pub use writer::TextWriter;

@@ -4,16 +4,16 @@ use sw_syntax_tree::{
     Argument, Around, Callee, Constant, Expr, ExprKind, Link, Namespaced, Number, Operator, Pair,
     Parts, Piece, Qualified, Separator, Sign, Text,
 };
-use sw_text::{Memory, Name};
+use sw_text::Name;
 
 #[cycle(expr)]
-pub fn add_expr(writer: &mut Writer, expr: &Expr) -> Result<(), Memory> {
-    add_kind(writer, &expr.kind)?;
-    writer.mark(&expr.span)
+pub fn add_expr(writer: &mut Writer, expr: &Expr) {
+    add_kind(writer, &expr.kind);
+    writer.mark(&expr.span);
 }
 
 #[cycle(expr)]
-fn add_kind(writer: &mut Writer, kind: &ExprKind) -> Result<(), Memory> {
+fn add_kind(writer: &mut Writer, kind: &ExprKind) {
     match kind {
         ExprKind::Number(number) => add_number(writer, number),
         ExprKind::Quoted(parts) => add_between(writer, "\"", parts, "\""),
@@ -27,41 +27,36 @@ fn add_kind(writer: &mut Writer, kind: &ExprKind) -> Result<(), Memory> {
         ExprKind::Parent => writer.text("&"),
         ExprKind::Important => writer.text("!important"),
         ExprKind::Call { callee, arguments } => {
-            add_callee(writer, callee.get())?;
-            add_passed(writer, arguments.as_slice())
+            add_callee(writer, callee.get());
+            add_passed(writer, arguments.as_slice());
         }
         ExprKind::Prefixed { signs, operand } => {
-            add_prefixed(writer, signs.as_slice(), operand.get())
+            add_prefixed(writer, signs.as_slice(), operand.get());
         }
         ExprKind::Chain { first, rest } => {
-            add_first(writer, first.get())?;
-            add_links(writer, rest.as_slice())
+            add_first(writer, first.get());
+            add_links(writer, rest.as_slice());
         }
         ExprKind::List {
             items,
             separator,
             around,
         } => add_list(writer, items.as_slice(), *separator, *around),
-        ExprKind::Paren(value) => add_paren(writer, value.get()),
+        ExprKind::Paren(value) => add_enclosed(writer, "(paren ", value.get(), ")"),
         ExprKind::Map(pairs) => add_map(writer, pairs.as_slice()),
     }
 }
 
 /// The pieces of a text between two others.
 #[cycle(expr)]
-pub fn add_between(
-    writer: &mut Writer,
-    before: &str,
-    parts: &Parts,
-    behind: &str,
-) -> Result<(), Memory> {
-    writer.text(before)?;
-    add_parts(writer, parts)?;
-    writer.text(behind)
+pub fn add_between(writer: &mut Writer, before: &str, parts: &Parts, behind: &str) {
+    writer.text(before);
+    add_parts(writer, parts);
+    writer.text(behind);
 }
 
 #[cycle(expr)]
-fn add_parts(writer: &mut Writer, parts: &Parts) -> Result<(), Memory> {
+fn add_parts(writer: &mut Writer, parts: &Parts) {
     match parts {
         Parts::Plain(text) => writer.escaped(text.as_str()),
         Parts::Mixed(pieces) => add_pieces(writer, pieces.as_slice()),
@@ -69,16 +64,15 @@ fn add_parts(writer: &mut Writer, parts: &Parts) -> Result<(), Memory> {
 }
 
 #[cycle(expr)]
-fn add_pieces(writer: &mut Writer, pieces: &[Piece]) -> Result<(), Memory> {
+fn add_pieces(writer: &mut Writer, pieces: &[Piece]) {
     for piece in pieces {
-        add_piece(writer, piece)?;
+        add_piece(writer, piece);
     }
-    Ok(())
 }
 
 // `#{expression}`, and `={expression}` for a value that stands without `#{}`.
 #[cycle(expr)]
-fn add_piece(writer: &mut Writer, piece: &Piece) -> Result<(), Memory> {
+fn add_piece(writer: &mut Writer, piece: &Piece) {
     match piece {
         Piece::Text(text) => writer.escaped(text.as_str()),
         Piece::Inserted(value) => add_enclosed(writer, "#{", value, "}"),
@@ -87,157 +81,135 @@ fn add_piece(writer: &mut Writer, piece: &Piece) -> Result<(), Memory> {
 }
 
 #[cycle(expr)]
-fn add_enclosed(
-    writer: &mut Writer,
-    before: &str,
-    value: &Expr,
-    behind: &str,
-) -> Result<(), Memory> {
-    writer.text(before)?;
-    add_expr(writer, value)?;
-    writer.text(behind)
+fn add_enclosed(writer: &mut Writer, before: &str, value: &Expr, behind: &str) {
+    writer.text(before);
+    add_expr(writer, value);
+    writer.text(behind);
 }
 
 /// A text of a sheet between backticks.
-pub fn add_text(writer: &mut Writer, text: &Text) -> Result<(), Memory> {
-    add_between(writer, "`", &text.parts, "`")?;
-    writer.mark(&text.span)
+pub fn add_text(writer: &mut Writer, text: &Text) {
+    add_between(writer, "`", &text.parts, "`");
+    writer.mark(&text.span);
 }
 
 // `(call name`
 #[cycle(expr)]
-fn add_callee(writer: &mut Writer, callee: &Callee) -> Result<(), Memory> {
-    writer.text("(call ")?;
+fn add_callee(writer: &mut Writer, callee: &Callee) {
+    writer.text("(call ");
     if let Some(namespace) = &callee.namespace {
-        add_namespace(writer, namespace)?;
+        add_namespace(writer, namespace);
     }
-    add_parts(writer, &callee.name.parts)?;
-    writer.mark(&callee.name.span)
+    add_parts(writer, &callee.name.parts);
+    writer.mark(&callee.name.span);
 }
 
 // ` argument argument)`
 #[cycle(expr)]
-fn add_passed(writer: &mut Writer, arguments: &[Argument]) -> Result<(), Memory> {
-    add_spaced(writer, arguments)?;
-    writer.text(")")
+fn add_passed(writer: &mut Writer, arguments: &[Argument]) {
+    add_spaced(writer, arguments);
+    writer.text(")");
 }
 
 /// Arguments with a space before each.
 #[cycle(expr)]
-pub fn add_spaced(writer: &mut Writer, arguments: &[Argument]) -> Result<(), Memory> {
+pub fn add_spaced(writer: &mut Writer, arguments: &[Argument]) {
     for argument in arguments {
-        writer.text(" ")?;
-        add_argument(writer, argument)?;
+        writer.text(" ");
+        add_argument(writer, argument);
     }
-    Ok(())
 }
 
 #[cycle(expr)]
-fn add_argument(writer: &mut Writer, argument: &Argument) -> Result<(), Memory> {
+fn add_argument(writer: &mut Writer, argument: &Argument) {
     if let Some(name) = &argument.name {
-        writer.name_between("$", name, ":")?;
+        writer.name_between("$", name, ":");
     }
-    add_expr(writer, &argument.value)?;
-    writer.text(if argument.spread { "..." } else { "" })
+    add_expr(writer, &argument.value);
+    writer.text(if argument.spread { "..." } else { "" });
 }
 
 #[cycle(expr)]
-fn add_prefixed(writer: &mut Writer, signs: &[Sign], operand: &Expr) -> Result<(), Memory> {
-    writer.text("(sign ")?;
-    add_signs(writer, signs)?;
-    add_expr(writer, operand)?;
-    writer.text(")")
+fn add_prefixed(writer: &mut Writer, signs: &[Sign], operand: &Expr) {
+    writer.text("(sign ");
+    add_signs(writer, signs);
+    add_expr(writer, operand);
+    writer.text(")");
 }
 
-fn add_signs(writer: &mut Writer, signs: &[Sign]) -> Result<(), Memory> {
+fn add_signs(writer: &mut Writer, signs: &[Sign]) {
     for sign in signs {
-        writer.text(sign_name(*sign))?;
-        writer.text(" ")?;
+        writer.text(sign_name(*sign));
+        writer.text(" ");
     }
-    Ok(())
 }
 
 // `(op first`
 #[cycle(expr)]
-fn add_first(writer: &mut Writer, first: &Expr) -> Result<(), Memory> {
-    writer.text("(op ")?;
-    add_expr(writer, first)
+fn add_first(writer: &mut Writer, first: &Expr) {
+    writer.text("(op ");
+    add_expr(writer, first);
 }
 
 // ` + operand - operand)`
 #[cycle(expr)]
-fn add_links(writer: &mut Writer, links: &[Link]) -> Result<(), Memory> {
+fn add_links(writer: &mut Writer, links: &[Link]) {
     for link in links {
-        add_link(writer, link)?;
+        add_link(writer, link);
     }
-    writer.text(")")
+    writer.text(")");
 }
 
 #[cycle(expr)]
-fn add_link(writer: &mut Writer, link: &Link) -> Result<(), Memory> {
-    writer.text(operator_name(link.operator))?;
-    add_expr(writer, &link.operand)
+fn add_link(writer: &mut Writer, link: &Link) {
+    writer.text(operator_name(link.operator));
+    add_expr(writer, &link.operand);
 }
 
 #[cycle(expr)]
-fn add_list(
-    writer: &mut Writer,
-    items: &[Expr],
-    separator: Separator,
-    around: Around,
-) -> Result<(), Memory> {
-    writer.text(separator_name(separator))?;
-    writer.text(around_name(around))?;
+fn add_list(writer: &mut Writer, items: &[Expr], separator: Separator, around: Around) {
+    writer.text(separator_name(separator));
+    writer.text(around_name(around));
     for item in items {
-        writer.text(" ")?;
-        add_expr(writer, item)?;
+        writer.text(" ");
+        add_expr(writer, item);
     }
-    writer.text(")")
+    writer.text(")");
 }
 
+// `(map key=value)`
 #[cycle(expr)]
-fn add_paren(writer: &mut Writer, value: &Expr) -> Result<(), Memory> {
-    add_enclosed(writer, "(paren ", value, ")")
-}
-
-#[cycle(expr)]
-fn add_map(writer: &mut Writer, pairs: &[Pair]) -> Result<(), Memory> {
-    writer.text("(map")?;
+fn add_map(writer: &mut Writer, pairs: &[Pair]) {
+    writer.text("(map");
     for pair in pairs {
-        add_pair(writer, pair)?;
+        writer.text(" ");
+        add_expr(writer, &pair.key);
+        writer.text("=");
+        add_expr(writer, &pair.value);
     }
-    writer.text(")")
-}
-
-// ` key=value`
-#[cycle(expr)]
-fn add_pair(writer: &mut Writer, pair: &Pair) -> Result<(), Memory> {
-    writer.text(" ")?;
-    add_expr(writer, &pair.key)?;
-    writer.text("=")?;
-    add_expr(writer, &pair.value)
+    writer.text(")");
 }
 
 // `?` stands for a value beyond the bound of numbers.
-fn add_number(writer: &mut Writer, number: &Number) -> Result<(), Memory> {
+fn add_number(writer: &mut Writer, number: &Number) {
     match number.value {
-        Some(value) => writer.number(value)?,
-        None => writer.text("?")?,
+        Some(value) => writer.number(value),
+        None => writer.text("?"),
     }
-    writer.name(&number.unit)
+    writer.name(&number.unit);
 }
 
 /// A namespace and the `.` behind it.
-pub fn add_namespace(writer: &mut Writer, namespace: &Namespaced) -> Result<(), Memory> {
-    writer.name(&namespace.name)?;
-    writer.mark(&namespace.span)?;
-    writer.text(".")
+pub fn add_namespace(writer: &mut Writer, namespace: &Namespaced) {
+    writer.name(&namespace.name);
+    writer.mark(&namespace.span);
+    writer.text(".");
 }
 
 /// A variable of another module.
-pub fn add_qualified(writer: &mut Writer, qualified: &Qualified) -> Result<(), Memory> {
-    add_namespace(writer, &qualified.namespace)?;
-    writer.name_between("$", &qualified.name, "")
+pub fn add_qualified(writer: &mut Writer, qualified: &Qualified) {
+    add_namespace(writer, &qualified.namespace);
+    writer.name_between("$", &qualified.name, "");
 }
 
 fn constant_name(constant: Constant) -> &'static str {

@@ -1,9 +1,7 @@
 // Calls on sheets in lines: `same a\n  b: c <=> a { b: c }` tells whether the text before the sign has the tree of the
-// one behind it, but for spans; `lines TEXT` whether a text is a sheet, or where its fault stands; `tree` and `marks`
-// write its tree, `spans` the spans of its statements.
+// one behind it, but for spans. The others are those of trees.
 use crate::sheets::{refused, text_of_sheet, tree_of};
-use crate::spans::spans_of;
-use crate::trees::written;
+use crate::trees::told;
 use std::alloc::Global;
 use sw_indent_parse::read;
 use sw_row_files::Refusal;
@@ -11,30 +9,22 @@ use sw_syntax_tree::Sheet;
 use sw_text::Shared;
 
 pub fn answer(alloc: Global, name: &str, text: &str) -> Result<String, Refusal> {
-    match name {
-        "same" => same(alloc, text),
-        "lines" => {
-            lined_tree_of(alloc, text)?;
-            Ok(String::from_str(alloc, "ok")?)
-        }
-        "tree" => written(alloc, lined_tree_of(alloc, text)?.get(), false),
-        "marks" => written(alloc, lined_tree_of(alloc, text)?.get(), true),
-        "spans" => spans_of(alloc, lined_tree_of(alloc, text)?.get()),
-        _ => Err(Refusal::NoCall),
+    match text.split_once(" <=> ") {
+        Some((lines, sheet)) if name == "same" => same(alloc, lines, sheet),
+        _ => told(alloc, name, lined_tree_of(alloc, text)),
     }
 }
 
 // `yes`, or both trees.
-fn same(alloc: Global, text: &str) -> Result<String, Refusal> {
-    let Some((lines, sheet)) = text.split_once(" <=> ") else {
-        return Err(Refusal::NoCall);
+fn same(alloc: Global, lines: &str, sheet: &str) -> Result<String, Refusal> {
+    let seen = told(alloc, "tree", lined_tree_of(alloc, lines))?;
+    let other = told(alloc, "tree", tree_of(alloc, sheet))?;
+    let text = if seen == other {
+        String::from_str(alloc, "yes")
+    } else {
+        format!(in alloc; "{seen} <=> {other}")
     };
-    let seen = written(alloc, lined_tree_of(alloc, lines)?.get(), false)?;
-    let other = written(alloc, tree_of(alloc, sheet)?.get(), false)?;
-    if seen == other {
-        return Ok(String::from_str(alloc, "yes")?);
-    }
-    Ok(format!(in alloc; "{seen} <=> {other}")?)
+    Ok(text?)
 }
 
 fn lined_tree_of(alloc: Global, text: &str) -> Result<Shared<Sheet>, Refusal> {

@@ -17,7 +17,10 @@ mod trees;
 mod values;
 mod writer;
 
+use crate::css::css_tree_of;
 use crate::files::Sheets;
+use crate::sheets::tree_of;
+use crate::trees::told;
 use std::alloc::Global;
 use std::io;
 use std::process::ExitCode;
@@ -25,7 +28,7 @@ use std::rt::{Env, Files};
 use sw_row_files::{Libraries, Refusal, Tally, ended, run_calls, unescaped};
 
 impl Libraries for Sheets {
-    // One line for each library, whose calls are in the file of that name.
+    // The library's calls are in the file of its name.
     fn answer(
         &self,
         alloc: Global,
@@ -33,16 +36,21 @@ impl Libraries for Sheets {
         name: &str,
         text: &str,
     ) -> Result<String, Refusal> {
-        match library {
-            "css" => css::answer(alloc, name, unescaped(alloc, text)?.as_str()),
-            "lines" => lines::answer(alloc, name, unescaped(alloc, text)?.as_str()),
-            "prefixes" => prefixes::answer(alloc, self, name, text),
-            "sheets" => sheets::answer(alloc, name, unescaped(alloc, text)?.as_str()),
-            "spans" => spans::answer(alloc, name, unescaped(alloc, text)?.as_str()),
-            "trees" => trees::answer(alloc, name, unescaped(alloc, text)?.as_str()),
-            "values" => values::answer(alloc, name, unescaped(alloc, text)?.as_str()),
-            _ => Err(Refusal::NoCall),
+        if library == "prefixes" {
+            return prefixes::answer(alloc, self, name, text);
         }
+        of_unescaped(alloc, library, name, unescaped(alloc, text)?.as_str())
+    }
+}
+
+// One line for each other library, whose calls have escapes.
+fn of_unescaped(alloc: Global, library: &str, name: &str, text: &str) -> Result<String, Refusal> {
+    match library {
+        "css" => told(alloc, name, css_tree_of(alloc, text)),
+        "lines" => lines::answer(alloc, name, text),
+        "sheets" | "spans" | "trees" => told(alloc, name, tree_of(alloc, text)),
+        "values" => values::answer(alloc, name, text),
+        _ => Err(Refusal::NoCall),
     }
 }
 

@@ -11,10 +11,11 @@ pub fn answer(alloc: Global, sheets: &Sheets, name: &str, text: &str) -> Result<
     if name != "prefixes" {
         return Err(Refusal::NoCall);
     }
-    match sheets.text(text) {
-        Some(text) => Ok(format!(in alloc; "{}", sheets_among(alloc, text)?)?),
-        None => Err(Refusal::NoCall),
-    }
+    let Some(text) = sheets.text(text) else {
+        return Err(Refusal::NoCall);
+    };
+    let count = sheets_among(alloc, text)?;
+    Ok(format!(in alloc; "{count}")?)
 }
 
 fn sheets_among(alloc: Global, text: &str) -> Result<u32, Refusal> {

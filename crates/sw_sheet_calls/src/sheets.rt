@@ -1,4 +1,4 @@
-// Calls on whole sheets: `sheet a { b: c }` tells whether the text is a sheet, or where its fault stands.
+// Texts of whole sheets.
 use std::alloc::Global;
 use sw_expr_parse::ReadEnd;
 use sw_row_files::Refusal;
@@ -9,22 +9,19 @@ use sw_text::{Fault, Name, Shared, SheetText};
 // A text of more bytes is no row.
 const MOST: usize = 10_000_000;
 
-pub fn answer(alloc: Global, name: &str, text: &str) -> Result<String, Refusal> {
-    if name != "sheet" {
-        return Err(Refusal::NoCall);
-    }
-    tree_of(alloc, text)?;
-    Ok(String::from_str(alloc, "ok")?)
-}
-
 /// A text as that of a sheet.
 pub fn text_of_sheet(alloc: Global, text: &str) -> Result<Shared<SheetText>, Refusal> {
+    let text = sheet_text(alloc, text)?;
+    Ok(Shared::new(alloc, text)?)
+}
+
+fn sheet_text(alloc: Global, text: &str) -> Result<SheetText, Refusal> {
     if text.len() > MOST {
         return Err(Refusal::NoCall);
     }
     let path = Name::new(alloc, "a.scss")?;
-    let text = SheetText::new(alloc, path, Name::new(alloc, text)?)?;
-    Ok(Shared::new(alloc, text)?)
+    let text = Name::new(alloc, text)?;
+    Ok(SheetText::new(alloc, path, text)?)
 }
 
 /// The tree of a text, or its fault.

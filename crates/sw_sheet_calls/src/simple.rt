@@ -5,10 +5,10 @@ use crate::writer::Writer;
 use sw_syntax_tree::{
     Assignment, ContentCall, Custom, Declaration, Expr, Flags, Level, Statement, Text, Variable,
 };
-use sw_text::{Memory, Span};
+use sw_text::Span;
 
 /// A statement without blocks; of any other nothing.
-pub fn add_simple(writer: &mut Writer, statement: &Statement) -> Result<(), Memory> {
+pub fn add_simple(writer: &mut Writer, statement: &Statement) {
     match statement {
         Statement::Variable(variable) => add_variable(writer, variable),
         Statement::Assignment(assignment) => add_assignment(writer, assignment),
@@ -34,84 +34,83 @@ pub fn add_simple(writer: &mut Writer, statement: &Statement) -> Result<(), Memo
         | Statement::Media(_)
         | Statement::Supports(_)
         | Statement::AtRoot(_)
-        | Statement::AtRule(_) => Ok(()),
+        | Statement::AtRule(_) => {}
     }
 }
 
 // `$name = value !default`
-fn add_variable(writer: &mut Writer, variable: &Variable) -> Result<(), Memory> {
-    writer.name_between("$", &variable.name, " = ")?;
-    add_expr(writer, &variable.value)?;
-    add_flags(writer, variable.flags)?;
-    writer.mark(&variable.span)
+fn add_variable(writer: &mut Writer, variable: &Variable) {
+    writer.name_between("$", &variable.name, " = ");
+    add_expr(writer, &variable.value);
+    add_flags(writer, variable.flags);
+    writer.mark(&variable.span);
 }
 
 // `namespace.$name = value !default`
-fn add_assignment(writer: &mut Writer, assignment: &Assignment) -> Result<(), Memory> {
-    add_qualified(writer, &assignment.target)?;
-    writer.mark(&assignment.target_span)?;
-    writer.text(" = ")?;
-    add_expr(writer, &assignment.value)?;
-    add_flags(writer, assignment.flags)?;
-    writer.mark(&assignment.span)
+fn add_assignment(writer: &mut Writer, assignment: &Assignment) {
+    add_qualified(writer, &assignment.target);
+    writer.mark(&assignment.target_span);
+    writer.text(" = ");
+    add_expr(writer, &assignment.value);
+    add_flags(writer, assignment.flags);
+    writer.mark(&assignment.span);
 }
 
-fn add_flags(writer: &mut Writer, flags: Flags) -> Result<(), Memory> {
+fn add_flags(writer: &mut Writer, flags: Flags) {
     if flags.default {
-        writer.text(" !default")?;
+        writer.text(" !default");
     }
     if flags.global {
-        writer.text(" !global")?;
+        writer.text(" !global");
     }
-    Ok(())
 }
 
 // `property`: value
-fn add_declaration(writer: &mut Writer, declaration: &Declaration) -> Result<(), Memory> {
-    add_text(writer, &declaration.property)?;
-    writer.text(": ")?;
-    add_expr(writer, &declaration.value)?;
-    writer.mark(&declaration.span)
+fn add_declaration(writer: &mut Writer, declaration: &Declaration) {
+    add_text(writer, &declaration.property);
+    writer.text(": ");
+    add_expr(writer, &declaration.value);
+    writer.mark(&declaration.span);
 }
 
 // `--property`: `text`
-fn add_custom(writer: &mut Writer, custom: &Custom) -> Result<(), Memory> {
-    add_text(writer, &custom.property)?;
-    writer.text(":")?;
+fn add_custom(writer: &mut Writer, custom: &Custom) {
+    add_text(writer, &custom.property);
+    writer.text(":");
     if let Some(value) = &custom.value {
-        writer.text(" ")?;
-        add_text(writer, value)?;
+        writer.text(" ");
+        add_text(writer, value);
     }
-    writer.mark(&custom.span)
+    writer.mark(&custom.span);
 }
 
 // `@content` and its arguments
-fn add_content_call(writer: &mut Writer, call: &ContentCall) -> Result<(), Memory> {
-    writer.text("@content")?;
-    add_spaced(writer, call.arguments.as_slice())?;
-    writer.mark(&call.span)
+fn add_content_call(writer: &mut Writer, call: &ContentCall) {
+    writer.text("@content");
+    add_spaced(writer, call.arguments.as_slice());
+    writer.mark(&call.span);
 }
 
-fn add_said(writer: &mut Writer, word: &str, value: &Expr, span: &Span) -> Result<(), Memory> {
-    writer.text(word)?;
-    add_expr(writer, value)?;
-    writer.mark(span)
+fn add_said(writer: &mut Writer, word: &str, value: &Expr, span: &Span) {
+    writer.text(word);
+    add_expr(writer, value);
+    writer.mark(span);
 }
 
-fn add_worded(writer: &mut Writer, word: &str, text: &Text, span: &Span) -> Result<(), Memory> {
-    writer.text(word)?;
-    add_text(writer, text)?;
-    writer.mark(span)
+fn add_worded(writer: &mut Writer, word: &str, text: &Text, span: &Span) {
+    writer.text(word);
+    add_text(writer, text);
+    writer.mark(span);
 }
 
-fn add_marked(writer: &mut Writer, word: &str, span: &Span) -> Result<(), Memory> {
-    writer.text(word)?;
-    writer.mark(span)
+fn add_marked(writer: &mut Writer, word: &str, span: &Span) {
+    writer.text(word);
+    writer.mark(span);
 }
 
-fn add_comment(writer: &mut Writer, text: &Text) -> Result<(), Memory> {
-    writer.text("@comment ")?;
-    add_text(writer, text)
+fn add_comment(writer: &mut Writer, text: &Text) {
+    writer.text("@comment ");
+    add_text(writer, text);
 }
 
 fn level_name(level: Level) -> &'static str {

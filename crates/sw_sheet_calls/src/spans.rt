@@ -1,79 +1,59 @@
-// Calls on the spans of statements: `spans a { b: c }` writes that of each statement, with those in its block in braces
-// behind it.
-use crate::sheets::tree_of;
+// The spans of statements, each with those in its block in braces behind it.
 use crate::writer::Writer;
 use std::alloc::Global;
 use sw_row_files::Refusal;
-use sw_syntax_tree::{Branch, Content, Sheet, Statement};
-use sw_text::{Memory, Shared, Span};
-
-pub fn answer(alloc: Global, name: &str, text: &str) -> Result<String, Refusal> {
-    if name != "spans" {
-        return Err(Refusal::NoCall);
-    }
-    spans_of(alloc, tree_of(alloc, text)?.get())
-}
+use sw_syntax_tree::{Sheet, Statement};
+use sw_text::Span;
 
 /// The spans of a sheet's statements.
 pub fn spans_of(alloc: Global, sheet: &Sheet) -> Result<String, Refusal> {
     let mut writer = Writer::new(alloc, true);
-    add_spans(&mut writer, sheet.statements.as_slice())?;
+    add_spans(&mut writer, sheet.statements.as_slice());
     writer.written()
 }
 
 #[cycle(spans)]
-fn add_spans(writer: &mut Writer, statements: &[Statement]) -> Result<(), Memory> {
+fn add_spans(writer: &mut Writer, statements: &[Statement]) {
     for (at, statement) in statements.iter().enumerate() {
-        writer.text(if at == 0 { "" } else { " " })?;
-        writer.span(span_of(statement))?;
-        add_inner(writer, statement)?;
+        writer.text(if at == 0 { "" } else { " " });
+        writer.span(span_of(statement));
+        add_inner(writer, statement);
     }
-    Ok(())
 }
 
 #[cycle(spans)]
-fn add_block(writer: &mut Writer, block: &[Statement]) -> Result<(), Memory> {
+fn add_block(writer: &mut Writer, block: &[Statement]) {
     if block.is_empty() {
-        return writer.text(" {}");
+        writer.text(" {}");
+    } else {
+        writer.text(" { ");
+        add_spans(writer, block);
+        writer.text(" }");
     }
-    writer.text(" { ")?;
-    add_spans(writer, block)?;
-    writer.text(" }")
-}
-
-#[cycle(spans)]
-fn add_content(writer: &mut Writer, content: &Option<Shared<Content>>) -> Result<(), Memory> {
-    match content {
-        Some(content) => add_block(writer, content.get().block.as_slice()),
-        None => Ok(()),
-    }
-}
-
-#[cycle(spans)]
-fn add_branches(writer: &mut Writer, branches: &[Branch]) -> Result<(), Memory> {
-    for branch in branches {
-        add_block(writer, branch.block.as_slice())?;
-    }
-    Ok(())
 }
 
 // The blocks of a statement.
 #[cycle(spans)]
-fn add_inner(writer: &mut Writer, statement: &Statement) -> Result<(), Memory> {
+fn add_inner(writer: &mut Writer, statement: &Statement) {
     match statement {
         Statement::Properties(properties) => add_block(writer, properties.block.as_slice()),
         Statement::Rule(rule) => add_block(writer, rule.block.as_slice()),
         Statement::Callable(callable) => add_block(writer, callable.get().block.as_slice()),
-        Statement::Include { content, .. } => add_content(writer, content),
+        Statement::Include { content, .. } => {
+            if let Some(content) = content {
+                add_block(writer, content.get().block.as_slice());
+            }
+        }
         Statement::If {
             branches,
             otherwise,
             ..
         } => {
-            add_branches(writer, branches.as_slice())?;
-            match otherwise {
-                Some(block) => add_block(writer, block.as_slice()),
-                None => Ok(()),
+            for branch in branches.as_slice() {
+                add_block(writer, branch.block.as_slice());
+            }
+            if let Some(block) = otherwise {
+                add_block(writer, block.as_slice());
             }
         }
         Statement::Each(each) => add_block(writer, each.block.as_slice()),
@@ -82,10 +62,11 @@ fn add_inner(writer: &mut Writer, statement: &Statement) -> Result<(), Memory> {
         Statement::Media(media) => add_block(writer, media.block.as_slice()),
         Statement::Supports(supports) => add_block(writer, supports.block.as_slice()),
         Statement::AtRoot(root) => add_block(writer, root.block.as_slice()),
-        Statement::AtRule(rule) => match &rule.block {
-            Some(block) => add_block(writer, block.as_slice()),
-            None => Ok(()),
-        },
+        Statement::AtRule(rule) => {
+            if let Some(block) = &rule.block {
+                add_block(writer, block.as_slice());
+            }
+        }
         Statement::Variable(_)
         | Statement::Assignment(_)
         | Statement::Declaration(_)
@@ -98,7 +79,7 @@ fn add_inner(writer: &mut Writer, statement: &Statement) -> Result<(), Memory> {
         | Statement::Charset(_)
         | Statement::Import(_)
         | Statement::Extend(_)
-        | Statement::Comment(_) => Ok(()),
+        | Statement::Comment(_) => {}
     }
 }
 

@@ -5,7 +5,7 @@ use crate::expr::add_expr;
 use crate::sheets::{refused, text_of_sheet};
 use crate::writer::Writer;
 use std::alloc::Global;
-use sw_expr_parse::{Form, read_expr};
+use sw_expr_parse::{Form, ReadEnd, read_expr};
 use sw_row_files::Refusal;
 use sw_syntax_tree::Expr;
 use sw_tokens::{Fault10, Tokens};
@@ -44,10 +44,7 @@ fn tokens_of(alloc: Global, text: &str) -> Result<Tokens, Refusal> {
 
 fn value(alloc: Global, form: Form, text: &str, marks: bool) -> Result<String, Refusal> {
     let tokens = tokens_of(alloc, text)?;
-    match read_expr(alloc, &tokens, form, 0, 0) {
-        Ok((value, place)) => written(alloc, &value, place, marks),
-        Err(end) => Err(refused(alloc, &end)),
-    }
+    told(alloc, read_expr(alloc, &tokens, form, 0, 0), marks)
 }
 
 fn deep(alloc: Global, depth: u8, text: &str) -> Result<String, Refusal> {
@@ -55,15 +52,28 @@ fn deep(alloc: Global, depth: u8, text: &str) -> Result<String, Refusal> {
         return Err(Refusal::NoCall);
     }
     let tokens = tokens_of(alloc, text)?;
-    match read_expr(alloc, &tokens, Form::Expr, 0, depth) {
-        Ok((value, place)) => written(alloc, &value, place, false),
+    told(
+        alloc,
+        read_expr(alloc, &tokens, Form::Expr, 0, depth),
+        false,
+    )
+}
+
+fn told(
+    alloc: Global,
+    value: Result<(Expr, usize), ReadEnd>,
+    marks: bool,
+) -> Result<String, Refusal> {
+    match value {
+        Ok((value, place)) => written(alloc, &value, place, marks),
         Err(end) => Err(refused(alloc, &end)),
     }
 }
 
 fn written(alloc: Global, value: &Expr, place: usize, marks: bool) -> Result<String, Refusal> {
     let mut writer = Writer::new(alloc, marks);
-    add_expr(&mut writer, value)?;
-    let text = writer.written()?;
-    Ok(format!(in alloc; "{text} | {place}")?)
+    add_expr(&mut writer, value);
+    writer.text(" | ");
+    writer.place(place);
+    writer.written()
 }

@@ -1,12 +1,12 @@
 // Calls on built-in modules and functions, of the module of a URL or, with `-`, of none: `find sass:math function ceil`,
 // `variable sass:math pi`, `member sass:math 0`, `params - rgb 1 alpha`, `call - rgb ; 1 ; 2 ; 3`.
-use crate::functions::{arguments, parts, told};
-use std::alloc::{AllocError, Global};
+use crate::functions::{arguments, parts};
+use crate::values::told;
+use std::alloc::Global;
 use sw_builtins::{BuiltIn, Found, call, find, member, params, variable};
 use sw_fixed::Fixed;
-use sw_row_files::{Refusal, text_of};
+use sw_row_files::{Refusal, TextWriter, names, text_of};
 use sw_syntax_tree::{Constant, Expr, ExprKind, Kind, Number, Param, Params, Parts};
-use sw_text::Name;
 
 pub fn answer(alloc: Global, name: &str, text: &str) -> Result<String, Refusal> {
     let (url, rest) = text.split_once(' ').unwrap_or((text, ""));
@@ -91,70 +91,58 @@ fn called(alloc: Global, url: &str, text: &str) -> Result<String, Refusal> {
 
 // ---- parameter lists
 
-fn names_of(alloc: Global, text: &str) -> Result<Vec<Name>, Refusal> {
-    let mut names = Vec::new(alloc);
-    for name in text.split(' ') {
-        if !name.is_empty() {
-            names.push(Name::new(alloc, name)?)?;
-        }
-    }
-    Ok(names)
-}
-
 // A function's name, how many arguments have none, and the names of the others.
 fn params_of(alloc: Global, url: &str, text: &str) -> Result<String, Refusal> {
     let (name, rest) = text.split_once(' ').unwrap_or((text, ""));
-    let (count, names) = rest.split_once(' ').unwrap_or((rest, ""));
-    let names = names_of(alloc, names)?;
-    let list = params(alloc, function(url, name)?, count.parse::<usize>()?, &names)?;
-    list_text(alloc, &list)
+    let (count, others) = rest.split_once(' ').unwrap_or((rest, ""));
+    let (function, count) = (function(url, name)?, count.parse::<usize>()?);
+    let others = names(alloc, others, ' ')?;
+    list_text(alloc, &params(alloc, function, count, &others)?)
 }
 
 fn list_text(alloc: Global, list: &Params) -> Result<String, Refusal> {
-    let mut text = String::new(alloc);
+    let mut writer = TextWriter::new(alloc);
     for item in list.items.as_slice() {
-        add_separator(&mut text)?;
-        add_param(alloc, &mut text, item)?;
+        add_separator(&mut writer);
+        add_param(alloc, &mut writer, item);
     }
     if let Some(rest) = &list.rest {
-        add_separator(&mut text)?;
-        text.push('$')?;
-        text.push_str(rest.as_str())?;
-        text.push_str("...")?;
+        add_separator(&mut writer);
+        writer.text("$");
+        writer.text(rest.as_str());
+        writer.text("...");
     }
-    Ok(text)
+    writer.written()
 }
 
-fn add_separator(text: &mut String) -> Result<(), AllocError> {
-    if !text.is_empty() {
-        text.push_str(", ")?;
+fn add_separator(writer: &mut TextWriter) {
+    if !writer.is_empty() {
+        writer.text(", ");
     }
-    Ok(())
 }
 
-fn add_param(alloc: Global, text: &mut String, param: &Param) -> Result<(), Refusal> {
-    text.push('$')?;
-    text.push_str(param.name.as_str())?;
+fn add_param(alloc: Global, writer: &mut TextWriter, param: &Param) {
+    writer.text("$");
+    writer.text(param.name.as_str());
     if let Some(default) = &param.default {
-        text.push_str(": ")?;
-        add_default(alloc, text, default)?;
+        writer.text(": ");
+        add_default(alloc, writer, default);
     }
-    Ok(())
 }
 
-fn add_default(alloc: Global, text: &mut String, default: &Expr) -> Result<(), Refusal> {
+fn add_default(alloc: Global, writer: &mut TextWriter, default: &Expr) {
     match &default.kind {
-        ExprKind::Number(number) => add_number(alloc, text, number),
-        ExprKind::Constant(Constant::Null) => Ok(text.push_str("null")?),
-        ExprKind::Word(Parts::Plain(word)) => Ok(text.push_str(word.as_str())?),
-        _ => Err(Refusal::NoCall),
+        ExprKind::Number(number) => add_number(alloc, writer, number),
+        ExprKind::Constant(Constant::Null) => writer.text("null"),
+        ExprKind::Word(Parts::Plain(word)) => writer.text(word.as_str()),
+        _ => writer.refuse(Refusal::NoCall),
     }
 }
 
-fn add_number(alloc: Global, text: &mut String, number: &Number) -> Result<(), Refusal> {
-    let Some(value) = number.value else {
-        return Err(Refusal::NoCall);
-    };
-    text.push_str(written(alloc, value)?.as_str())?;
-    Ok(text.push_str(number.unit.as_str())?)
+fn add_number(alloc: Global, writer: &mut TextWriter, number: &Number) {
+    match number.value {
+        Some(value) => writer.add(written(alloc, value)),
+        None => writer.refuse(Refusal::NoCall),
+    }
+    writer.text(number.unit.as_str());
 }

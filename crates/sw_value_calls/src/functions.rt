@@ -1,12 +1,11 @@
 // Calls of built-in functions: `call div ; 1px ; 2`, `known div`. The arguments are the values of the parameters, in
 // their order; that of a parameter with `...` is an argument list.
 use crate::reader::Reader;
-use crate::values::{DEPTH, inspected};
+use crate::values::{DEPTH, told};
 use std::alloc::Global;
-use sw_fn::{Argument, FnFault};
-use sw_row_files::{Refusal, answer_of, yes_or_no};
+use sw_fn::Argument;
+use sw_row_files::{Refusal, yes_or_no};
 use sw_text::Name;
-use sw_values::Value;
 
 // A function's name, and its arguments behind it.
 pub fn parts(text: &str) -> (&str, &str) {
@@ -34,11 +33,6 @@ pub fn arguments(alloc: Global, text: &str) -> Result<Vec<Argument>, Refusal> {
         push_argument(alloc, &mut args, &mut reader)?;
     }
     Ok(args)
-}
-
-pub fn told(alloc: Global, answer: Result<Value, FnFault>) -> Result<String, Refusal> {
-    let value = answer_of(alloc, answer)?;
-    inspected(alloc, &value)
 }
 
 pub fn math(alloc: Global, name: &str, text: &str) -> Result<String, Refusal> {

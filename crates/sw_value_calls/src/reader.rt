@@ -1,7 +1,7 @@
 // Values as rows write them: `1px/s`, `1/2` with its sides, `"a"`, `#fff`, `red`, `a`, `'var(--a)'` without quotes,
 // `null`, `(a, b)`, `(a b)`, `(a / b)`, `(a,)`, `[a b]`, `()`, `(k: v)`, `args(a, $n: b)`; and `text*9`, `nested*9` and `nulls*9` for what is too
 // long to be written.
-use crate::values::value_of;
+use crate::values::{DEPTH, value_of};
 use std::alloc::Global;
 use sw_colour::Colour;
 use sw_fixed::Fixed;
@@ -17,13 +17,95 @@ pub struct Reader<'a> {
     rest: &'a str,
 }
 
-// What stands between two items, or behind the last one.
+// What stands behind an item.
 #[derive(Clone, Copy, Debug, PartialEq, Eq)]
 enum Mark {
+    Colon,
     Comma,
     Space,
     Slash,
     End,
+    Other,
+}
+
+// What stands between two brackets: items, and of a map the keys beside them.
+#[derive(Drop)]
+struct Items {
+    keys: List<Value>,
+    values: List<Value>,
+    separator: Separator,
+}
+
+impl Items {
+    fn new(alloc: Global) -> Items {
+        Items {
+            keys: List::new(alloc),
+            values: List::new(alloc),
+            separator: Separator::Undecided,
+        }
+    }
+
+    // An item with what stands behind it.
+    fn add(&mut self, item: Value, mark: Mark) -> Result<(), Refusal> {
+        match mark {
+            Mark::Colon => return Ok(self.keys.push(item)?),
+            Mark::Comma => self.separator = Separator::Comma,
+            Mark::Space => self.separator = Separator::Space,
+            Mark::Slash => self.separator = Separator::Slash,
+            Mark::End => {}
+            Mark::Other => return Err(Refusal::NoCall),
+        }
+        Ok(self.values.push(item)?)
+    }
+
+    fn value(&self, alloc: Global, bracketed: bool) -> Result<Value, Refusal> {
+        if self.keys.is_empty() {
+            let items = self.values.as_slice();
+            return answer_of(alloc, list_of(alloc, items, self.separator, bracketed));
+        }
+        map(alloc, self.keys.as_slice(), self.values.as_slice())
+    }
+}
+
+fn map(alloc: Global, keys: &[Value], values: &[Value]) -> Result<Value, Refusal> {
+    if keys.len() != values.len() {
+        return Err(Refusal::NoCall);
+    }
+    let mut pairs = Vec::new(alloc);
+    for (key, value) in keys.iter().zip(values) {
+        pairs.push((key.share()?, value.share()?))?;
+    }
+    answer_of(alloc, map_of(alloc, &pairs))
+}
+
+// The values of an argument list, those without names and the others.
+#[derive(Drop)]
+struct Arguments {
+    items: List<Value>,
+    named: List<(Name, Value)>,
+}
+
+impl Arguments {
+    fn new(alloc: Global) -> Arguments {
+        Arguments {
+            items: List::new(alloc),
+            named: List::new(alloc),
+        }
+    }
+
+    fn add(&mut self, alloc: Global, name: Option<&str>, value: Value) -> Result<(), Refusal> {
+        match name {
+            None => Ok(self.items.push(value)?),
+            Some(name) => Ok(self.named.push((Name::new(alloc, name)?, value))?),
+        }
+    }
+
+    fn value(self, alloc: Global) -> Result<Value, Refusal> {
+        let Arguments { items, named } = self;
+        let items = Shared::new(alloc, items)?;
+        let named = Shared::new(alloc, named)?;
+        value_of(alloc, Node::Args { items, named })
+    }
 }
 
 impl<'a> Reader<'a> {
@@ -80,6 +162,11 @@ impl<'a> Reader<'a> {
         word_value(alloc, self.word())
     }
 
+    /// Reads the next value, behind those that were read before.
+    pub fn read_into(&mut self, alloc: Global, values: &mut List<Value>) -> Result<(), Refusal> {
+        Ok(values.push(self.value(alloc, DEPTH)?)?)
+    }
+
     // The string behind its first quote.
     fn string(&mut self, alloc: Global, quote: char, quoted: bool) -> Result<Value, Refusal> {
         let (text, rest) = self.rest.split_once(quote).unwrap_or((self.rest, ""));
@@ -90,94 +177,93 @@ impl<'a> Reader<'a> {
         string(alloc, text.as_str(), quoted)
     }
 
-    // What stands behind an item.
-    fn mark(&mut self, end: &str) -> Result<Mark, Refusal> {
-        if self.took(end) {
-            return Ok(Mark::End);
-        }
-        if self.took(" / ") {
-            return Ok(Mark::Slash);
-        }
-        if self.took(",") {
-            self.took(" ");
-            return Ok(Mark::Comma);
-        }
-        if self.took(" ") {
-            return Ok(Mark::Space);
-        }
-        Err(Refusal::NoCall)
-    }
-
     // The list or map behind its first bracket.
     #[cycle(reading)]
     fn list(&mut self, alloc: Global, depth: u32, end: &str) -> Result<Value, Refusal> {
-        let bracketed = end == "]";
-        let mut items = Vec::new(alloc);
-        let mut separator = Separator::Undecided;
+        let mut items = Items::new(alloc);
+        self.items(alloc, depth, end, &mut items)?;
+        items.value(alloc, end == "]")
+    }
+
+    // The items before the last bracket.
+    #[cycle(reading)]
+    fn items(
+        &mut self,
+        alloc: Global,
+        depth: u32,
+        end: &str,
+        items: &mut Items,
+    ) -> Result<(), Refusal> {
         for _ in 0..self.rest.len() {
             if self.took(end) {
-                return answer_of(alloc, list_of(alloc, &items, separator, bracketed));
+                return Ok(());
             }
             let item = self.value(alloc, depth)?;
-            if self.took(": ") {
-                return self.map(alloc, depth, item);
-            }
-            items.push(item)?;
-            match self.mark(end)? {
-                Mark::End => {
-                    return answer_of(alloc, list_of(alloc, &items, separator, bracketed));
-                }
-                Mark::Comma => separator = Separator::Comma,
-                Mark::Space => separator = Separator::Space,
-                Mark::Slash => separator = Separator::Slash,
-            }
+            items.add(item, self.mark(end))?;
         }
         Err(Refusal::NoCall)
     }
 
-    // The map behind its first key.
-    #[cycle(reading)]
-    fn map(&mut self, alloc: Global, depth: u32, first: Value) -> Result<Value, Refusal> {
-        let mut pairs = Vec::new(alloc);
-        pairs.push((first, self.value(alloc, depth)?))?;
-        for _ in 0..self.rest.len() {
-            if self.took(")") {
-                return answer_of(alloc, map_of(alloc, &pairs));
-            }
-            self.took(", ");
-            let key = self.value(alloc, depth)?;
-            self.took(": ");
-            pairs.push((key, self.value(alloc, depth)?))?;
+    // What stands behind an item, but for the last bracket.
+    fn mark(&mut self, end: &str) -> Mark {
+        if self.took(": ") {
+            Mark::Colon
+        } else if self.took(" / ") {
+            Mark::Slash
+        } else if self.took(", ") || self.took(",") {
+            Mark::Comma
+        } else if self.took(" ") {
+            Mark::Space
+        } else if self.rest.starts_with(end) {
+            Mark::End
+        } else {
+            Mark::Other
         }
-        Err(Refusal::NoCall)
     }
 
     // The argument list behind `args(`.
     #[cycle(reading)]
     fn arguments(&mut self, alloc: Global, depth: u32) -> Result<Value, Refusal> {
-        let mut items = List::new(alloc);
-        let mut named = List::new(alloc);
+        let mut passed = Arguments::new(alloc);
         for _ in 0..self.rest.len() {
             if self.took(")") {
-                let items = Shared::new(alloc, items)?;
-                let named = Shared::new(alloc, named)?;
-                return value_of(alloc, Node::Args { items, named });
+                return passed.value(alloc);
             }
             self.took(", ");
-            if self.took("$") {
-                let name = Name::new(alloc, self.word())?;
-                self.took(": ");
-                named.push((name, self.value(alloc, depth)?))?;
-            } else {
-                items.push(self.value(alloc, depth)?)?;
-            }
+            let name = self.name();
+            let value = self.value(alloc, depth)?;
+            passed.add(alloc, name, value)?;
         }
         Err(Refusal::NoCall)
     }
+
+    /// The name before a value, as `$a: `, if one stands there.
+    pub fn name(&mut self) -> Option<&'a str> {
+        if !self.took("$") {
+            return None;
+        }
+        let name = self.word();
+        self.took(": ");
+        Some(name)
+    }
 }
 
-/// A string.
-pub fn string(alloc: Global, text: &str, quoted: bool) -> Result<Value, Refusal> {
+/// Values with ` ; ` between two.
+pub fn values_of(alloc: Global, text: &str) -> Result<List<Value>, Refusal> {
+    let mut values = List::new(alloc);
+    let mut reader = Reader::new(text);
+    for _ in 0..text.len() {
+        if reader.is_done() {
+            return Ok(values);
+        }
+        reader.read_into(alloc, &mut values)?;
+        reader.took(" ; ");
+    }
+    Ok(values)
+}
+
+// A string.
+fn string(alloc: Global, text: &str, quoted: bool) -> Result<Value, Refusal> {
     let text = Name::new(alloc, text)?;
     value_of(alloc, Node::Text { text, quoted })
 }
@@ -222,30 +308,39 @@ fn starts_number(word: &str) -> bool {
 fn number_value(alloc: Global, word: &str) -> Result<Value, Refusal> {
     let (left, right) = word.split_once('/').unwrap_or((word, ""));
     if !starts_number(right) {
-        return value_of(alloc, Node::Number(number(alloc, left, right)?));
+        return plain_number(alloc, left, right);
     }
-    let mut value = value_of(alloc, Node::Number(number(alloc, left, "")?))?;
+    let mut value = plain_number(alloc, left, "")?;
     for part in right.split('/') {
-        value = kept(alloc, &value, &number(alloc, part, "")?)?;
+        value = kept(alloc, value, part)?;
     }
     Ok(value)
+}
+
+fn plain_number(alloc: Global, text: &str, under: &str) -> Result<Value, Refusal> {
+    value_of(alloc, Node::Number(number(alloc, text, under)?))
+}
+
+fn kept(alloc: Global, left: Value, part: &str) -> Result<Value, Refusal> {
+    let right = number(alloc, part, "")?;
+    match left.node() {
+        Node::Number(left) => answer_of(alloc, kept_quotient(alloc, left, &right)),
+        _ => Err(Refusal::NoCall),
+    }
 }
 
 // A number with the units behind it, and those under the line.
 fn number(alloc: Global, text: &str, under: &str) -> Result<Number, Refusal> {
     let over = text.trim_start_matches(|c: char| c.is_ascii_digit() || c == '.' || c == '-');
     let value = text.strip_suffix(over).unwrap_or("");
-    let (over, under) = (names(alloc, over, '*')?, names(alloc, under, '*')?);
     let value = answer_of(alloc, Fixed::read(value))?;
-    let units = answer_of(alloc, Units::of(&over, &under))?;
-    Ok(Number::plain(value, units))
+    Ok(Number::plain(value, units(alloc, over, under)?))
 }
 
-fn kept(alloc: Global, left: &Value, right: &Number) -> Result<Value, Refusal> {
-    match left.node() {
-        Node::Number(left) => answer_of(alloc, kept_quotient(alloc, left, right)),
-        _ => Err(Refusal::NoCall),
-    }
+fn units(alloc: Global, over: &str, under: &str) -> Result<Units, Refusal> {
+    let over = names(alloc, over, '*')?;
+    let under = names(alloc, under, '*')?;
+    answer_of(alloc, Units::of(&over, &under))
 }
 
 // A text of so many letters, a null in so many lists, or a list of so many nulls.

@@ -3,7 +3,7 @@
 use crate::reader::Reader;
 use crate::values::{DEPTH, inspected};
 use std::alloc::Global;
-use sw_row_files::{Refusal, answer_of};
+use sw_row_files::{Refusal, TextWriter, answer_of};
 use sw_scope::{FrameKind, Mark, Origin, Passed, Scopes, Slot, bind};
 use sw_syntax_tree::{Expr, ExprKind, Param, Params};
 use sw_text::{List, Name, Span};
@@ -75,74 +75,88 @@ fn passed(alloc: Global, text: &str) -> Result<Passed, Refusal> {
 }
 
 fn pass(alloc: Global, passed: &mut Passed, reader: &mut Reader) -> Result<(), Refusal> {
-    if reader.took("$") {
-        let name = Name::new(alloc, reader.word())?;
-        reader.took(": ");
-        return Ok(passed.pass_named(name, reader.value(alloc, DEPTH)?)?);
+    match reader.name() {
+        Some(name) => pass_named(alloc, passed, name, reader),
+        None => pass_plain(alloc, passed, reader),
     }
+}
+
+fn pass_named(
+    alloc: Global,
+    passed: &mut Passed,
+    name: &str,
+    reader: &mut Reader,
+) -> Result<(), Refusal> {
+    let name = Name::new(alloc, name)?;
+    let value = reader.value(alloc, DEPTH)?;
+    Ok(passed.pass_named(name, value)?)
+}
+
+fn pass_plain(alloc: Global, passed: &mut Passed, reader: &mut Reader) -> Result<(), Refusal> {
     let value = reader.value(alloc, DEPTH)?;
     if reader.took("...") || reader.took(" ...") {
-        return Ok(passed.spread(alloc, &value)?);
+        Ok(passed.spread(alloc, &value)?)
+    } else {
+        Ok(passed.pass(value)?)
     }
-    Ok(passed.pass(value)?)
 }
 
 fn slots_text(alloc: Global, slots: &[(Name, Slot)]) -> Result<String, Refusal> {
-    let mut text = String::new(alloc);
+    let mut writer = TextWriter::new(alloc);
     for slot in slots {
-        if !text.is_empty() {
-            text.push_str(" | ")?;
-        }
-        text.push('$')?;
-        text.push_str(slot.0.as_str())?;
-        text.push_str(": ")?;
-        add_slot(alloc, &mut text, &slot.1)?;
+        writer.text(if writer.is_empty() { "$" } else { " | $" });
+        writer.text(slot.0.as_str());
+        writer.text(": ");
+        add_slot(alloc, &mut writer, &slot.1);
     }
-    if text.is_empty() {
-        text.push_str("nothing")?;
+    if writer.is_empty() {
+        writer.text("nothing");
     }
-    Ok(text)
+    writer.written()
 }
 
-fn add_slot(alloc: Global, text: &mut String, slot: &Slot) -> Result<(), Refusal> {
+fn add_slot(alloc: Global, writer: &mut TextWriter, slot: &Slot) {
     match slot {
-        Slot::Filled(value) => add_value(alloc, text, value),
-        Slot::Default(place) => Ok(text.push_str(format!(in alloc; "default {place}")?.as_str())?),
+        Slot::Filled(value) => add_value(alloc, writer, value),
+        Slot::Default(place) => {
+            writer.text("default ");
+            writer.shown(place);
+        }
     }
 }
 
-fn add_value(alloc: Global, text: &mut String, value: &Value) -> Result<(), Refusal> {
+fn add_value(alloc: Global, writer: &mut TextWriter, value: &Value) {
     match value.node() {
         Node::Args { items, named } => {
-            add_arguments(alloc, text, items.get().as_slice(), named.get().as_slice())
+            add_arguments(
+                alloc,
+                writer,
+                items.get().as_slice(),
+                named.get().as_slice(),
+            );
         }
-        _ => Ok(text.push_str(inspected(alloc, value)?.as_str())?),
+        _ => writer.add(inspected(alloc, value)),
     }
 }
 
 // An argument list as rows write one.
-fn add_arguments(
-    alloc: Global,
-    text: &mut String,
-    items: &[Value],
-    named: &[(Name, Value)],
-) -> Result<(), Refusal> {
-    text.push_str("args(")?;
+fn add_arguments(alloc: Global, writer: &mut TextWriter, items: &[Value], named: &[(Name, Value)]) {
+    writer.text("args(");
     let mut between = "";
     for item in items {
-        text.push_str(between)?;
-        text.push_str(inspected(alloc, item)?.as_str())?;
+        writer.text(between);
+        writer.add(inspected(alloc, item));
         between = ", ";
     }
     for variable in named {
-        text.push_str(between)?;
-        text.push('$')?;
-        text.push_str(variable.0.as_str())?;
-        text.push_str(": ")?;
-        text.push_str(inspected(alloc, &variable.1)?.as_str())?;
+        writer.text(between);
+        writer.text("$");
+        writer.text(variable.0.as_str());
+        writer.text(": ");
+        writer.add(inspected(alloc, &variable.1));
         between = ", ";
     }
-    Ok(text.push(')')?)
+    writer.text(")");
 }
 
 // Scopes in the middle of a script, the marks that were noted, and what was seen so far.
@@ -150,20 +164,20 @@ fn add_arguments(
 struct Script {
     scopes: Scopes,
     marks: Vec<(Name, Option<Mark>)>,
-    seen: String,
+    seen: TextWriter,
 }
 
 fn seen(alloc: Global, steps: &str) -> Result<String, Refusal> {
     let mut script = Script {
         scopes: Scopes::new(alloc),
         marks: Vec::new(alloc),
-        seen: String::new(alloc),
+        seen: TextWriter::new(alloc),
     };
     for step in steps.split(" | ") {
         frame_step(alloc, &mut script, step)?;
     }
     let Script { seen, .. } = script;
-    Ok(seen)
+    seen.written()
 }
 
 fn frame_step(alloc: Global, script: &mut Script, step: &str) -> Result<(), Refusal> {
@@ -209,30 +223,33 @@ fn variable_step(
     rest: &str,
 ) -> Result<(), Refusal> {
     let (name, text) = rest.split_once(' ').unwrap_or((rest, ""));
-    let name = Name::new(alloc, name)?;
     match step {
-        "look" => tell(
-            alloc,
-            &mut script.seen,
-            script.scopes.look(Origin::Own, &name),
-        ),
-        "look_other" => tell(
-            alloc,
-            &mut script.seen,
-            script.scopes.look(Origin::Other, &name),
-        ),
-        "look_top" => tell(alloc, &mut script.seen, script.scopes.look_top(&name)),
+        "look" => look(alloc, script, Origin::Own, name),
+        "look_other" => look(alloc, script, Origin::Other, name),
+        "look_top" => look_top(alloc, script, name),
         _ => assign(alloc, &mut script.scopes, step, name, text),
     }
 }
 
-fn tell(alloc: Global, seen: &mut String, value: Option<&Value>) -> Result<(), Refusal> {
+fn look(alloc: Global, script: &mut Script, origin: Origin, name: &str) -> Result<(), Refusal> {
+    let name = Name::new(alloc, name)?;
+    tell(alloc, &mut script.seen, script.scopes.look(origin, &name));
+    Ok(())
+}
+
+fn look_top(alloc: Global, script: &mut Script, name: &str) -> Result<(), Refusal> {
+    let name = Name::new(alloc, name)?;
+    tell(alloc, &mut script.seen, script.scopes.look_top(&name));
+    Ok(())
+}
+
+fn tell(alloc: Global, seen: &mut TextWriter, value: Option<&Value>) {
     if !seen.is_empty() {
-        seen.push(' ')?;
+        seen.text(" ");
     }
     match value {
-        Some(value) => Ok(seen.push_str(inspected(alloc, value)?.as_str())?),
-        None => Ok(seen.push_str("none")?),
+        Some(value) => seen.add(inspected(alloc, value)),
+        None => seen.text("none"),
     }
 }
 
@@ -240,15 +257,21 @@ fn assign(
     alloc: Global,
     scopes: &mut Scopes,
     step: &str,
-    name: Name,
+    name: &str,
     text: &str,
 ) -> Result<(), Refusal> {
+    let name = Name::new(alloc, name)?;
     let value = Reader::new(text).value(alloc, DEPTH)?;
-    match step {
-        "declare" => Ok(scopes.declare(name, value)?),
-        "set" => Ok(scopes.set(Origin::Own, name, value)?),
-        "set_other" => Ok(scopes.set(Origin::Other, name, value)?),
-        "set_top" => Ok(scopes.set_top(name, value)?),
-        _ => Err(Refusal::NoCall),
-    }
+    give(scopes, step, name, value)
+}
+
+fn give(scopes: &mut Scopes, step: &str, name: Name, value: Value) -> Result<(), Refusal> {
+    let given = match step {
+        "declare" => scopes.declare(name, value),
+        "set" => scopes.set(Origin::Own, name, value),
+        "set_other" => scopes.set(Origin::Other, name, value),
+        "set_top" => scopes.set_top(name, value),
+        _ => return Err(Refusal::NoCall),
+    };
+    Ok(given?)
 }

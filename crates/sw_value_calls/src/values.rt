@@ -1,45 +1,21 @@
 // Calls on values: `css 1/2`, `plain_css "a"`, `inspect (a: b)`, `equal 1in ; 96px`, `same a ; "a"`, `truth null`,
 // `weight (a b)`, `nesting (a b)`, `items (a: b)`, `get (a: b) ; a`, `put (a: b) ; a ; c`, and on a list or map itself
 // `push (a, b) ; c`, `set (a: b) ; a ; c`.
-use crate::reader::Reader;
+use crate::reader::values_of;
 use std::alloc::Global;
-use sw_row_files::{Refusal, answer_of};
+use std::fmt::{Debug, Display};
+use sw_row_files::{Refusal, TextWriter, answer_of};
 use sw_values::{Node, Pairs, Separator, Value};
 
 /// How many brackets of a row stand in one another at most.
 pub const DEPTH: u32 = 100;
 
 pub fn answer(alloc: Global, name: &str, text: &str) -> Result<String, Refusal> {
-    let mut reader = Reader::new(text);
-    let value = reader.value(alloc, DEPTH)?;
-    if reader.is_done() {
-        return one_call(alloc, name, &value);
-    }
-    longer_call(alloc, name, &value, &mut reader)
-}
-
-// A call of this value and those behind it.
-fn longer_call(
-    alloc: Global,
-    name: &str,
-    one: &Value,
-    reader: &mut Reader,
-) -> Result<String, Refusal> {
-    let other = next(alloc, reader)?;
-    if reader.is_done() {
-        two_call(alloc, name, one, &other)
-    } else {
-        let last = next(alloc, reader)?;
-        three_call(alloc, name, one, &other, &last)
-    }
-}
-
-// The value behind a ` ; `.
-fn next(alloc: Global, reader: &mut Reader) -> Result<Value, Refusal> {
-    if reader.took(" ; ") {
-        reader.value(alloc, DEPTH)
-    } else {
-        Err(Refusal::NoCall)
+    match values_of(alloc, text)?.as_slice() {
+        [one] => one_call(alloc, name, one),
+        [one, other] => two_call(alloc, name, one, other),
+        [map, key, value] => three_call(alloc, name, map, key, value),
+        _ => Err(Refusal::NoCall),
     }
 }
 
@@ -59,16 +35,13 @@ fn three_call(
 
 fn put(alloc: Global, map: &Value, key: &Value, value: &Value) -> Result<String, Refusal> {
     let pairs = pairs_of(map)?.with_value(alloc, key, value)?;
-    inspected(alloc, &value_of(alloc, Node::Map(pairs))?)
+    told(alloc, Value::of(Node::Map(pairs)))
 }
 
 // The map itself with a value for a key.
 fn set(alloc: Global, map: &Value, key: &Value, value: &Value) -> Result<String, Refusal> {
     match map.node() {
-        Node::Map(_) => {
-            let map = answer_of(alloc, map.share()?.set_key(alloc, key, value))?;
-            inspected(alloc, &map)
-        }
+        Node::Map(_) => told(alloc, map.share()?.set_key(alloc, key, value)),
         _ => Err(Refusal::NoCall),
     }
 }
@@ -78,11 +51,10 @@ fn push(alloc: Global, list: &Value, item: &Value) -> Result<String, Refusal> {
     match list.node() {
         Node::List { .. } => {
             let item = item.share()?;
-            let list = answer_of(
+            told(
                 alloc,
                 list.share()?.push_item(alloc, item, Separator::Comma),
-            )?;
-            inspected(alloc, &list)
+            )
         }
         _ => Err(Refusal::NoCall),
     }
@@ -94,14 +66,14 @@ fn items(alloc: Global, value: &Value) -> Result<String, Refusal> {
     if items.is_empty() {
         return Ok(String::from_str(alloc, "nothing")?);
     }
-    let mut text = String::new(alloc);
+    let mut writer = TextWriter::new(alloc);
     let mut between = "";
     for item in items.as_slice() {
-        text.push_str(between)?;
-        text.push_str(inspected(alloc, item)?.as_str())?;
+        writer.text(between);
+        writer.add(inspected(alloc, item));
         between = " | ";
     }
-    Ok(text)
+    writer.written()
 }
 
 fn one_call(alloc: Global, name: &str, value: &Value) -> Result<String, Refusal> {
@@ -110,24 +82,33 @@ fn one_call(alloc: Global, name: &str, value: &Value) -> Result<String, Refusal>
         "plain_css" => css(alloc, value, false),
         "inspect" => inspected(alloc, value),
         "items" => items(alloc, value),
-        "truth" => Ok(format!(in alloc; "{}", value.truth())?),
-        "weight" => Ok(format!(in alloc; "{}", value.weight())?),
-        "nesting" => Ok(format!(in alloc; "{}", value.nesting())?),
+        "truth" => shown(alloc, &value.truth()),
+        "weight" => shown(alloc, &value.weight()),
+        "nesting" => shown(alloc, &value.nesting()),
         _ => Err(Refusal::NoCall),
     }
 }
 
 fn two_call(alloc: Global, name: &str, one: &Value, other: &Value) -> Result<String, Refusal> {
     match name {
-        "equal" => Ok(format!(in alloc; "{}", one.equals(other))?),
-        "same" => Ok(format!(in alloc; "{}", one.same(other))?),
+        "equal" => shown(alloc, &one.equals(other)),
+        "same" => shown(alloc, &one.same(other)),
         "push" => push(alloc, one, other),
-        "get" => match pairs_of(one)?.get(&other.canon(alloc)?) {
-            Some(value) => inspected(alloc, value),
-            None => Ok(String::from_str(alloc, "none")?),
-        },
+        "get" => get(alloc, one, other),
         _ => Err(Refusal::NoCall),
     }
+}
+
+fn get(alloc: Global, map: &Value, key: &Value) -> Result<String, Refusal> {
+    match pairs_of(map)?.get(&key.canon(alloc)?) {
+        Some(value) => inspected(alloc, value),
+        None => Ok(String::from_str(alloc, "none")?),
+    }
+}
+
+// A truth or a count.
+fn shown(alloc: Global, plain: &impl Display) -> Result<String, Refusal> {
+    Ok(format!(in alloc; "{plain}")?)
 }
 
 fn pairs_of(value: &Value) -> Result<&Pairs, Refusal> {
@@ -145,6 +126,11 @@ fn css(alloc: Global, value: &Value, quotes: bool) -> Result<String, Refusal> {
 /// A value of these parts.
 pub fn value_of(alloc: Global, node: Node) -> Result<Value, Refusal> {
     answer_of(alloc, Value::of(node))
+}
+
+/// The text for a reader of the value that a library answers.
+pub fn told<F: Debug + Drop>(alloc: Global, answer: Result<Value, F>) -> Result<String, Refusal> {
+    inspected(alloc, &answer_of(alloc, answer)?)
 }
 
 /// A value's text for a reader.
