@@ -17,35 +17,26 @@ const ONE: i128 = 10_000_000_000;
 const HUNDRED: i128 = 1_000_000_000_000;
 
 pub fn answer(alloc: Global, name: &str, text: &str) -> Result<String, Refusal> {
-    match name {
-        "equal" | "same" => compared(alloc, name, text),
-        "literal" => literal(alloc, text),
-        "hsl" => hsl(alloc, text),
-        _ => shown(alloc, &made(alloc, name, text)?),
-    }
-}
-
-// The colour that a call makes.
-fn made(alloc: Global, name: &str, text: &str) -> Result<Colour, Refusal> {
     let (left, right) = text.split_once(" ; ").unwrap_or((text, ""));
     match name {
-        "named" => named(alloc, text),
-        "hex" => hex(alloc, text),
-        "of_hsl" => of_hsl(alloc, text),
-        "colour" => colour(alloc, text),
+        "named" => shown(alloc, &found(alloc, Colour::by_name(alloc, text)?)?),
+        "hex" => shown(alloc, &found(alloc, Colour::from_hex(alloc, text)?)?),
+        "of_hsl" => shown(alloc, &of_hsl(alloc, text)?),
+        "equal" | "same" => compared(alloc, name, left, right),
         "mix" => mixed(alloc, left, right),
-        "adjust" => adjusted(alloc, left, right),
-        "scale" => scaled(alloc, left, right),
-        _ => Err(Refusal::NoCall),
+        _ => turned(alloc, name, &colour(alloc, left)?, right),
     }
 }
 
-fn named(alloc: Global, text: &str) -> Result<Colour, Refusal> {
-    found(alloc, Colour::by_name(alloc, text)?)
-}
-
-fn hex(alloc: Global, text: &str) -> Result<Colour, Refusal> {
-    found(alloc, Colour::from_hex(alloc, text)?)
+fn turned(alloc: Global, name: &str, colour: &Colour, text: &str) -> Result<String, Refusal> {
+    match name {
+        "colour" => shown(alloc, colour),
+        "literal" => spelt(alloc, &colour.share()?),
+        "hsl" => hsl(alloc, colour),
+        "adjust" => shown(alloc, &adjusted(alloc, colour, text)?),
+        "scale" => shown(alloc, &scaled(alloc, colour, text)?),
+        _ => Err(Refusal::NoCall),
+    }
 }
 
 fn found(alloc: Global, colour: Option<Colour>) -> Result<Colour, Refusal> {
@@ -60,9 +51,9 @@ fn colour(alloc: Global, text: &str) -> Result<Colour, Refusal> {
     if let Some((channels, alpha)) = text.rsplit_once(' ') {
         of_channels(alloc, channels, alpha)
     } else if text.starts_with('#') {
-        hex(alloc, text)
+        found(alloc, Colour::from_hex(alloc, text)?)
     } else {
-        named(alloc, text)
+        found(alloc, Colour::by_name(alloc, text)?)
     }
 }
 
@@ -99,27 +90,24 @@ fn of_hsl(alloc: Global, text: &str) -> Result<Colour, Refusal> {
     Ok(Colour::from_hsl(&hsl, alpha_of(alloc, "1")?))
 }
 
-fn compared(alloc: Global, name: &str, text: &str) -> Result<String, Refusal> {
-    let (left, right) = text.split_once(" ; ").unwrap_or((text, ""));
+fn compared(alloc: Global, name: &str, left: &str, right: &str) -> Result<String, Refusal> {
     let left = colour(alloc, left)?;
     let right = colour(alloc, right)?;
-    let is_so = if name == "same" {
-        left.same(&right)
+    if name == "same" {
+        yes_or_no(alloc, left.same(&right))
     } else {
-        left.equals(&right)
-    };
-    yes_or_no(alloc, is_so)
+        yes_or_no(alloc, left.equals(&right))
+    }
 }
 
-fn mixed(alloc: Global, one: &str, rest: &str) -> Result<Colour, Refusal> {
+fn mixed(alloc: Global, one: &str, rest: &str) -> Result<String, Refusal> {
     let (other, weight) = rest.split_once(" ; ").unwrap_or((rest, ""));
     let weight = decimal(alloc, weight)?;
     if weight.mantissa() < 0 || weight.mantissa() > HUNDRED {
         return Err(Refusal::NoCall);
     }
     let one = colour(alloc, one)?;
-    let other = colour(alloc, other)?;
-    Ok(mix(&one, &other, weight))
+    shown(alloc, &mix(&one, &colour(alloc, other)?, weight))
 }
 
 // The amount of a part, as of `alpha` in `hue 20, alpha -0.5`.
@@ -152,12 +140,7 @@ fn names_channels(text: &str) -> bool {
     text.contains("red ") || text.contains("green ") || text.contains("blue ")
 }
 
-fn adjusted(alloc: Global, from: &str, text: &str) -> Result<Colour, Refusal> {
-    let by = change(alloc, text)?;
-    Ok(adjust(&colour(alloc, from)?, &by))
-}
-
-fn change(alloc: Global, text: &str) -> Result<Change, Refusal> {
+fn adjusted(alloc: Global, colour: &Colour, text: &str) -> Result<Colour, Refusal> {
     let mut by = Change::default();
     by.alpha = amount(alloc, text, "alpha")?;
     if names_channels(text) {
@@ -169,11 +152,10 @@ fn change(alloc: Global, text: &str) -> Result<Change, Refusal> {
         by.saturation = amount(alloc, text, "saturation")?;
         by.lightness = amount(alloc, text, "lightness")?;
     }
-    Ok(by)
+    Ok(adjust(colour, &by))
 }
 
-fn scaled(alloc: Global, from: &str, text: &str) -> Result<Colour, Refusal> {
-    let colour = colour(alloc, from)?;
+fn scaled(alloc: Global, colour: &Colour, text: &str) -> Result<Colour, Refusal> {
     let mut by = Change::default();
     by.alpha = percent(alloc, text, "alpha")?;
     if names_channels(text) {
@@ -184,22 +166,17 @@ fn scaled(alloc: Global, from: &str, text: &str) -> Result<Colour, Refusal> {
         by.saturation = percent(alloc, text, "saturation")?;
         by.lightness = percent(alloc, text, "lightness")?;
     }
-    Ok(scale(&colour, &by))
+    Ok(scale(colour, &by))
 }
 
-fn hsl(alloc: Global, text: &str) -> Result<String, Refusal> {
-    let hsl = colour(alloc, text)?.to_hsl();
-    let mut bytes = Vec::new(alloc);
-    hsl.hue.write_into(&mut bytes)?;
-    bytes.push(b' ')?;
-    hsl.saturation.write_into(&mut bytes)?;
-    bytes.push(b' ')?;
-    hsl.lightness.write_into(&mut bytes)?;
-    text_of(alloc, &bytes)
-}
-
-fn literal(alloc: Global, text: &str) -> Result<String, Refusal> {
-    spelt(alloc, &colour(alloc, text)?.share()?)
+fn hsl(alloc: Global, colour: &Colour) -> Result<String, Refusal> {
+    let hsl = colour.to_hsl();
+    let mut text = written(alloc, hsl.hue)?;
+    for part in [hsl.saturation, hsl.lightness] {
+        text.push(' ')?;
+        text.push_str(written(alloc, part)?.as_str())?;
+    }
+    Ok(text)
 }
 
 fn spelt(alloc: Global, colour: &Colour) -> Result<String, Refusal> {
