@@ -87,7 +87,12 @@ fn sheets_in<R: Files + AllocGlobal + Clone + Drop>(
         let Some(folder) = found.folders.pop() else {
             return Ok(List::from_vec(found.paths));
         };
-        add_entries(files, alloc, dir, folder.as_str(), &mut found)?;
+        match add_entries(files, alloc, dir, folder.as_str(), &mut found) {
+            Ok(()) => {}
+            // It went after its name was read.
+            Err(error) if error.kind() == ErrorKind::NotFound => {}
+            Err(error) => return Err(error),
+        }
     }
     Err(io::Error::from(ErrorKind::FileTooLarge))
 }
