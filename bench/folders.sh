@@ -153,22 +153,29 @@ try:
             os.close(file)
         fastest["read"] = min(fastest["read"], time.perf_counter() - begun)
 
-    # The last file in the order of reading comes and goes, so that it is often listed and then gone.
+    # The last file in the order of reading comes and goes, so that it is often listed and then gone; so do folders below.
     shown, hidden = os.path.join(many, "f4094.scss"), os.path.join(place, "hidden")
+    below = [(os.path.join(many, f"below{number}"), os.path.join(place, f"away{number}")) for number in range(40)]
+    for folder, _ in below:
+        os.mkdir(folder)
     over = threading.Event()
 
     def flicker():
         while not over.wait(0.003):
             os.rename(shown, hidden)
+            for here, away in below:
+                os.rename(here, away)
             over.wait(0.003)
             os.rename(hidden, shown)
+            for here, away in below:
+                os.rename(away, here)
 
     thread = threading.Thread(target=flicker)
     thread.start()
     seen = {poll.scan()[1] for _ in range(200)}
     over.set()
     thread.join()
-    told("a file that comes and goes is there or isn't", seen, {rule("4094"), "error 19 a.scss 1:6 1:13"})
+    told("a file that comes and goes, beside folders that do, is there or isn't", seen, {rule("4094"), "error 19 a.scss 1:6 1:13"})
     told("and is there at last", poll.scan()[1], rule("4094"))
     told("status", poll.ends(), 0)
     print(f"a scan of 4,096 sheets takes {fastest['scan']:.3f} s, opening and reading each by another program {fastest['read']:.3f} s")
