@@ -24,12 +24,13 @@ const NO_COMMAND: u8 = 7;
 // No memory was found to read them.
 const NO_MEMORY: u8 = 6;
 
-/// Does what the words of the command line ask for, without the program's name, and gives the status: `session` answers
-/// the requests of the source without functions of a host, `once DIR ENTRY LOAD..` compiles a folder of the disk and
-/// writes its CSS alone, or the line of its fault, and `poll DIR ENTRY LOAD..` reads and compiles it at each line `scan`
-/// of the source; `make N` compiles the made folder of this number and its edits and writes their summary. The audience is
-/// told of the reply to each compile, once it is written, and of those of `make` as they are formed. Words in no such form
-/// give 7, and nothing is read, written, run or told; nor is it where no memory is found to read the words, which gives 6.
+/// Does what the words of the command line ask for, without the program's name, and gives the status: `session`
+/// answers the requests of the source without functions of a host, `once DIR ENTRY LOAD..` compiles a folder of the
+/// disk and writes its CSS alone, or the line of its fault, and `poll DIR ENTRY LOAD..` reads and compiles it at each
+/// line `scan` of the source; `make N` compiles the made folder of this number and its edits and writes their summary.
+/// The audience is told of the reply to each compile, once it is written, and of those of `make` as they are formed.
+/// Words in no such form give 7, and nothing is read, written, run or told; nor is it where no memory is found to read
+/// the words, which gives 6.
 pub fn run<S: Source, K: Sink, D: Disk, E: Engine, T: Audience<Reply>>(
     alloc: Global,
     words: &[Name],
