@@ -1,7 +1,9 @@
 -- The forms of the command line. This project's own rule.
-use Rattle.std.specs.Prelude.{ℕ, ◌+◌, ◌-◌, ◌*◌, Bool, false, not, ◌&&◌, ◌||◌, ◌==◌, nat_le, if◌then◌else◌, List, [], ◌∷◌, length, codes, bytes_eq, Option, None, Some, option_map}
+use Rattle.std.specs.Prelude.{ℕ, Bool, false, not, ◌&&◌, ◌==◌, nat_le, if◌then◌else◌, List, [], ◌∷◌, length, codes, bytes_eq, Option, None, Some, option_map}
 use Rattle.std.specs.List.{list_all}
 use Rattle.sw_folder.specs.Paths.{is_path}
+use Rattle.sw_fields.specs.LoadPaths.{is_load_path}
+use Rattle.sw_fields.specs.Numbers.{number_of}
 use Rattle.sw_command_line.specs.declared.command.Command.{Command}
 use Rattle.sw_command_line.specs.declared.command.Command.TheVariants as code
 use Rattle.sw_command_line.specs.declared.command.Target.{Target as Seen}
@@ -23,10 +25,6 @@ abbrev pub is_plain : List ℕ → Bool
 is_plain [] = not false
 is_plain (byte ∷ bytes) = not (byte == 45)
 
--- a path of the folder, or the folder itself
-abbrev pub is_load_path : List ℕ → Bool
-is_load_path text = bytes_eq text (codes ".") || is_path text
-
 -- a folder is named by any text but the empty one; there are at most eight load paths
 abbrev pub is_target : List ℕ → List ℕ → List (List ℕ) → Bool
 is_target dir entry paths =
@@ -42,25 +40,14 @@ abbrev pub session_by : List (List ℕ) → Option Form
 session_by [] = Some Session
 session_by (word ∷ words) = None
 
--- a digit may stand behind the digits of n, at most six in all
-abbrev pub can_follow : ℕ → ℕ → Bool
-can_follow n digit = nat_le 48 digit && (nat_le digit 57 && nat_le n 99999)
-
--- with n for the digits so far
-unfoldable pub number_from : ℕ → List ℕ → Option ℕ
-number_from n [] = Some n
-number_from n (digit ∷ digits) = if can_follow n digit then number_from (10 * n + (digit - 48)) digits else None
-
 -- one to six digits, with no 0 before others
-abbrev pub number_of : List ℕ → Option ℕ
-number_of [] = None
-number_of (digit ∷ []) = number_from 0 (digit ∷ [])
-number_of (digit ∷ more ∷ digits) = if digit == 48 then None else number_from 0 (digit ∷ more ∷ digits)
+abbrev pub made_number : List ℕ → Option ℕ
+made_number digits = number_of 99999 digits
 
 -- a number alone
 abbrev pub make_by : List (List ℕ) → Option Form
 make_by [] = None
-make_by (word ∷ []) = option_map Make (number_of word)
+make_by (word ∷ []) = option_map Make (made_number word)
 make_by (word ∷ more ∷ words) = None
 
 -- what a command's name asks for with these words behind it

@@ -1,13 +1,17 @@
 // Which command the words of a command line ask for.
 ghost use Rattle.std.specs.Prelude.{◌≡◌, option_map};
 ghost use Rattle.std.specs.List.{list_all};
-ghost use Rattle.sw_command_line.specs.Forms.{form_of, form_by, form_seen, named, Once, Poll, make_by, target_of, target_seen, session_by, is_target, is_load_path, is_plain};
+ghost use Rattle.sw_command_line.specs.Forms.{form_of, form_by, form_seen, named, Once, Poll, make_by, target_of, target_seen, session_by, is_target, is_plain};
+ghost use Rattle.sw_fields.specs.LoadPaths.{is_load_path};
 
-use crate::number::read_number;
+use sw_fields::{is_load_path, read_number};
 use sw_folder::is_path;
 use sw_text::Name;
 
 const MOST_PATHS: usize = 8;
+
+// The last number with fewer digits than the six that one may have.
+const LAST_SHORT: u32 = 99_999;
 
 /// What is compiled.
 #[derive(Clone, Copy, Debug)]
@@ -97,7 +101,7 @@ fn make<'a>(words: &'a [Name]) -> Option<Command<'a>>
     ensures { option_map form_seen result ≡ make_by words.now }
 {
     match words {
-        [word] => match read_number(word.as_str().as_bytes()) {
+        [word] => match read_number(LAST_SHORT, word.as_str().as_bytes()) {
             None => None,
             Some(number) => Some(Command::Make(number)),
         },
@@ -135,12 +139,6 @@ fn all_load_paths(paths: &[Name]) -> bool
         }
     }
     true
-}
-
-fn is_load_path(text: &str) -> bool
-    ensures { result ≡ is_load_path text.now }
-{
-    text == "." || is_path(text)
 }
 
 fn all_plain(words: &[Name]) -> bool

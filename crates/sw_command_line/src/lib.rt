@@ -3,6 +3,5 @@
 #![tactic(auto)]
 
 mod command;
-mod number;
 
 pub use command::{Command, Target, command_of};

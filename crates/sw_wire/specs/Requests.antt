@@ -1,19 +1,15 @@
 -- What a line asks for. This project's own rule.
-use Rattle.std.specs.Prelude.{◌≡◌, ℕ, Bool, ◌&&◌, ◌||◌, nat_le, if◌then◌else◌, List, [], ◌∷◌, Option, None, Some, Result, Ok, Err, codes, length}
+use Rattle.std.specs.Prelude.{◌≡◌, ℕ, Bool, ◌&&◌, nat_le, if◌then◌else◌, List, [], ◌∷◌, Option, None, Some, Result, Ok, Err, codes, length}
 use Rattle.std.specs.Option.{option_map}
 use Rattle.std.specs.Str.{bytes_eq}
 use Rattle.std.specs.List.{list_all}
-use Rattle.sw_folder.specs.Paths.{is_path}
+use Rattle.sw_fields.specs.LoadPaths.{is_load_path}
+use Rattle.sw_fields.specs.Numbers.{number_of}
 use Rattle.sw_wire.specs.declared.fault.LineFault.{LineFault}
 use Rattle.sw_wire.specs.declared.fault.LineFault.TheVariants.{NotARequest, Memory}
 use Rattle.sw_wire.specs.declared.request.Request.{Request}
 use Rattle.sw_wire.specs.declared.request.Request.TheVariants.{Put, Remove, Compile, End}
 use Rattle.sw_wire.specs.Words.{words_of, is_word}
-use Rattle.sw_wire.specs.Numbers.{number_of}
-
--- a path of the folder, or the folder itself
-abbrev pub is_load_path : List ℕ → Bool
-is_load_path text = bytes_eq text (codes ".") || is_path text
 
 abbrev pub is_base : List ℕ → Bool
 is_base word = is_word word && is_load_path word
@@ -22,8 +18,9 @@ is_base word = is_word word && is_load_path word
 abbrev pub bases_by : List (List ℕ) → Option (List (List ℕ))
 bases_by words = if nat_le (length words) 8 && list_all is_base words then Some words else None
 
+-- a length has one to seven digits, with no 0 before others
 abbrev pub length_by : List ℕ → List ℕ → Option Request
-length_by path digits = option_map (Put path) (number_of digits)
+length_by path digits = option_map (Put path) (number_of 999999 digits)
 
 abbrev pub put_by : List ℕ → List (List ℕ) → Option Request
 put_by path [] = None

@@ -1,12 +1,12 @@
 // The load paths of a compile's line.
 ghost use Rattle.std.specs.Prelude.{◌≡◌, true, false, MatchOption};
 ghost use Rattle.sw_wire.specs.Words.{rest_words};
-ghost use Rattle.sw_wire.specs.Requests.{is_base, is_load_path, bases_by, IsRead};
+ghost use Rattle.sw_wire.specs.Requests.{is_base, bases_by, IsRead};
 
 use crate::LineFault;
 use crate::words::{cut_word, word_text};
 use std::alloc::Global;
-use sw_folder::is_path;
+use sw_fields::is_load_path;
 use sw_text::{List, Name};
 
 const MOST_BASES: usize = 8;
@@ -37,13 +37,7 @@ fn base_text(word: &[u8]) -> Option<&str>
         (λ text. (is_base word.now ≡ true) × (text.now ≡ word.now)) }
 {
     match word_text(word) {
-        Some(text) => { if is_base(text) { Some(text) } else { None } }
+        Some(text) => { if is_load_path(text) { Some(text) } else { None } }
         None => None,
     }
-}
-
-fn is_base(text: &str) -> bool
-    ensures { result ≡ is_load_path text.now }
-{
-    text == "." || is_path(text)
 }

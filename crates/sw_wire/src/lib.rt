@@ -4,7 +4,6 @@
 
 mod bases;
 mod fault;
-mod number;
 mod read;
 mod reply;
 mod request;

@@ -4,11 +4,14 @@ ghost use Rattle.sw_wire.specs.Words.{words_of, rest_words};
 ghost use Rattle.sw_wire.specs.Requests.{request_of, request_by, named_by, put_by, removal_by, compile_by, length_by, IsRead};
 
 use crate::bases::read_bases;
-use crate::number::read_number;
 use crate::words::{cut_word, word_text};
 use crate::{LineFault, Request};
 use std::alloc::Global;
+use sw_fields::read_number;
 use sw_text::Name;
+
+// The last number with fewer digits than the seven that a length may have.
+const LAST_SHORT: u32 = 999_999;
 
 /// The request that a line asks for: words of the bytes 0x21 to 0x7E with one space between them, which are
 /// `put PATH N` with one to seven digits without a needless leading zero, `remove PATH`, `compile PATH DIR..` with at
@@ -83,7 +86,7 @@ fn read_put(alloc: Global, path: &str, more: Option<&[u8]>) -> Result<Request, L
 fn read_length(alloc: Global, path: &str, digits: &[u8]) -> Result<Request, LineFault>
     ensures { IsRead result (length_by path.now digits.now) }
 {
-    match read_number(digits) {
+    match read_number(LAST_SHORT, digits) {
         None => Err(LineFault::NotARequest),
         Some(length) => {
             let path = Name::new(alloc, path)?;

@@ -1,6 +1,6 @@
 use Rattle.std.proofs.Common.{◌≡◌, drop}
 use Rattle.std.specs.List.{list_all}
-use Rattle.sw_command_line.specs.Forms.{is_load_path}
+use Rattle.sw_fields.specs.LoadPaths.{is_load_path}
 use Rattle.sw_command_line.proofs.command.all_load_paths.Given as goal
 
 abbrev pub invariant-loop-path : goal.invariant-loop-path
