@@ -20,4 +20,4 @@ pub use op::{Filter, Given, How, Member, Op, SayKind, Saying};
 pub use parts::share_pairs;
 pub use share::Share;
 pub use table::{Table, find_in};
-pub use world::World;
+pub use world::{Confirms, World};
