@@ -1,5 +1,5 @@
 -- What answers the questions of bodies: the live state and the host's functions (this project's own rule).
-use Rattle.std.specs.Prelude.{ℕ, List, [], ◌∷◌, ◌++◌, Option}
+use Rattle.std.specs.Prelude.{◌≡◌, ℕ, List, [], ◌∷◌, ◌++◌, Option}
 use Rattle.sw_values.specs.declared.plain.Plain.{Plain}
 use Rattle.sw_world.specs.Hosts.{HostState}
 use Rattle.sw_world.specs.declared.op.Op.{Op}
@@ -35,3 +35,12 @@ plain functions (Say kind span text) o = (
 plain functions (Call name args) o =
     (Hosted (functions.answer o.hosts name args), record o { hosts = functions.after o.hosts name args })
 plain functions (Load site url span how config) o = (Done, o)
+
+-- a question for a name or a value is answered so, which changes nothing
+abbrev pub IsAnswer : State → Op → Answer → Type 0
+IsAnswer s (Find site space kind name) answer = found s site space kind name ≡ answer
+IsAnswer s (Get owner name) answer = Value (value_of s owner name) ≡ answer
+IsAnswer s (Put owner name value) answer = ⊥
+IsAnswer s (Say kind span text) answer = ⊥
+IsAnswer s (Call name args) answer = ⊥
+IsAnswer s (Load site url span how config) answer = ⊥

@@ -11,7 +11,7 @@ use crate::Live;
 use std::alloc::Global;
 use sw_text::{Memory, Name, Span};
 use sw_values::Value;
-use sw_world::{Answer, Hosts, Op, SayKind, World};
+use sw_world::{Answer, Confirms, Hosts, Op, SayKind, World};
 
 impl<'a> Live<'a> {
     /// The answer to a question that is no load. After `Memory` the state and the host are as before.
@@ -80,5 +80,11 @@ impl<'b, 'a, H: Hosts> World for Asked<'b, 'a, H> {
 
     fn ask(&mut self, _alloc: Global, op: &Op) -> Result<Answer, Memory> {
         self.live.answer(op, self.hosts)
+    }
+}
+
+impl<'b, 'a, H: Hosts> Confirms for Asked<'b, 'a, H> {
+    fn confirms(&mut self, op: &Op, kept: &Answer) -> bool {
+        self.live.confirms(op, kept)
     }
 }

@@ -5,6 +5,7 @@
 mod ask;
 mod built_ins;
 mod callables;
+mod confirm;
 mod ends;
 mod interfaces;
 mod laws;

@@ -1,5 +1,5 @@
 -- What asking the questions of a kept run again comes to (this project's own rule).
-use Rattle.std.specs.Prelude.{◌≡◌, ℕ, ◌≤◌, List, length, Some, slice_get, slice_range}
+use Rattle.std.specs.Prelude.{◌≡◌, ℕ, ◌≤◌, List, length, Option, None, Some, slice_get, slice_range}
 use Rattle.sw_world.specs.declared.op.Op.{Op}
 use Rattle.sw_world.specs.declared.answer.Answer.{Answer}
 use Rattle.sw_world.specs.Questions.{IsLoad, Fits}
@@ -11,6 +11,11 @@ use Rattle.sw_record.specs.declared.again.Replayed.TheVariants.{Same, Load, Diff
 abbrev pub AskedAgain : {W : Type 0} → (W → Op → Answer → W → Type 0) → List Pair → ℕ → ℕ → W → W → Type 0
 AskedAgain gives seen from to w after =
     (from ≤ to) × (to ≤ length seen) × Leads gives w (slice_range seen from to) after
+
+-- the question is answered as it was kept, or otherwise
+abbrev pub IsOther : {W : Type 0} → (W → Op → Answer → W → Type 0) → Op → Answer → Option Answer → W → W → Type 0
+IsOther gives op kept None w after = gives w op kept after
+IsOther gives op kept (Some answer) w after = gives w op answer after × (kept ≡ answer → ⊥) × Fits op answer
 
 -- the question at the place is a load
 pub record LoadAt (seen : List Pair) (at : ℕ) : Type 0 where

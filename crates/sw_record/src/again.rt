@@ -1,11 +1,12 @@
 // The replay of a kept run's questions.
 ghost use Rattle.std.specs.Prelude.{◌≡◌, ℕ, ◌≤◌, IfOk, OnErr, length};
-ghost use Rattle.sw_record.specs.Replay.{IsReplay, AskedAgain};
+ghost use Rattle.sw_world.specs.Questions.{IsLoad};
+ghost use Rattle.sw_record.specs.Replay.{IsReplay, AskedAgain, IsOther};
 
 use crate::Run;
 use std::alloc::Global;
 use sw_text::Memory;
-use sw_world::{Answer, Engine, World};
+use sw_world::{Answer, Confirms, Engine, Op};
 
 /// What asking the questions of a kept run again comes to.
 #[derive(Drop)]
@@ -20,7 +21,7 @@ pub enum Replayed {
 
 /// Asks the kept questions from a place on, in order, up to the first load or the first answer that isn't the kept one.
 /// Takes no memory of its own. After `Memory` some first questions of these were asked, and answered as before.
-pub fn replay<E: Engine, W: World>(
+pub fn replay<E: Engine, W: Confirms>(
     alloc: Global,
     run: &Run<E>,
     from: usize,
@@ -36,10 +37,33 @@ pub fn replay<E: Engine, W: World>(
         if op.is_load() {
             return Ok(Replayed::Load(at));
         }
-        let answer = world.ask(alloc, op)?;
-        if !kept.same(&answer) {
-            return Ok(Replayed::Differs { at, answer });
+        match other_answer(alloc, op, kept, world)? {
+            None => {}
+            Some(answer) => return Ok(Replayed::Differs { at, answer }),
         }
     }
     Ok(Replayed::Same)
+}
+
+// The answer to a question that is answered otherwise than it was kept. It is made only where the world can't tell
+// without it whether the kept one is given still.
+fn other_answer<W: Confirms>(
+    alloc: Global,
+    op: &Op,
+    kept: &Answer,
+    world: &mut W,
+) -> Result<Option<Answer>, Memory>
+    requires { IsLoad op.now → ⊥ }
+    ensures ok { IfOk result (λ other. IsOther W.gives op.now kept.now other world.old world.new) }
+    ensures err { OnErr result (world.new ≡ world.old) }
+{
+    if world.confirms(op, kept) {
+        return Ok(None);
+    }
+    let answer = world.ask(alloc, op)?;
+    if kept.same(&answer) {
+        Ok(None)
+    } else {
+        Ok(Some(answer))
+    }
 }
