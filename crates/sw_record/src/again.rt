@@ -6,7 +6,7 @@ ghost use Rattle.sw_record.specs.Replay.{IsReplay, AskedAgain, IsOther};
 use crate::Run;
 use std::alloc::Global;
 use sw_text::Memory;
-use sw_world::{Answer, Confirms, Engine, Op};
+use sw_world::{Answer, Confirms, Engine, Op, World};
 
 /// What asking the questions of a kept run again comes to.
 #[derive(Drop)]
@@ -37,6 +37,9 @@ pub fn replay<E: Engine, W: Confirms>(
         if op.is_load() {
             return Ok(Replayed::Load(at));
         }
+        if world.confirms(op, kept) {
+            continue;
+        }
         match other_answer(alloc, op, kept, world)? {
             None => {}
             Some(answer) => return Ok(Replayed::Differs { at, answer }),
@@ -45,9 +48,10 @@ pub fn replay<E: Engine, W: Confirms>(
     Ok(Replayed::Same)
 }
 
-// The answer to a question that is answered otherwise than it was kept. It is made only where the world can't tell
-// without it whether the kept one is given still.
-fn other_answer<W: Confirms>(
+// The answer to a question that is answered otherwise than it was kept. It is large to move, so it has a function of its
+// own, and a confirmed answer none.
+#[inline(never)]
+fn other_answer<W: World>(
     alloc: Global,
     op: &Op,
     kept: &Answer,
@@ -57,9 +61,6 @@ fn other_answer<W: Confirms>(
     ensures ok { IfOk result (λ other. IsOther W.gives op.now kept.now other world.old world.new) }
     ensures err { OnErr result (world.new ≡ world.old) }
 {
-    if world.confirms(op, kept) {
-        return Ok(None);
-    }
     let answer = world.ask(alloc, op)?;
     if kept.same(&answer) {
         Ok(None)
