@@ -7,11 +7,10 @@ use Rattle.sw_terminals.specs.declared.terminal.Terminal.{Terminal}
 use Rattle.sw_terminals.specs.declared.lexeme.Lexeme.{Lexeme}
 use Rattle.sw_lexemes.specs.declared.plain.Plain.{Plain}
 use Rattle.sw_lexemes.specs.declared.state.State.{State}
-use Rattle.sw_lexemes.specs.declared.pass.Reading.{Reading}
 use Rattle.sw_lexemes.specs.Plains.{PlainLies}
 use Rattle.sw_lexemes.specs.Terminals.{terminal_of}
 use Rattle.sw_lexemes.specs.Steps.{placed, is_white}
-use Rattle.sw_lexemes.specs.Lexemes.{lexeme_of, skipped, kept, read_placed, read, optional, lexemes_from, lexemes_by}
+use Rattle.sw_lexemes.specs.Lexemes.{Reading, lexeme_of, skipped, kept, read_placed, read, optional, lexemes_from, lexemes_by}
 
 abbrev Lies : List ℕ → Reading → Type 0
 Lies bytes reading = All (LexemeLies bytes) (optional reading.lexeme)

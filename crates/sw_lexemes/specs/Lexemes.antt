@@ -9,10 +9,14 @@ use Rattle.sw_lexemes.specs.declared.state.Mode.{Mode}
 use Rattle.sw_lexemes.specs.declared.state.Mode.TheVariants as modes
 use Rattle.sw_lexemes.specs.declared.state.Comments.TheVariants as comment
 use Rattle.sw_lexemes.specs.declared.state.State.{State}
-use Rattle.sw_lexemes.specs.declared.pass.Reading.{Reading}
 use Rattle.sw_lexemes.specs.Plains.{plains_of}
 use Rattle.sw_lexemes.specs.Terminals.{terminal_of}
 use Rattle.sw_lexemes.specs.Steps.{placed, is_white, past_white, after}
+
+-- what comes of a token: what the grammar sees of it, and the state behind it
+pub record Reading : Type 0 where
+  pub lexeme : Option Lexeme
+  pub state : State
 
 -- a token at a place as one of a terminal
 abbrev pub lexeme_of : Plain → ℕ → Bool → Terminal → Lexeme

@@ -20,7 +20,6 @@ mod terminal;
 mod words;
 
 pub use lexemes::{lexemes_of, value_lexemes_of};
-pub use pass::Reading;
 pub use plain::Plain;
 pub use sort::Sort;
 pub use state::{Bracket, Comments, Frame, Mode, State, Walk};

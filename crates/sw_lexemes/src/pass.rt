@@ -10,13 +10,6 @@ use std::alloc::Global;
 use sw_terminals::{Lexeme, Terminal};
 use sw_text::{List, Memory};
 
-/// What comes of a token: what the grammar sees of it, and the state behind it.
-#[derive(Debug, Drop)]
-pub struct Reading {
-    pub lexeme: Option<Lexeme>,
-    pub state: State,
-}
-
 /// Nothing is read yet, and a statement may begin.
 pub(crate) fn beginning(alloc: Global) -> State
     ensures { result ≡ beginning }
@@ -59,64 +52,76 @@ fn lexeme_of(plain: &Plain, at: usize, commented: bool, terminal: Terminal) -> L
     }
 }
 
-fn skipped(state: State, plain: &Plain) -> Reading
-    requires { state.ignored + 1 < 2 ^ 64 }
-    ensures value { result ≡ skipped state plain.now }
-    ensures ignored { result.state.ignored ≤ state.ignored + 1 }
+fn skipped(state: &mut State, plain: &Plain)
+    requires { state.old.ignored + 1 < 2 ^ 64 }
+    ensures state { state.new ≡ (skipped state.old plain.now).state }
+    ensures ignored { state.new.ignored ≤ state.old.ignored + 1 }
 {
-    Reading {
-        lexeme: None,
-        state: past_white(state, plain.sort),
-    }
+    past_white(state, plain.sort)
 }
 
-fn kept(state: State, at: usize, plain: &Plain, terminal: Terminal) -> Result<Reading, Memory>
-    ensures value { IfOk result (λ reading. reading ≡ kept state at plain.now terminal) }
-    ensures ignored { IfOk result (λ reading. reading.state.ignored ≡ 0) }
+fn kept(
+    lexemes: &mut Vec<Lexeme>,
+    state: &mut State,
+    at: usize,
+    plain: &Plain,
+    terminal: Terminal,
+) -> Result<(), Memory>
+    ensures lexemes { OnOk result (lexemes.new.items
+        ≡ lexemes.old.items ++ optional (kept state.old at plain.now terminal).lexeme) }
+    ensures state { OnOk result (state.new ≡ (kept state.old at plain.now terminal).state) }
+    ensures ignored { OnOk result (state.new.ignored ≡ 0) }
 {
-    let lexeme = lexeme_of(plain, at, state.commented, terminal);
-    Ok(Reading {
-        lexeme: Some(lexeme),
-        state: after(state, terminal)?,
-    })
+    lexemes.push(lexeme_of(plain, at, state.commented, terminal))?;
+    after(state, terminal)
 }
 
-fn read_placed(state: State, plains: &[Plain], at: usize, plain: &Plain) -> Result<Reading, Memory>
+fn read_placed(
+    lexemes: &mut Vec<Lexeme>,
+    state: &mut State,
+    plains: &[Plain],
+    at: usize,
+    plain: &Plain,
+) -> Result<(), Memory>
     requires within { at < length plains.now }
-    requires ignored { state.ignored + 1 < 2 ^ 64 }
-    ensures value { IfOk result (λ reading. reading ≡ read_placed state plains.now at plain.now) }
-    ensures ignored { IfOk result (λ reading. reading.state.ignored ≤ state.ignored + 1) }
+    requires ignored { state.old.ignored + 1 < 2 ^ 64 }
+    ensures lexemes { OnOk result (lexemes.new.items
+        ≡ lexemes.old.items ++ optional (read_placed state.old plains.now at plain.now).lexeme) }
+    ensures state { OnOk result (state.new ≡ (read_placed state.old plains.now at plain.now).state) }
+    ensures ignored { OnOk result (state.new.ignored ≤ state.old.ignored + 1) }
 {
-    if is_white(&state, plains, at) {
-        Ok(skipped(state, plain))
+    if is_white(state, plains, at) {
+        skipped(state, plain);
+        Ok(())
     } else {
-        let terminal = terminal_of(&state, plains, at);
-        kept(state, at, plain, terminal)
+        let terminal = terminal_of(state, plains, at);
+        kept(lexemes, state, at, plain, terminal)
     }
 }
 
-// One token.
+// One token: what the grammar sees of it is put behind the lexemes, and the state goes behind it.
 #[tactic(auto, unfolding(crate::specs::Lexemes::read))]
-fn read(state: State, plains: &[Plain], at: usize, plain: &Plain) -> Result<Reading, Memory>
+fn read(
+    lexemes: &mut Vec<Lexeme>,
+    state: &mut State,
+    plains: &[Plain],
+    at: usize,
+    plain: &Plain,
+) -> Result<(), Memory>
     requires within { at < length plains.now }
-    requires ignored { state.ignored + 1 < 2 ^ 64 }
-    ensures value { IfOk result (λ reading. reading ≡ read state plains.now at plain.now) }
-    ensures ignored { IfOk result (λ reading. reading.state.ignored ≤ state.ignored + 1) }
+    requires ignored { state.old.ignored + 1 < 2 ^ 64 }
+    ensures lexemes { OnOk result (lexemes.new.items
+        ≡ lexemes.old.items ++ optional (read state.old plains.now at plain.now).lexeme) }
+    ensures state { OnOk result (state.new ≡ (read state.old plains.now at plain.now).state) }
+    ensures ignored { OnOk result (state.new.ignored ≤ state.old.ignored + 1) }
 {
     if 0 < state.ignored {
-        Ok(skipped(state, plain))
+        skipped(state, plain);
+        Ok(())
     } else {
-        read_placed(placed(state, plains, at), plains, at, plain)
+        placed(state, plains, at);
+        read_placed(lexemes, state, plains, at, plain)
     }
-}
-
-fn added(lexemes: &mut Vec<Lexeme>, lexeme: Option<Lexeme>) -> Result<(), Memory>
-    ensures { OnOk result (lexemes.new.items ≡ lexemes.old.items ++ optional lexeme) }
-{
-    if let Some(lexeme) = lexeme {
-        lexemes.push(lexeme)?;
-    }
-    Ok(())
 }
 
 /// What the grammar sees of tokens by themselves, from a place on, where this is known.
@@ -133,12 +138,7 @@ pub(crate) fn lexemes_by(
     let mut lexemes = Vec::with_capacity(alloc, plains.len() - from)?;
     let mut state = first;
     'tokens: for at in from..plains.len() {
-        let Reading {
-            lexeme,
-            state: next,
-        } = read(state, plains, at, &plains[at])?;
-        state = next;
-        added(&mut lexemes, lexeme)?;
+        read(&mut lexemes, &mut state, plains, at, &plains[at])?;
     }
     Ok(lexemes)
 }

@@ -1,5 +1,5 @@
 // What comes of a token.
-ghost use Rattle.std.specs.Prelude.{◌≡◌, ◌+◌, ◌^◌, ◌<◌, ◌≤◌, length, IfOk, None};
+ghost use Rattle.std.specs.Prelude.{◌≡◌, ◌+◌, ◌^◌, ◌<◌, ◌≤◌, length, OnOk, None};
 ghost use Rattle.sw_lexemes.specs.Steps.{opened_by, closes, inner_mode, further_mode, is_inserting, below_insert, begins_statement, in_word, from_word, mode_of, stepped, opened, popped, inserted, after_opening, after, judged, comments_by, comments_at, placed, are_white, is_white, ignored_after, past_white};
 
 use crate::ahead::{code_from, sort_at};
@@ -96,15 +96,13 @@ fn is_inserting(frame: Option<Frame>) -> bool
 
 #[tactic(auto, using(crate::proofs::Below::below_step, crate::proofs::Below::below_smaller, crate::proofs::Below::below_end))]
 // The frames up to the innermost `#{`.
-fn below_insert(frames: List<Frame>) -> List<Frame>
-    ensures { result ≡ below_insert (length frames) frames }
+fn below_insert(frames: &mut List<Frame>)
+    ensures { frames.new ≡ below_insert (length frames.old) frames.old }
 {
-    let mut rest = frames;
-    'items: while !is_inserting(innermost(rest.as_slice())) {
-        let count = rest.len().saturating_sub(1);
-        rest.truncate(count);
+    'items: while !is_inserting(innermost(frames.as_slice())) {
+        let count = frames.len().saturating_sub(1);
+        frames.truncate(count);
     }
-    rest
 }
 
 fn begins_statement(terminal: Terminal) -> bool
@@ -152,35 +150,31 @@ fn mode_of(frame: Option<Frame>, mode: Mode) -> Mode
     }
 }
 
-fn stepped(state: State, mode: Mode, word: bool, terminal: Terminal) -> State
-    ensures { result ≡ stepped state mode word terminal }
+fn stepped(state: &mut State, mode: Mode, word: bool, terminal: Terminal)
+    ensures { state.new ≡ stepped state.old mode word terminal }
 {
-    State {
-        mode,
-        start: begins_statement(terminal),
-        word,
-        before: terminal,
-        before_that: state.before,
-        ignored: 0,
-        commented: false,
-        ..state
-    }
+    state.mode = mode;
+    state.start = begins_statement(terminal);
+    state.word = word;
+    state.before_that = state.before;
+    state.before = terminal;
+    state.ignored = 0;
+    state.commented = false;
 }
 
-fn opened(mut state: State, bracket: Bracket, terminal: Terminal) -> Result<State, Memory>
-    ensures { IfOk result (λ next. next ≡ opened state bracket terminal) }
+fn opened(state: &mut State, bracket: Bracket, terminal: Terminal) -> Result<(), Memory>
+    ensures { OnOk result (state.new ≡ opened state.old bracket terminal) }
 {
     let mode = state.mode;
     state.frames.push(Frame {
         bracket,
         opened: terminal,
         mode,
-    })?;
-    Ok(state)
+    })
 }
 
-fn popped(mut state: State, terminal: Terminal) -> State
-    ensures { result ≡ popped state terminal }
+fn popped(state: &mut State, terminal: Terminal)
+    ensures { state.new ≡ popped state.old terminal }
 {
     let inner = innermost(state.frames.as_slice());
     let mode = mode_of(inner, state.mode);
@@ -194,22 +188,19 @@ fn popped(mut state: State, terminal: Terminal) -> State
     )
 }
 
-fn inserted(state: State) -> State
-    ensures { result ≡ inserted state }
+fn inserted(state: &mut State)
+    ensures { state.new ≡ inserted state.old }
 {
-    let State { frames, .. } = state;
-    State {
-        frames: below_insert(frames),
-        ..state
-    }
+    below_insert(&mut state.frames)
 }
 
-fn closed(state: State, terminal: Terminal) -> State
-    ensures value { result ≡ after_opening state terminal None }
-    ensures none { result.ignored ≡ 0 }
+fn closed(state: &mut State, terminal: Terminal)
+    ensures value { state.new ≡ after_opening state.old terminal None }
+    ensures none { state.new.ignored ≡ 0 }
 {
     if is(terminal, Terminal::InsertEnd) {
-        popped(inserted(state), terminal)
+        inserted(state);
+        popped(state, terminal)
     } else if closes(terminal) {
         popped(state, terminal)
     } else {
@@ -218,20 +209,21 @@ fn closed(state: State, terminal: Terminal) -> State
     }
 }
 
-/// The state behind a token of a terminal.
+/// Goes behind a token of a terminal.
 #[tactic(auto, unfolding(crate::specs::Steps::after))]
-pub(crate) fn after(state: State, terminal: Terminal) -> Result<State, Memory>
-    ensures value { IfOk result (λ next. next ≡ after state terminal) }
-    ensures none { IfOk result (λ next. next.ignored ≡ 0) }
+pub(crate) fn after(state: &mut State, terminal: Terminal) -> Result<(), Memory>
+    ensures value { OnOk result (state.new ≡ after state.old terminal) }
+    ensures none { OnOk result (state.new.ignored ≡ 0) }
 {
     match opened_by(terminal) {
         Some(bracket) => {
             let mode = inner_mode(state.mode, terminal);
-            let state = opened(state, bracket, terminal)?;
-            Ok(stepped(state, mode, false, terminal))
+            opened(state, bracket, terminal)?;
+            stepped(state, mode, false, terminal);
         }
-        None => Ok(closed(state, terminal)),
+        None => closed(state, terminal),
     }
+    Ok(())
 }
 
 fn judged(plains: &[Plain], at: usize) -> Comments
@@ -268,21 +260,14 @@ fn comments_at(known: Comments, plains: &[Plain], at: usize) -> Comments
 
 /// At the start of a statement tokens are read as its form says.
 #[tactic(auto, unfolding(crate::specs::Steps::placed))]
-pub(crate) fn placed(state: State, plains: &[Plain], at: usize) -> State
+pub(crate) fn placed(state: &mut State, plains: &[Plain], at: usize)
     requires { at < length plains.now }
-    ensures value { result ≡ placed state plains.now at }
-    ensures ignored { result.ignored ≡ state.ignored }
+    ensures value { state.new ≡ placed state.old plains.now at }
+    ensures ignored { state.new.ignored ≡ state.old.ignored }
 {
     if state.start {
-        let mode = statement_mode(plains, at);
-        let comments = comments_at(state.comments, plains, at);
-        State {
-            mode,
-            comments,
-            ..state
-        }
-    } else {
-        state
+        state.mode = statement_mode(plains, at);
+        state.comments = comments_at(state.comments, plains, at);
     }
 }
 
@@ -314,17 +299,13 @@ fn ignored_after(count: usize, sort: Sort) -> usize
     }
 }
 
-/// The state behind a comment that is white space, or a part of one.
+/// Goes behind a comment that is white space, or a part of one.
 #[tactic(auto, unfolding(crate::specs::Steps::past_white))]
-pub(crate) fn past_white(state: State, sort: Sort) -> State
-    requires { state.ignored + 1 < 2 ^ 64 }
-    ensures value { result ≡ past_white state sort }
-    ensures more { result.ignored ≤ state.ignored + 1 }
+pub(crate) fn past_white(state: &mut State, sort: Sort)
+    requires { state.old.ignored + 1 < 2 ^ 64 }
+    ensures value { state.new ≡ past_white state.old sort }
+    ensures more { state.new.ignored ≤ state.old.ignored + 1 }
 {
-    let ignored = ignored_after(state.ignored, sort);
-    State {
-        ignored,
-        commented: true,
-        ..state
-    }
+    state.ignored = ignored_after(state.ignored, sort);
+    state.commented = true;
 }
