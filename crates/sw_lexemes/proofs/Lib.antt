@@ -4,3 +4,4 @@ pub mod Cursors
 pub mod Listed
 pub mod Lies
 mod Examples
+pub mod Firsts

@@ -1,22 +1,30 @@
 // The words of sheets that are told apart.
-ghost use Rattle.std.specs.Prelude.{◌≡◌, ◌≤◌, length};
+ghost use Rattle.std.specs.Prelude.{◌≡◌, ◌≤◌, bytes_eq, length};
 ghost use Rattle.sw_lexemes.specs.Words.{of_two, of_three, of_four, of_five, of_six, of_seven, of_nine, word_sort, has_dash, prefix_end, is_prefixed_calc, name_sort, at_one, at_three, at_four, at_five, at_six, at_seven, at_eight, at_nine, at_sort};
 
 use crate::sort::Sort;
 use sw_scan::{byte_at, signs};
 
+// Most words differ from a known one in their first byte, so this is looked at before all of them are.
+#[tactic(auto, using(crate::proofs::Firsts::first_differs))]
+fn is_word(word: &str, known: &str) -> bool
+    ensures { result ≡ bytes_eq word.now known.now }
+{
+    byte_at(word.as_bytes(), 0) == byte_at(known.as_bytes(), 0) && word == known
+}
+
 fn of_two(word: &str) -> Sort
     ensures { result ≡ of_two word.now }
 {
-    if word == "or" {
+    if is_word(word, "or") {
         Sort::Or
-    } else if word == "as" {
+    } else if is_word(word, "as") {
         Sort::As
-    } else if word == "if" {
+    } else if is_word(word, "if") {
         Sort::If
-    } else if word == "in" {
+    } else if is_word(word, "in") {
         Sort::In
-    } else if word == "to" {
+    } else if is_word(word, "to") {
         Sort::To
     } else {
         Sort::Name
@@ -26,35 +34,35 @@ fn of_two(word: &str) -> Sort
 fn of_three(word: &str) -> Sort
     ensures { result ≡ of_three word.now }
 {
-    if word == "and" {
+    if is_word(word, "and") {
         Sort::And
-    } else if word == "not" {
+    } else if is_word(word, "not") {
         Sort::Not
-    } else if word == "var" {
+    } else if is_word(word, "var") {
         Sort::Special
-    } else if word == "env" {
+    } else if is_word(word, "env") {
         Sort::Special
-    } else if word == "min" {
+    } else if is_word(word, "min") {
         Sort::Special
-    } else if word == "max" {
+    } else if is_word(word, "max") {
         Sort::Special
-    } else if word == "mod" {
+    } else if is_word(word, "mod") {
         Sort::Stays
-    } else if word == "rem" {
+    } else if is_word(word, "rem") {
         Sort::Stays
-    } else if word == "abs" {
+    } else if is_word(word, "abs") {
         Sort::Stays
-    } else if word == "sin" {
+    } else if is_word(word, "sin") {
         Sort::Stays
-    } else if word == "cos" {
+    } else if is_word(word, "cos") {
         Sort::Stays
-    } else if word == "tan" {
+    } else if is_word(word, "tan") {
         Sort::Stays
-    } else if word == "pow" {
+    } else if is_word(word, "pow") {
         Sort::Stays
-    } else if word == "log" {
+    } else if is_word(word, "log") {
         Sort::Stays
-    } else if word == "exp" {
+    } else if is_word(word, "exp") {
         Sort::Stays
     } else {
         Sort::Name
@@ -64,31 +72,31 @@ fn of_three(word: &str) -> Sort
 fn of_four(word: &str) -> Sort
     ensures { result ≡ of_four word.now }
 {
-    if word == "true" {
+    if is_word(word, "true") {
         Sort::True
-    } else if word == "null" {
+    } else if is_word(word, "null") {
         Sort::Null
-    } else if word == "with" {
+    } else if is_word(word, "with") {
         Sort::With
-    } else if word == "show" {
+    } else if is_word(word, "show") {
         Sort::Show
-    } else if word == "hide" {
+    } else if is_word(word, "hide") {
         Sort::Hide
-    } else if word == "from" {
+    } else if is_word(word, "from") {
         Sort::From
-    } else if word == "only" {
+    } else if is_word(word, "only") {
         Sort::Only
-    } else if word == "calc" {
+    } else if is_word(word, "calc") {
         Sort::Special
-    } else if word == "sign" {
+    } else if is_word(word, "sign") {
         Sort::Stays
-    } else if word == "asin" {
+    } else if is_word(word, "asin") {
         Sort::Stays
-    } else if word == "acos" {
+    } else if is_word(word, "acos") {
         Sort::Stays
-    } else if word == "atan" {
+    } else if is_word(word, "atan") {
         Sort::Stays
-    } else if word == "sqrt" {
+    } else if is_word(word, "sqrt") {
         Sort::Stays
     } else {
         Sort::Name
@@ -98,17 +106,17 @@ fn of_four(word: &str) -> Sort
 fn of_five(word: &str) -> Sort
     ensures { result ≡ of_five word.now }
 {
-    if word == "false" {
+    if is_word(word, "false") {
         Sort::False
-    } else if word == "using" {
+    } else if is_word(word, "using") {
         Sort::Using
-    } else if word == "clamp" {
+    } else if is_word(word, "clamp") {
         Sort::Special
-    } else if word == "round" {
+    } else if is_word(word, "round") {
         Sort::Stays
-    } else if word == "atan2" {
+    } else if is_word(word, "atan2") {
         Sort::Stays
-    } else if word == "hypot" {
+    } else if is_word(word, "hypot") {
         Sort::Stays
     } else {
         Sort::Name
@@ -118,7 +126,7 @@ fn of_five(word: &str) -> Sort
 fn of_six(word: &str) -> Sort
     ensures { result ≡ of_six word.now }
 {
-    if word == "global" {
+    if is_word(word, "global") {
         Sort::Global
     } else {
         Sort::Name
@@ -128,9 +136,9 @@ fn of_six(word: &str) -> Sort
 fn of_seven(word: &str) -> Sort
     ensures { result ≡ of_seven word.now }
 {
-    if word == "through" {
+    if is_word(word, "through") {
         Sort::Through
-    } else if word == "default" {
+    } else if is_word(word, "default") {
         Sort::Default
     } else {
         Sort::Name
@@ -140,7 +148,7 @@ fn of_seven(word: &str) -> Sort
 fn of_nine(word: &str) -> Sort
     ensures { result ≡ of_nine word.now }
 {
-    if word == "important" {
+    if is_word(word, "important") {
         Sort::Important
     } else {
         Sort::Name
