@@ -92,10 +92,12 @@ pub(crate) fn starts_name(sort: Sort) -> bool
     }
 }
 
+/// Whether both are the same of the sorts that are looked for. Callers name the other one, which is looked at first, so
+/// that one comparison is left of this where it is put in line.
 pub(crate) fn same(sort: Sort, other: Sort) -> bool
     ensures { result ≡ same sort other }
 {
-    match (sort, other) {
+    match (other, sort) {
         (Sort::OpenInsert, Sort::OpenInsert) => true,
         (Sort::Colon, Sort::Colon) => true,
         (Sort::Dollar, Sort::Dollar) => true,

@@ -147,7 +147,8 @@ pub(crate) fn pos_of(text: &MarkedText, cursor: Cursor, offset: u32) -> Pos
     requires at { cursor.at ≡ offset - text.now.skipped }
     ensures { result ≡ pos_at text.now.sheet.now.bytes offset }
 {
-    if cursor.line <= u32::MAX as usize && cursor.column <= u32::MAX as usize {
+    // Both are at most one more than the offset.
+    if offset < u32::MAX {
         Pos {
             line: cursor.line as u32,
             column: cursor.column as u32,

@@ -4,7 +4,7 @@ ghost use Rattle.std.specs.Option.{option_copied};
 ghost use Rattle.std.specs.Str.{IsCharBoundary};
 ghost use Rattle.sw_tokens.specs.Ends.{opens};
 ghost use Rattle.sw_tokens.specs.Order.{StandsIn};
-ghost use Rattle.sw_lexemes.specs.Cursors.{EndsStand};
+ghost use Rattle.sw_lexemes.specs.Cursors.{Stands, EndsStand};
 ghost use Rattle.sw_lexemes.specs.Plains.{PlainLies, end_by, has_slash, plain_of, plains_of};
 
 use crate::cursor::{Cursor, MarkedText, START, cursor_at, marked, pos_of};
@@ -69,20 +69,16 @@ fn has_slash(bytes: &[u8], from: usize, to: usize) -> bool
     }
 }
 
-// The ends of the next token's text, where those of the one before are known.
-fn ends_of(text: &MarkedText, past: Ends, from: u32, to: u32) -> Ends
+// The ends of a token's own text, by a walk from where that of the one before ends. These texts don't overlap, so each
+// byte of the sheet is walked over once.
+fn ends_of(text: &MarkedText, near: Cursor, from: u32, to: u32) -> Ends
     requires from { from ≤ length text.now.sheet.now.bytes }
     requires to { to ≤ length text.now.sheet.now.bytes }
-    requires past { EndsStand text.now.bytes.now text.now.skipped past }
+    requires near { Stands text.now.bytes.now near }
     ensures from { result.from ≡ from }
     ensures to { result.to ≡ to }
     ensures stand { EndsStand text.now.bytes.now text.now.skipped result }
 {
-    let near = if past.to <= from {
-        past.end
-    } else {
-        past.start
-    };
     let start = cursor_at(
         text.bytes,
         near,
@@ -123,13 +119,6 @@ fn plain_of(text: &MarkedText, gap: u32, token: &Token, ends: Ends) -> Plain
     }
 }
 
-const NONE: Ends = Ends {
-    from: 0,
-    to: 0,
-    start: START,
-    end: START,
-};
-
 /// The tokens by themselves, in one walk through the text.
 pub(crate) fn plains_of(alloc: Global, tokens: &Tokens) -> Result<Vec<Plain>, Memory>
     ensures plains { IfOk result (λ plains. plains.items ≡ plains_of tokens.now.sheet.bytes tokens.now.list) }
@@ -137,13 +126,15 @@ pub(crate) fn plains_of(alloc: Global, tokens: &Tokens) -> Result<Vec<Plain>, Me
 {
     let text = marked(tokens.sheet());
     let mut plains = Vec::with_capacity(alloc, tokens.len())?;
-    let mut ends = NONE;
+    let mut gap = 0;
+    let mut near = START;
     let mut at = 0;
     'tokens: while let Some(token) = tokens.get(at) {
         let to = end_at(tokens, at, token);
-        let gap = ends.to;
-        ends = ends_of(&text, ends, token.from, to);
+        let ends = ends_of(&text, near, token.from, to);
         plains.push(plain_of(&text, gap, token, ends))?;
+        gap = to;
+        near = ends.end;
         at += 1;
     }
     Ok(plains)

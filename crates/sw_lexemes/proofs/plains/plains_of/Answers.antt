@@ -16,17 +16,18 @@ ends_of-ends-requires-clause-from c =
 
 pub tokens-preserved : goal.tokens-preserved
 tokens-preserved c = record {
-  plains = plains_step c.args.tokens.now.sheet.bytes c.args.tokens.now.list c.tokens.ends.to c.tokens.at c.ends_of-ends.result.to c.in-Some.token.now c.plain_of.result
+  plains = plains_step c.args.tokens.now.sheet.bytes c.args.tokens.now.list c.tokens.gap c.tokens.at c.end_at-to.result c.in-Some.token.now c.plain_of.result
       c.tokens.plains.items c.push.new.self.items (plains_of c.args.tokens.now.sheet.bytes c.args.tokens.now.list) c.in-Some.ensures.value
-      (c.ends_of-ends.ensures.to ∙ c.end_at-to.ensures.value)
-      (c.plain_of.ensures.plain ∙ ap (λ (t : Text). plain_of t.bytes c.tokens.ends.to c.in-Some.token.now c.ends_of-ends.result.to) c.tokens.invariant.text)
+      c.end_at-to.ensures.value
+      (c.plain_of.ensures.plain ∙ ap (λ (t : Text). plain_of t.bytes c.tokens.gap c.in-Some.token.now c.ends_of-ends.result.to) c.tokens.invariant.text
+      ∙ ap (plain_of c.args.tokens.now.sheet.bytes c.tokens.gap c.in-Some.token.now) c.ends_of-ends.ensures.to)
       c.in_ok-push.ensures.items c.tokens.invariant.plains;
   lie = rw c.in_ok-push.ensures.items (All-push (PlainLies c.args.tokens.now.sheet.bytes) _ _ c.tokens.invariant.lie (rw c.tokens.invariant.text at c.plain_of.ensures.lies));
   text = c.tokens.invariant.text;
-  ends = c.ends_of-ends.ensures.stand;
+  near = c.ends_of-ends.ensures.stand.end;
 }
 
 pub returns-clause-plains : goal.returns-clause-plains
 returns-clause-plains c =
-    plains_all c.args.tokens.now.sheet.bytes c.args.tokens.now.list c.tokens.ends.to c.tokens.at c.tokens.plains.items
+    plains_all c.args.tokens.now.sheet.bytes c.args.tokens.now.list c.tokens.gap c.tokens.at c.tokens.plains.items
     (plains_of c.args.tokens.now.sheet.bytes c.args.tokens.now.list) c.in_default.ensures.value c.tokens.invariant.plains
