@@ -87,6 +87,22 @@ plain_in value None = Ok value
 abbrev pub plain : Plain → Answer
 plain value = plain_in value (number_in value)
 
+abbrev pub has_sides : Slash-F Slash Number → Bool
+has_sides Slash-F.Plain = false
+has_sides (Slash-F.Sides sides) = true
+
+-- whether the number is a quotient that keeps its sides
+unfoldable pub sides_in : Number → Bool
+sides_in number = has_sides (out-Slash number.slash)
+
+abbrev pub sides_by : Option Number → Bool
+sides_by (Some number) = sides_in number
+sides_by None = false
+
+-- whether the value is one
+abbrev pub keeps_sides : Plain → Bool
+keeps_sides value = sides_by (number_in value)
+
 -- ---- quotients of two literals
 
 abbrev pub within : Plain → Answer

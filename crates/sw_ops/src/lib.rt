@@ -10,5 +10,5 @@ mod two_sides;
 
 pub use fault::OpFault;
 pub use one_side::{Op1, unary};
-pub use sides::{kept_quotient, plain};
+pub use sides::{keeps_sides, kept_quotient, plain};
 pub use two_sides::{Op2, binary};

@@ -1,10 +1,10 @@
 // What operators see of their sides.
-ghost use Rattle.std.specs.Prelude.{◌≡◌, IfOk, IfSome};
+ghost use Rattle.std.specs.Prelude.{◌≡◌, false, Ok, IfOk, IfSome};
 ghost use Rattle.std.specs.Option.{option_copied};
 ghost use Rattle.sw_units.specs.Numbers.{plain as without_sides, quotient};
 ghost use Rattle.sw_values.specs.declared.plain.Plain.TheVariants as P;
 ghost use Rattle.sw_ops.specs.Answers.{IsAnswer};
-ghost use Rattle.sw_ops.specs.Sides.{number_in, is_colour, quotes_in, is_zero, plain_number, plain as plain_value, within, sides_of, zero, kept_of, kept_quotient as kept_value};
+ghost use Rattle.sw_ops.specs.Sides.{number_in, is_colour, quotes_in, is_zero, plain_number, plain as plain_value, keeps_sides, within, sides_of, zero, kept_of, kept_quotient as kept_value};
 
 use crate::OpFault;
 use crate::fault::fault_of;
@@ -86,6 +86,21 @@ fn plain_number(number: &Number) -> Result<Number, OpFault>
             }
             Ok(without_sides(number)?)
         }
+    }
+}
+
+/// Whether a value is a quotient that keeps its two sides. Any other is plain as it is.
+#[tactic(auto, unfolding(crate::specs::Sides::plain_number, crate::specs::Sides::sides_in))]
+pub fn keeps_sides(value: &Value) -> bool
+    ensures sides { result ≡ keeps_sides value.now }
+    ensures plain { result ≡ false → plain_value value.now ≡ Ok value.now }
+{
+    match number_in(value) {
+        None => false,
+        Some(number) => match &number.slash {
+            Slash::Plain => false,
+            Slash::Sides(_) => true,
+        },
     }
 }
 

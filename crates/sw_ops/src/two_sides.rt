@@ -1,12 +1,13 @@
 // Operators with two sides.
 ghost use Rattle.std.specs.Prelude.{◌≡◌};
-ghost use Rattle.sw_ops.specs.Answers.{IsAnswer, of_number};
+ghost use Rattle.sw_ops.specs.Answers.{IsAnswer, of_number, with};
+ghost use Rattle.sw_ops.specs.Sides.{plain as plain_value};
 ghost use Rattle.sw_ops.specs.Operators.{computed, clash, spelled, unlike, arithmetic, plus, times, remainder, holds, compared, operation, takes_sides, binary};
 
 use crate::OpFault;
 use crate::fault::fault_of;
 use crate::joining::{Sign, bare_joined, css_joined, sign_between};
-use crate::sides::{is_colour, number_in, plain, quotes_in};
+use crate::sides::{is_colour, keeps_sides, number_in, plain, quotes_in};
 use std::alloc::Global;
 use std::cmp::Ordering;
 use sw_fixed::NumberFault;
@@ -187,6 +188,19 @@ fn takes_sides(op: Op2) -> bool
     }
 }
 
+// The same of sides that may keep some, the left one first.
+fn of_plain(alloc: Global, op: Op2, a: &Value, b: &Value) -> Result<Value, OpFault>
+    ensures { IsAnswer result (with (plain_value a.now) (λ x. with (plain_value b.now) (λ y. operation op x y))) }
+{
+    match plain(a) {
+        Err(fault) => Err(fault),
+        Ok(x) => match plain(b) {
+            Err(fault) => Err(fault),
+            Ok(y) => operation(alloc, op, &x, &y),
+        },
+    }
+}
+
 /// What an operator makes of two values. The sides that a quotient keeps are lost before, but for `==` and `!=`.
 #[tactic(auto, unfolding(crate::specs::Operators::binary))]
 pub fn binary(alloc: Global, op: Op2, a: &Value, b: &Value) -> Result<Value, OpFault>
@@ -195,11 +209,8 @@ pub fn binary(alloc: Global, op: Op2, a: &Value, b: &Value) -> Result<Value, OpF
     if takes_sides(op) {
         return operation(alloc, op, a, b);
     }
-    match plain(a) {
-        Err(fault) => Err(fault),
-        Ok(x) => match plain(b) {
-            Err(fault) => Err(fault),
-            Ok(y) => operation(alloc, op, &x, &y),
-        },
+    if keeps_sides(a) || keeps_sides(b) {
+        return of_plain(alloc, op, a, b);
     }
+    operation(alloc, op, a, b)
 }

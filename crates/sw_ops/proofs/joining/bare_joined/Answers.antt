@@ -1,4 +1,3 @@
-use Rattle.std.proofs.Common.{[], true}
 use Rattle.sw_ops.specs.Joined.{bare}
 use Rattle.sw_ops.proofs.Heavy.{left_fault, right_fault}
 use Rattle.sw_ops.proofs.joining.bare_joined.Goals as goal

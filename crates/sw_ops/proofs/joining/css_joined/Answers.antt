@@ -1,4 +1,4 @@
-use Rattle.std.proofs.Common.{[], true}
+use Rattle.std.proofs.Common.{true}
 use Rattle.sw_values.specs.Texts.{shown}
 use Rattle.sw_ops.proofs.Heavy.{left_fault, right_fault}
 use Rattle.sw_ops.proofs.joining.css_joined.Goals as goal
