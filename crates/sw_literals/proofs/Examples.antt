@@ -1,18 +1,15 @@
 -- Worked cases, by computing.
-use Rattle.std.proofs.Common.{◌≡◌, ℕ, ℤ, pos, Bool, true, false, List, [], ◌∷◌, codes, map, Some, None, Ok, refl}
+use Rattle.std.proofs.Common.{◌≡◌, ℕ, ℤ, pos, Bool, true, false, List, [], ◌∷◌, codes, Some, None, Ok, refl}
 use Rattle.sw_text.specs.declared.place.Span.{Span}
 use Rattle.sw_text.specs.declared.fault.FaultCode.TheVariants as C
 use Rattle.sw_units.specs.declared.units.UnitNames.TheVariants.{Empty, One}
-use Rattle.sw_units.specs.declared.units.Units.{Units}
 use Rattle.sw_units.specs.declared.number.Number.{Number}
 use Rattle.sw_units.specs.Measures.{measure_of}
 use Rattle.sw_units.specs.Numbers.{plain, converted}
 use Rattle.sw_colour.specs.Names.{table}
-use Rattle.sw_values.specs.declared.plain.Plain.{Plain}
 use Rattle.sw_values.specs.declared.plain.Plain.TheVariants as P
 use Rattle.sw_syntax_tree.specs.declared.expr.Separator.TheVariants as separators
 use Rattle.sw_syntax_tree.specs.declared.expr.Around.TheVariants as arounds
-use Rattle.sw_literals.specs.declared.quotients.Parens.{Parens}
 use Rattle.sw_literals.specs.declared.quotients.Parens.TheVariants as parens
 use Rattle.sw_literals.specs.Answers.{Answer, refused}
 use Rattle.sw_literals.specs.Literals.{units_of, number_value, word_value, hash_value}

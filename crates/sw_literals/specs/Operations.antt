@@ -97,6 +97,10 @@ keeps_sides left operator next = left.literal && is_division operator && is_lite
 abbrev pub valued : Left → Plain → Left
 valued left value = record { value = value; at = left.at; literal = left.literal }
 
+-- the left side without the sides of a quotient
+abbrev pub without_sides : Left → Answer Left
+without_sides left = with (plain_at left.value left.at) (λ value. Ok (valued left value))
+
 -- the left side as the next operator takes it, before its right operand is evaluated
 unfoldable pub taken : Left → Operator → Expr → Answer Left
 taken left operator next =
@@ -111,6 +115,11 @@ kept_by None y left right at = of_op at (binary two.Div left right)
 -- literals and their quotients are numbers
 unfoldable pub kept : Plain → Plain → Span → Answer Plain
 kept left right at = kept_by (number_in left) (number_in right) left right at
+
+-- the value of both sides where the right one, at the first place, loses the sides of a quotient
+abbrev pub of_quotient : Left → Operator → Plain → Span → Span → Answer Plain
+of_quotient left operator right right_at at =
+    with (plain_at right right_at) (λ value. computed operator left.value value at)
 
 -- the value of both sides: the right one stands at the first place, the chain at the second
 abbrev pub of_both : Left → Operator → Plain → Expr → Span → Answer Plain

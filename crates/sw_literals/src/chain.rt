@@ -1,16 +1,18 @@
 // Operands with operators between them.
-ghost use Rattle.std.specs.Prelude.{◌≡◌, IfOk, IfSome};
+ghost use Rattle.std.specs.Prelude.{◌≡◌, true, false, Ok, IfOk, IfSome};
 ghost use Rattle.std.specs.Option.{option_copied};
+ghost use Rattle.sw_text.specs.declared.place.Span.{Span};
 ghost use Rattle.sw_ops.specs.Operators.{takes_sides};
 ghost use Rattle.sw_ops.specs.Sides.{number_in};
 ghost use Rattle.sw_literals.specs.Answers.{Returns};
-ghost use Rattle.sw_literals.specs.Operations.{operation_of, is_division, divides_by, with_sides, sides_by, operand, needs_right, computed, first_left, keeps_sides, taken, kept, of_both, joined_to};
+ghost use Rattle.sw_literals.specs.Quotients.{plain_at as plain_value};
+ghost use Rattle.sw_literals.specs.Operations.{operation_of, is_division, divides_by, with_sides, sides_by, operand, needs_right, computed, first_left, keeps_sides, without_sides, taken, kept, of_quotient, of_both, joined_to};
 
 use crate::making::of_op;
 use crate::quotients::{Parens, is_literal, may_keep, plain_at};
 use crate::refused::Refused;
 use std::alloc::Global;
-use sw_ops::{Op2, binary, kept_quotient};
+use sw_ops::{Op2, binary, keeps_sides, kept_quotient};
 use sw_syntax_tree::{Expr, Operator};
 use sw_text::{Memory, Span};
 use sw_units::Number;
@@ -56,14 +58,13 @@ fn with_sides(operator: Operator) -> bool
     }
 }
 
-// The value of an operand, which stands here, as the operator takes it.
-fn operand(operator: Operator, value: &Value, at: &Span) -> Result<Value, Refused>
-    ensures { Returns result (operand operator value.now at.now) }
+// Whether an operand loses the sides that it keeps. Any other the operator takes as it is.
+#[tactic(auto, unfolding(crate::specs::Quotients::plain_at))]
+fn loses_sides(operator: Operator, value: &Value) -> bool
+    ensures plain { result ≡ true → (at : Span) → operand operator value.now at ≡ plain_value value.now at }
+    ensures same { result ≡ false → (at : Span) → operand operator value.now at ≡ Ok value.now }
 {
-    if with_sides(operator) {
-        return Ok(value.share()?);
-    }
-    plain_at(value, at)
+    !with_sides(operator) && keeps_sides(value)
 }
 
 /// Whether the right operand is evaluated: `and` and `or` need it where the left one doesn't decide.
@@ -169,11 +170,18 @@ impl Left {
     pub fn taken(self, operator: Operator, next: &Expr) -> Result<Left, Refused>
         ensures { Returns result (taken self operator next.now) }
     {
-        if self.keeps_sides(operator, next) {
+        if self.keeps_sides(operator, next) || !loses_sides(operator, &self.value) {
             return Ok(self);
         }
+        self.without_sides()
+    }
+
+    // The left side without the sides of a quotient.
+    fn without_sides(self) -> Result<Left, Refused>
+        ensures { Returns result (without_sides self) }
+    {
         let Left { value, at, literal } = self;
-        match operand(operator, &value, &at) {
+        match plain_at(&value, &at) {
             Ok(value) => Ok(Left { value, at, literal }),
             Err(refused) => Err(refused),
         }
@@ -193,7 +201,24 @@ impl Left {
         if self.keeps_sides(operator, next) {
             return kept(alloc, &self.value, right, at);
         }
-        match operand(operator, right, &next.span) {
+        if loses_sides(operator, right) {
+            return self.of_quotient(alloc, operator, right, &next.span, at);
+        }
+        computed(alloc, operator, &self.value, right, at)
+    }
+
+    // The same where the right operand is a quotient, which loses its sides.
+    fn of_quotient(
+        &self,
+        alloc: Global,
+        operator: Operator,
+        right: &Value,
+        right_at: &Span,
+        at: &Span,
+    ) -> Result<Value, Refused>
+        ensures { Returns result (of_quotient self.now operator right.now right_at.now at.now) }
+    {
+        match plain_at(right, right_at) {
             Ok(right) => computed(alloc, operator, &self.value, &right, at),
             Err(refused) => Err(refused),
         }

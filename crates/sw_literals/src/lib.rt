@@ -23,7 +23,7 @@ pub use literals::{
     constant_value, hash_value, important_value, number_value, string_value, word_value,
 };
 pub use maps::map_value;
-pub use quotients::{Parens, deeper, is_literal, of_item, plain_at};
+pub use quotients::{Parens, deeper, into_plain_at, is_literal, of_item, plain_at};
 pub use refused::{Refused, fails};
 pub use signs::prefixed;
 pub use texts::{css_text, declaration_text, inserted, is_written, joined, message};

@@ -5,7 +5,7 @@ ghost use Rattle.sw_literals.specs.Quotients.{may_keep, deeper, spaced, of_item,
 
 use crate::making::of_op;
 use crate::refused::Refused;
-use sw_ops::plain;
+use sw_ops::{keeps_sides, plain};
 use sw_syntax_tree::{Around, Expr, ExprKind, Separator};
 use sw_text::Span;
 use sw_values::Value;
@@ -98,4 +98,15 @@ pub fn plain_at(value: &Value, at: &Span) -> Result<Value, Refused>
     ensures { Returns result (plain_at value.now at.now) }
 {
     of_op(plain(value), at)
+}
+
+/// The same of a value that is given up, which comes back where it keeps no sides.
+#[tactic(auto, unfolding(crate::specs::Quotients::plain_at))]
+pub fn into_plain_at(value: Value, at: &Span) -> Result<Value, Refused>
+    ensures { Returns result (plain_at value at.now) }
+{
+    if keeps_sides(&value) {
+        return plain_at(&value, at);
+    }
+    Ok(value)
 }
