@@ -14,7 +14,9 @@ use crate::passing::{bound_by, default_at, plain_passed};
 use std::alloc::Global;
 use sw_builtins::{BuiltIn, call, params, variable};
 use sw_fn::FnFault;
-use sw_literals::{Refused, constant_value, fails as refuses, number_value, plain_at, word_value};
+use sw_literals::{
+    Refused, constant_value, fails as refuses, into_plain_at, number_value, word_value,
+};
 use sw_scope::{Passed, Slot};
 use sw_syntax_tree::{Expr, ExprKind, Number, Param, Parts};
 use sw_text::{FaultCode, List, Memory, Name, Span};
@@ -136,7 +138,7 @@ pub fn built_in_value(
 {
     let arguments = built_in_arguments(alloc, function, passed, at)?;
     let value = of_fn(call(alloc, function, arguments.as_slice()), at)?;
-    plain_at(&value, at)
+    into_plain_at(value, at)
 }
 
 /// The value of a variable of a built-in module, which stands here; without one, this fault.

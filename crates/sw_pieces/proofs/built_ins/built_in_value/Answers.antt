@@ -14,4 +14,4 @@ returns-in_err-value c =
 pub returns : goal.returns
 unfolding built_in_value
 returns c =
-    rw (c.in_ok-arguments.ensures, c.in_ok-value.ensures _ (rw c.as_slice.ensures at c.call.ensures)) c.plain_at.ensures
+    rw (c.in_ok-arguments.ensures, c.in_ok-value.ensures _ (rw c.as_slice.ensures at c.call.ensures)) c.into_plain_at.ensures
