@@ -1,3 +1,4 @@
 pub mod Opens
 pub mod IfCalls
 pub mod Chosen
+pub mod Changed

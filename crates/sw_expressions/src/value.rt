@@ -1,5 +1,6 @@
 // Values of expressions.
 ghost use Rattle.std.specs.Prelude.{[]};
+ghost use Rattle.sw_literals.specs.Answers.{changed};
 ghost use Rattle.sw_walk.specs.Going.{Goes_on};
 ghost use Rattle.sw_expressions.specs.Expressions.{string, word, signed, linked, links, chain, items, pairs, map, value_one};
 
@@ -76,39 +77,38 @@ fn linked<W: World, B: Below<W>>(
     walk: &mut Walk,
     level: Level<B>,
     link: &Link,
-    left: Left,
+    left: &mut Left,
     at: &Span,
     world: &mut W,
-) -> Result<Left, Stop>
+) -> Result<(), Stop>
     requires { B.fits level.below }
-    ensures { Goes_on W.gives (linked (B.values level.below) level.parens link.now left at.now) walk.old world.old
-        result walk.new world.new }
+    ensures { Goes_on W.gives (linked (B.values level.below) level.parens link.now left.old at.now) walk.old
+        world.old (changed left.new result) walk.new world.new }
 {
-    let left = left.taken(link.operator, &link.operand)?;
+    left.take(link.operator, &link.operand)?;
     if !needs_right(link.operator, &left.value) {
-        return Ok(left);
+        return Ok(());
     }
     let right = value_of(walk, level.deeper(), &link.operand, world)?;
-    stopped(left.joined(walk.alloc, link.operator, &right, &link.operand, at))
+    stopped(left.join(walk.alloc, link.operator, &right, &link.operand, at))
 }
 
 fn links<W: World, B: Below<W>>(
     walk: &mut Walk,
     level: Level<B>,
     all: &[Link],
-    first: Left,
+    left: &mut Left,
     at: &Span,
     world: &mut W,
-) -> Result<Left, Stop>
+) -> Result<(), Stop>
     requires { B.fits level.below }
-    ensures { Goes_on W.gives (links (B.values level.below) level.parens all.now first at.now) walk.old world.old
-        result walk.new world.new }
+    ensures { Goes_on W.gives (links (B.values level.below) level.parens all.now left.old at.now) walk.old world.old
+        (changed left.new result) walk.new world.new }
 {
-    let mut left = first;
     for one in all {
-        left = linked(walk, level, one, left, at, world)?;
+        linked(walk, level, one, left, at, world)?;
     }
-    Ok(left)
+    Ok(())
 }
 
 // Operands from left to right.
@@ -125,9 +125,9 @@ fn chain<W: World, B: Below<W>>(
         world.old result walk.new world.new }
 {
     let value = value_of(walk, level.deeper(), first, world)?;
-    let left = Left::first(value, first, level.parens)?;
-    let last = links(walk, level, rest, left, at, world)?;
-    let Left { value, .. } = last;
+    let mut left = Left::first(value, first, level.parens)?;
+    links(walk, level, rest, &mut left, at, world)?;
+    let Left { value, .. } = left;
     Ok(value)
 }
 

@@ -22,6 +22,11 @@ Returns (Ok value) right = right ≡ Ok value
 Returns (Err (R.Fault fault)) right = right ≡ Err fault
 Returns (Err R.Memory) right = Unit {0}
 
+-- what a value was changed to, unless that was refused
+abbrev pub changed : {A E : Type 0} → A → Result (Unit {0}) E → Result A E
+changed value (Ok _) = Ok value
+changed value (Err why) = Err why
+
 abbrev pub refused : {A : Type 0} → FaultCode → Span → Answer A
 refused code at = Err (record { code = code; span = at })
 

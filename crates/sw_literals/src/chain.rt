@@ -4,7 +4,7 @@ ghost use Rattle.std.specs.Option.{option_copied};
 ghost use Rattle.sw_text.specs.declared.place.Span.{Span};
 ghost use Rattle.sw_ops.specs.Operators.{takes_sides};
 ghost use Rattle.sw_ops.specs.Sides.{number_in};
-ghost use Rattle.sw_literals.specs.Answers.{Returns};
+ghost use Rattle.sw_literals.specs.Answers.{Returns, changed};
 ghost use Rattle.sw_literals.specs.Quotients.{plain_at as plain_value};
 ghost use Rattle.sw_literals.specs.Operations.{operation_of, is_division, divides_by, with_sides, sides_by, operand, needs_right, computed, first_left, keeps_sides, without_sides, taken, kept, of_quotient, of_both, joined_to};
 
@@ -163,26 +163,28 @@ impl Left {
         self.literal && is_division(operator) && is_literal(next)
     }
 
-    /// The left side as an operator takes it, before the right operand is evaluated: without the sides of a quotient,
-    /// but before `==`, `!=` and a quotient that keeps its sides. `DivideByZero` at its place where it is a quotient
-    /// over zero.
+    /// Makes it what an operator takes, before the right operand is evaluated: it loses the sides of a quotient, but
+    /// before `==`, `!=` and a quotient that keeps its sides. `DivideByZero` at its place where it is a quotient over
+    /// zero.
     #[tactic(auto, unfolding(crate::specs::Operations::taken))]
-    pub fn taken(self, operator: Operator, next: &Expr) -> Result<Left, Refused>
-        ensures { Returns result (taken self operator next.now) }
+    pub fn take(&mut self, operator: Operator, next: &Expr) -> Result<(), Refused>
+        ensures { Returns (changed self.new result) (taken self.old operator next.now) }
     {
         if self.keeps_sides(operator, next) || !loses_sides(operator, &self.value) {
-            return Ok(self);
+            return Ok(());
         }
-        self.without_sides()
+        self.lose_sides()
     }
 
-    // The left side without the sides of a quotient.
-    fn without_sides(self) -> Result<Left, Refused>
-        ensures { Returns result (without_sides self) }
+    // Loses the sides of a quotient.
+    fn lose_sides(&mut self) -> Result<(), Refused>
+        ensures { Returns (changed self.new result) (without_sides self.old) }
     {
-        let Left { value, at, literal } = self;
-        match plain_at(&value, &at) {
-            Ok(value) => Ok(Left { value, at, literal }),
+        match plain_at(&self.value, &self.at) {
+            Ok(value) => {
+                self.value = value;
+                Ok(())
+            }
             Err(refused) => Err(refused),
         }
     }
@@ -224,26 +226,27 @@ impl Left {
         }
     }
 
-    /// What stands left of the operator behind the right operand. The operand is written as `next`, and the chain
-    /// stands at the place. The right operand loses its sides as the left one does, with the same fault at its own place;
-    /// any other fault stands at the chain.
+    /// Makes it what stands left of the operator behind the right operand. The operand is written as `next`, and the
+    /// chain stands at the place. The right operand loses its sides as the left one does, with the same fault at its own
+    /// place; any other fault stands at the chain.
     #[tactic(auto, unfolding(crate::specs::Operations::joined_to))]
-    pub fn joined(
-        &self,
+    pub fn join(
+        &mut self,
         alloc: Global,
         operator: Operator,
         right: &Value,
         next: &Expr,
         at: &Span,
-    ) -> Result<Left, Refused>
-        ensures { Returns result (joined_to self.now operator right.now next.now at.now) }
+    ) -> Result<(), Refused>
+        ensures { Returns (changed self.new result) (joined_to self.old operator right.now next.now at.now) }
     {
         match self.of_both(alloc, operator, right, next, at) {
-            Ok(value) => Ok(Left {
-                value,
-                at: at.share()?,
-                literal: self.keeps_sides(operator, next),
-            }),
+            Ok(value) => {
+                let at = at.share()?;
+                let literal = self.keeps_sides(operator, next);
+                *self = Left { value, at, literal };
+                Ok(())
+            }
             Err(refused) => Err(refused),
         }
     }

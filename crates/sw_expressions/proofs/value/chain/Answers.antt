@@ -12,12 +12,12 @@ unfolding chain
 returns-in_err-left g c =
     did_then _ (rw c.deeper.ensures at c.in_ok-value.ensures) (no_memory _ c.value_of.new.walk.state _ _ _ c.from_residual-in_err-left.ensures)
 
-pub returns-in_err-last : goal.returns-in_err-last
+pub returns-in_err-links : goal.returns-in_err-links
 unfolding chain
-returns-in_err-last g c =
-    did_then _ (rw c.deeper.ensures at c.in_ok-value.ensures) (did_err _ (rw c.in_ok-left.ensures at c.in_err-last.ensures) c.from_residual-in_err-last.ensures)
+returns-in_err-links g c =
+    did_then _ (rw c.deeper.ensures at c.in_ok-value.ensures) (did_err _ (rw c.in_ok-left.ensures at c.in_err-links.ensures) c.from_residual-in_err-links.ensures)
 
 pub returns : goal.returns
 unfolding chain
 returns g c =
-    did_then _ (rw c.deeper.ensures at c.in_ok-value.ensures) (did_then _ (rw c.in_ok-left.ensures at c.in_ok-last.ensures) (did_value _ _ _ _))
+    did_then _ (rw c.deeper.ensures at c.in_ok-value.ensures) (did_then _ (rw c.in_ok-left.ensures at c.in_ok-links.ensures) (did_value _ _ _ _))
