@@ -4,7 +4,7 @@ ghost use Rattle.sw_expressions.specs.Functions.{css_called, one_of, chosen, if_
 ghost use Rattle.sw_expressions.specs.Choosing.{choice_of};
 
 use crate::choosing::{Chosen, choice, one_by};
-use sw_literals::plain_at;
+use sw_literals::into_plain_at;
 use sw_pieces::names_any;
 use sw_state::fails;
 use sw_syntax_tree::{Argument, Callee};
@@ -57,7 +57,7 @@ fn one_of<W: World, B: Below<W>>(
         walk.old world.old result walk.new world.new }
 {
     let value = value_of(walk, level, one_by(choice, holds), world)?;
-    stopped(plain_at(&value, at))
+    stopped(into_plain_at(value, at))
 }
 
 // The condition, and what it chooses.

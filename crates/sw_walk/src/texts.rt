@@ -8,7 +8,7 @@ use crate::below::Below;
 use crate::level::{Level, value_of};
 use crate::walk::Walk;
 use std::alloc::Global;
-use sw_literals::{Refused, css_text, inserted, joined, plain_at};
+use sw_literals::{Refused, css_text, inserted, into_plain_at, joined};
 use sw_syntax_tree::{Expr, Parts, Piece};
 use sw_talk::{Stop, stopped};
 use sw_text::{List, Name, Span};
@@ -150,5 +150,5 @@ pub fn plain_value<W: World, B: Below<W>>(
         walk.new world.new }
 {
     let value = value_of(walk, level, e, world)?;
-    stopped(plain_at(&value, &e.span))
+    stopped(into_plain_at(value, &e.span))
 }

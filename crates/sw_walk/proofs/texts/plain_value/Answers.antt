@@ -11,4 +11,4 @@ returns-in_err-value g c =
 pub returns : goal.returns
 unfolding plain_value
 returns g c =
-    did_then _ c.in_ok-value.ensures (did_stopped _ _ _ c.value_of.new.walk.state _ _ c.plain_at.ensures c.stopped.ensures)
+    did_then _ c.in_ok-value.ensures (did_stopped _ _ _ c.value_of.new.walk.state _ _ c.into_plain_at.ensures c.stopped.ensures)
