@@ -38,6 +38,7 @@ pub(crate) fn before_value(alloc: Global, mode: Mode) -> State
     }
 }
 
+#[inline(always)]
 fn lexeme_of(plain: &Plain, at: usize, commented: bool, terminal: Terminal) -> Lexeme
     ensures { result ≡ lexeme_of plain.now at commented terminal }
 {
@@ -52,6 +53,7 @@ fn lexeme_of(plain: &Plain, at: usize, commented: bool, terminal: Terminal) -> L
     }
 }
 
+#[inline(always)]
 fn skipped(state: &mut State, plain: &Plain)
     requires { state.old.ignored + 1 < 2 ^ 64 }
     ensures state { state.new ≡ (skipped state.old plain.now).state }
@@ -60,6 +62,7 @@ fn skipped(state: &mut State, plain: &Plain)
     past_white(state, plain.sort)
 }
 
+#[inline(always)]
 fn kept(
     lexemes: &mut Vec<Lexeme>,
     state: &mut State,
@@ -76,6 +79,7 @@ fn kept(
     after(state, terminal)
 }
 
+#[inline(always)]
 fn read_placed(
     lexemes: &mut Vec<Lexeme>,
     state: &mut State,
@@ -101,6 +105,7 @@ fn read_placed(
 
 // One token: what the grammar sees of it is put behind the lexemes, and the state goes behind it.
 #[tactic(auto, unfolding(crate::specs::Lexemes::read))]
+#[inline(always)]
 fn read(
     lexemes: &mut Vec<Lexeme>,
     state: &mut State,

@@ -32,6 +32,7 @@ fn is_bracketed(around: Around) -> bool
 
 /// The list of these items, which stands here; `TooLarge` where it is too heavy or too deep.
 #[tactic(auto, unfolding(crate::specs::Lists::list_value))]
+#[inline(always)]
 pub fn list_value(
     alloc: Global,
     items: List<Value>,

@@ -34,6 +34,7 @@ fn units_of(unit: &Name) -> Result<Units, Memory>
 
 /// The value of a number that the sheet writes here; `NumberRange` where it is beyond the greatest.
 #[tactic(auto, unfolding(crate::specs::Literals::number_value))]
+#[inline(always)]
 pub fn number_value(number: &Number, at: &Span) -> Result<Value, Refused>
     ensures { Returns result (number_value number.now at.now) }
 {
@@ -83,6 +84,7 @@ pub fn hash_value(alloc: Global, text: &Name, at: &Span) -> Result<Value, Refuse
 // ---- constants
 
 /// Takes no memory.
+#[inline(always)]
 pub fn constant_value(constant: Constant) -> Value
     ensures { result ≡ constant_value constant }
 {
@@ -94,6 +96,7 @@ pub fn constant_value(constant: Constant) -> Value
 }
 
 /// The value of `!important`: a string without quotes.
+#[inline(always)]
 pub fn important_value(alloc: Global) -> Result<Value, Memory>
     ensures { IfOk result (λ value. value ≡ important_value) }
 {

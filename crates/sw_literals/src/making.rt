@@ -13,6 +13,7 @@ use sw_text::{FaultCode, Span};
 use sw_values::{Node, Value, ValueFault};
 
 /// The value of a node, unless it is too heavy or too deep.
+#[inline(always)]
 pub(crate) fn within(node: Node, at: &Span) -> Result<Value, Refused>
     ensures { Returns result (within (plain_of node) at.now) }
 {
@@ -26,6 +27,7 @@ pub(crate) fn within(node: Node, at: &Span) -> Result<Value, Refused>
 }
 
 /// What an operator answered, here.
+#[inline(always)]
 pub(crate) fn of_op(answer: Result<Value, OpFault>, at: &Span) -> Result<Value, Refused>
     ensures { (right : Result Plain OpFault) → IsAnswer answer right → Returns result (of_op at.now right) }
 {

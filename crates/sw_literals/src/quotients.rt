@@ -94,6 +94,7 @@ pub fn is_literal(operand: &Expr) -> bool
 /// The value as it is stored, passed on, returned, put in parentheses or computed with: without the sides that a
 /// quotient keeps. `DivideByZero` where that is a quotient over zero.
 #[tactic(auto, unfolding(crate::specs::Quotients::plain_at))]
+#[inline(always)]
 pub fn plain_at(value: &Value, at: &Span) -> Result<Value, Refused>
     ensures { Returns result (plain_at value.now at.now) }
 {
@@ -102,6 +103,7 @@ pub fn plain_at(value: &Value, at: &Span) -> Result<Value, Refused>
 
 /// The same of a value that is given up, which comes back where it keeps no sides.
 #[tactic(auto, unfolding(crate::specs::Quotients::plain_at))]
+#[inline(always)]
 pub fn into_plain_at(value: Value, at: &Span) -> Result<Value, Refused>
     ensures { Returns result (plain_at value at.now) }
 {

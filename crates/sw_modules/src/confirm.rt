@@ -40,6 +40,7 @@ impl<'a> Live<'a> {
     }
 
     // Where a kept answer is found, if it is.
+    #[inline(always)]
     fn place_of(&self, op: &Op, kept: &Answer) -> Option<Recent>
         ensures { IfSome result (λ _. IsAnswer self.now op.now kept.now) }
     {
@@ -66,6 +67,7 @@ impl<'a> Live<'a> {
     }
 
     // Where the variable of a module has this value.
+    #[inline(always)]
     fn place_held(&self, owner: &Name, name: &Name, value: &Value) -> Option<Recent>
         ensures { IfSome result (λ _. value_of self.now owner.now name.now ≡ value.now) }
     {
@@ -87,6 +89,7 @@ impl<'a> Live<'a> {
         }
     }
 
+    #[inline(always)]
     fn place_found(&self, site: &Name, space: &Option<Name>, named: Named<'_>) -> Option<Recent>
         ensures { IfSome result (λ _.
             found self.now site.now space.now named.entry.kind named.entry.name.now ≡ named.entry.kept.now) }
@@ -104,6 +107,7 @@ impl<'a> Live<'a> {
     }
 
     // `at` is a loaded module and its place.
+    #[inline(always)]
     fn place_loaded(
         &self,
         at: (usize, &Module),
@@ -128,6 +132,7 @@ impl<'a> Live<'a> {
     }
 
     // Without a namespace only that no module is used `as *`, so that the name means nothing.
+    #[inline(always)]
     fn place_used(&self, uses: &Uses, space: &Option<Name>, named: Named<'_>) -> Option<Recent>
         ensures { IfSome result (λ _. used_member self.now uses.now space.now named.entry.kind named.entry.name.now
             ≡ named.entry.kept.now) }
@@ -152,6 +157,7 @@ impl<'a> Live<'a> {
     }
 
     // Where a module has the name as a public member of its own.
+    #[inline(always)]
     fn place_public(&self, path: &Name, near: Recent, named: Named<'_>) -> Option<Recent>
         ensures { IfSome result (λ _. public_of self.now named.entry.kind named.entry.name.now path.now
             ≡ named.entry.kept.now) }
@@ -162,6 +168,7 @@ impl<'a> Live<'a> {
         self.place_of_member(path, near, named)
     }
 
+    #[inline(always)]
     fn place_of_member(&self, path: &Name, near: Recent, named: Named<'_>) -> Option<Recent>
         ensures { IfSome result (λ _. (member_of self.now named.entry.kind named.entry.name.now path.now
             ≡ named.entry.kept.now) × (is_member named.entry.kept.now ≡ true)) }
@@ -193,6 +200,7 @@ impl<'a> Live<'a> {
 }
 
 // Where the module at a path has the name as a member of its own.
+#[inline(always)]
 fn place_own(held: &Module, path: &Name, near: Recent, named: Named<'_>) -> Option<Recent>
     ensures { IfSome result (λ _. (own_member named.entry.kind named.entry.name.now path.now held.now
         ≡ named.entry.kept.now) × (is_member named.entry.kept.now ≡ true)) }

@@ -54,6 +54,7 @@ impl Loaded {
 
     /// The module at a path, and its place. The place `near` and the one behind it are looked at first; what is found
     /// is the same for every guess.
+    #[inline(always)]
     pub(crate) fn find(&self, path: &Name, near: usize) -> Option<(usize, &Module)>
         ensures { option_map (λ found. found.1.now) result ≡ lookup (bytes_eq path.now) self.now }
     {

@@ -64,6 +64,7 @@ impl Variables {
 
     /// The value of a name, and its place. The place `near` and the one behind it are looked at first; what is found is
     /// the same for every guess.
+    #[inline(always)]
     pub fn find(&self, name: &Name, near: usize) -> Option<(usize, &Value)>
         ensures { option_map (λ found. found.1.now) result ≡ lookup (bytes_eq name.now) self.now }
     {

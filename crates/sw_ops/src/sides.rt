@@ -15,6 +15,7 @@ use sw_units::{Number, Slash, UnitNames, Units, div};
 use sw_values::{Node, Value, ValueFault};
 
 /// The number that a value is.
+#[inline(always)]
 pub(crate) fn number_in(value: &Value) -> Option<&Number>
     ensures number { option_copied result ≡ number_in value.now }
     ensures is { IfSome result (λ number. value.now ≡ P.Number number.now) }
@@ -91,6 +92,7 @@ fn plain_number(number: &Number) -> Result<Number, OpFault>
 
 /// Whether a value is a quotient that keeps its two sides. Any other is plain as it is.
 #[tactic(auto, unfolding(crate::specs::Sides::plain_number, crate::specs::Sides::sides_in))]
+#[inline(always)]
 pub fn keeps_sides(value: &Value) -> bool
     ensures sides { result ≡ keeps_sides value.now }
     ensures plain { result ≡ false → plain_value value.now ≡ Ok value.now }
@@ -107,6 +109,7 @@ pub fn keeps_sides(value: &Value) -> bool
 /// The value without the sides that a quotient keeps, as it is stored, passed to a function, returned or computed with;
 /// `DivideByZero` where that is a quotient over zero.
 #[tactic(auto, unfolding(crate::specs::Sides::plain_number))]
+#[inline(always)]
 pub fn plain(value: &Value) -> Result<Value, OpFault>
     ensures { IsAnswer result (plain_value value.now) }
 {

@@ -43,6 +43,7 @@ fn of_number(number: Result<Number, NumberFault>) -> Result<Value, OpFault>
     }
 }
 
+#[inline(always)]
 fn computed(sign: Sign, x: &Number, y: &Number) -> Result<Value, OpFault>
     ensures { IsAnswer result (of_number (computed sign x.now y.now)) }
 {
@@ -77,6 +78,7 @@ fn unlike(alloc: Global, sign: Sign, a: &Value, b: &Value) -> Result<Value, OpFa
     spelled(alloc, sign, a, b)
 }
 
+#[inline(always)]
 fn arithmetic(alloc: Global, sign: Sign, a: &Value, b: &Value) -> Result<Value, OpFault>
     ensures { IsAnswer result (arithmetic sign a.now b.now) }
 {
@@ -137,6 +139,7 @@ fn holds(relation: Relation, order: Ordering) -> bool
     }
 }
 
+#[inline(always)]
 fn compared(relation: Relation, a: &Value, b: &Value) -> Result<Value, OpFault>
     ensures { IsAnswer result (compared relation a.now b.now) }
 {
@@ -151,6 +154,7 @@ fn compared(relation: Relation, a: &Value, b: &Value) -> Result<Value, OpFault>
 }
 
 // What an operator makes of sides that keep none of their own.
+#[inline(always)]
 fn operation(alloc: Global, op: Op2, a: &Value, b: &Value) -> Result<Value, OpFault>
     ensures { IsAnswer result (operation op a.now b.now) }
 {

@@ -96,6 +96,7 @@ pub fn span_at(source: &Source, at: usize) -> Result<Span, Memory>
 }
 
 /// The span from the token at a place to the one before another.
+#[inline(always)]
 pub fn span_between(source: &Source, at: usize, place: usize) -> Result<Span, Memory>
     ensures { IfOk result (λ span. span ≡ span_between source.now at place) }
 {

@@ -53,6 +53,7 @@ impl From<Refused> for Stop {
 }
 
 /// What is refused stops the evaluation.
+#[inline(always)]
 pub fn stopped<T>(outcome: Result<T, Refused>) -> Result<T, Stop>
     ensures { result ≡ stopped outcome }
 {

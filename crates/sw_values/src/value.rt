@@ -126,6 +126,7 @@ impl Pairs {
     }
 
     /// One more owner, in constant time.
+    #[inline(always)]
     pub fn share(&self) -> Result<Pairs, Memory>
         ensures { IfOk result (λ pairs. pairs ≡ self.now) }
     {
@@ -138,6 +139,7 @@ impl Pairs {
 impl Value {
     /// The value of a node, or `TooLarge` where it would weigh or nest too much. Looks at each item of a list once, and
     /// at nothing inside it. Takes no memory.
+    #[inline(always)]
     pub fn of(node: Node) -> Result<Value, ValueFault>
         ensures { MatchResult result (λ value. (value ≡ plain_of node) × (is_within (plain_of node) ≡ true))
             (λ fault. (fault ≡ F.TooLarge) × IsTooLarge (plain_of node)) }
@@ -196,6 +198,7 @@ impl Value {
     }
 
     /// One more owner, in constant time.
+    #[inline(always)]
     pub fn share(&self) -> Result<Value, Memory>
         ensures { IfOk result (λ value. value ≡ self.now) }
     {
@@ -208,6 +211,7 @@ impl Value {
     }
 }
 
+#[inline(always)]
 fn share_node(node: &Node) -> Result<Node, Memory>
     ensures { IfOk result (λ other. other ≡ node.now) }
 {
