@@ -19,7 +19,7 @@ use Rattle.sw_literals.specs.Quotients.{deeper, of_item}
 use Rattle.sw_literals.specs.Operations.{needs_right, first_left, taken, joined_to, prefixed}
 use Rattle.sw_literals.specs.Lists.{list_value}
 use Rattle.sw_literals.specs.Maps.{map_value}
-use Rattle.sw_pieces.specs.Layers.{Kinds, Texts}
+use Rattle.sw_state_parts.specs.Layers.{Kinds, Texts}
 use Rattle.sw_talk.specs.Talk.{Gives, bind}
 use Rattle.sw_talk.specs.Refusals.{answer}
 use Rattle.sw_state.specs.Selecting.{parent}

@@ -14,7 +14,7 @@ use Rattle.sw_literals.specs.Quotients.{deeper, plain_at}
 use Rattle.sw_talk.specs.Talk.{Fails, bind}
 use Rattle.sw_talk.specs.Asking.{fault}
 use Rattle.sw_talk.specs.Refusals.{answer}
-use Rattle.sw_pieces.specs.CssCalls.{names_any}
+use Rattle.sw_state_parts.specs.CssCalls.{names_any}
 use Rattle.sw_state.specs.Eval.{Eval}
 use Rattle.sw_walk.specs.declared.texts.TextKind.TheVariants as K
 use Rattle.sw_expressions.specs.Choosing.{Choice, choice, one_by}

@@ -12,7 +12,7 @@ use Rattle.sw_literals.specs.Quotients.{deeper}
 use Rattle.sw_talk.specs.Talk.{Gives, bind}
 use Rattle.sw_talk.specs.Refusals.{answer}
 use Rattle.sw_state.specs.Eval.{Eval}
-use Rattle.sw_pieces.specs.Layers.{Texts, Pieces}
+use Rattle.sw_state_parts.specs.Layers.{Texts, Pieces}
 use Rattle.sw_pieces.specs.Special.{plain_special, special_value, extremum, extremum_value}
 use Rattle.sw_walk.specs.declared.texts.TextKind.TheVariants as K
 use Rattle.sw_walk.specs.Texts.{pieces}

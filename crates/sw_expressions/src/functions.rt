@@ -5,8 +5,8 @@ ghost use Rattle.sw_expressions.specs.Choosing.{choice_of};
 
 use crate::choosing::{Chosen, choice, one_by};
 use sw_literals::into_plain_at;
-use sw_pieces::names_any;
 use sw_state::fails;
+use sw_state_parts::names_any;
 use sw_syntax_tree::{Argument, Callee};
 use sw_talk::{Stop, stopped};
 use sw_text::{FaultCode, Span};

@@ -10,11 +10,11 @@ use Rattle.sw_builtins.specs.declared.built_in.BuiltIn.{BuiltIn}
 use Rattle.sw_literals.specs.declared.refused.Refused.{Refused}
 use Rattle.sw_literals.specs.declared.refused.Refused.TheVariants as R
 use Rattle.sw_literals.specs.Answers.{Answer, Returns}
-use Rattle.sw_pieces.proofs.Items.{next_item, drop_all}
+use Rattle.sw_state_parts.proofs.Items.{next_item, drop_all}
 use Rattle.sw_pieces.specs.BuiltIns.{built_in_value}
 use Rattle.sw_pieces.specs.Imports.{is_text}
 use Rattle.sw_pieces.specs.Special.{fits, lists_values, piece_text, had, written_pieces, written_out, passed_of, or_written, extremum_value}
-use Rattle.sw_pieces.proofs.Answering.{refused_then}
+use Rattle.sw_state_parts.proofs.Answering.{refused_then}
 
 -- ---- which calls are computed
 

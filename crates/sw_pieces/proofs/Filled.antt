@@ -8,10 +8,10 @@ use Rattle.sw_scope.specs.declared.slots.Slot.{Slot}
 use Rattle.sw_scope.specs.Frames.{Variable}
 use Rattle.sw_literals.specs.declared.refused.Refused.{Refused}
 use Rattle.sw_literals.specs.Answers.{Returns}
-use Rattle.sw_pieces.proofs.Items.{next_item, drop_all}
-use Rattle.sw_pieces.specs.Passing.{Slots}
+use Rattle.sw_state_parts.proofs.Items.{next_item, drop_all}
+use Rattle.sw_state_parts.specs.Passing.{Slots}
 use Rattle.sw_pieces.specs.BuiltIns.{filled_with, filled, names_of}
-use Rattle.sw_pieces.proofs.Answering.{refused_then}
+use Rattle.sw_state_parts.proofs.Answering.{refused_then}
 
 pub slot_next : (done : List Variable) (params : List Param) (slots : Slots) (i : ℕ) (slot : List ℕ × Slot) (v : Plain) (at : Span) → i < length slots → slot ≡ get_or slots i slot → filled_with params slot.1 at ≡ Ok v
     → filled done params (drop i slots) at ≡ filled (done ++ (slot.0, v) ∷ []) params (drop (i + 1) slots) at

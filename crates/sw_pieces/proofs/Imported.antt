@@ -8,11 +8,11 @@ use Rattle.sw_scan.proofs.Bounds.{if_true, if_false}
 use Rattle.sw_scan.specs.Pieces.{piece}
 use Rattle.sw_literals.specs.declared.refused.Refused.{Refused}
 use Rattle.sw_literals.specs.Answers.{Returns}
-use Rattle.sw_pieces.proofs.Items.{next_item, drop_all}
+use Rattle.sw_state_parts.proofs.Items.{next_item, drop_all}
 use Rattle.sw_pieces.specs.Imports.{piece_template, templates, is_text, inserted_one, inserted_of, is_cut, step_on, on_from, cut_in, next_cut, parts_by, parts_in, is_mark, mark_step, mark_in, place_for, with_first, pieces_by, pieces_in, filled_in, filled_from}
-use Rattle.sw_pieces.specs.Trimming.{trimmed}
+use Rattle.sw_state_parts.specs.Trimming.{trimmed}
 use Rattle.sw_pieces.specs.declared.imports.Step.{Step}
-use Rattle.sw_pieces.proofs.Answering.{refused_then}
+use Rattle.sw_state_parts.proofs.Answering.{refused_then}
 
 -- ---- templates
 

@@ -1,12 +1,5 @@
-pub mod Items
-pub mod Answering
-pub mod Tests
-pub mod Unrolled
-pub mod Arguments
-pub mod Written
 pub mod Filled
 pub mod Words
 pub mod Imported
-pub mod Frames
 pub mod Spaced
 pub mod Extremes

@@ -5,7 +5,7 @@ use Rattle.std.proofs.Math.Seq.{drop-cons}
 use Rattle.std.proofs.lemmas.List.{take_more, take_all, drop-append-le}
 use Rattle.sw_scan.specs.Bytes.{byte, byte_in}
 use Rattle.sw_syntax_tree.specs.declared.text.Piece.{Piece}
-use Rattle.sw_pieces.proofs.Items.{next_item, drop_all}
+use Rattle.sw_state_parts.proofs.Items.{next_item, drop_all}
 use Rattle.sw_pieces.specs.Spacing.{stepped, is_blank, shows_space, behind, spaced, piece_spaced, behind_piece, spaced_texts}
 use Rattle.sw_pieces.specs.declared.spacing.Reading.{Reading}
 

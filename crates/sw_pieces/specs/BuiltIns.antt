@@ -24,8 +24,8 @@ use Rattle.sw_builtins.specs.Tables.{variable_of}
 use Rattle.sw_literals.specs.Answers.{Answer, refused, with}
 use Rattle.sw_literals.specs.Literals.{number_value, word_value, constant_value}
 use Rattle.sw_literals.specs.Quotients.{plain_at}
-use Rattle.sw_pieces.specs.Layers.{Kinds, Texts}
-use Rattle.sw_pieces.specs.Passing.{Slots, plain_passed, bound_by, default_at}
+use Rattle.sw_state_parts.specs.Layers.{Kinds, Texts}
+use Rattle.sw_state_parts.specs.Passing.{Slots, plain_passed, bound_by, default_at}
 
 -- the faults of functions; none of their meanings is want of memory
 abbrev pub code_of : FnFault → FaultCode

@@ -16,8 +16,8 @@ use Rattle.sw_scan.specs.Words.{begins_url}
 use Rattle.sw_scope.specs.Bind.{is_empty}
 use Rattle.sw_literals.specs.Answers.{Answer, with}
 use Rattle.sw_literals.specs.Texts.{joined}
-use Rattle.sw_pieces.specs.Layers.{Texts, Pieces}
-use Rattle.sw_pieces.specs.Trimming.{trimmed}
+use Rattle.sw_state_parts.specs.Layers.{Texts, Pieces}
+use Rattle.sw_state_parts.specs.Trimming.{trimmed}
 use Rattle.sw_pieces.specs.declared.imports.Step.{Step}
 
 -- ---- templates: `#{}` stands for each value

@@ -1,10 +1,4 @@
-pub mod Layers
-pub mod Trimming
-pub mod CssCalls
-pub mod Keyframes
 pub mod Imports
-pub mod Contents
-pub mod Passing
 pub mod BuiltIns
 pub mod Spacing
 pub mod Special

@@ -18,9 +18,9 @@ use Rattle.sw_literals.specs.Literals.{string_value}
 use Rattle.sw_literals.specs.Texts.{css_text, joined}
 use Rattle.sw_pieces.specs.BuiltIns.{built_in_value}
 use Rattle.sw_pieces.specs.Imports.{is_text}
-use Rattle.sw_pieces.specs.Layers.{Pieces}
+use Rattle.sw_state_parts.specs.Layers.{Pieces}
 use Rattle.sw_pieces.specs.Spacing.{start, spaced, spaced_texts}
-use Rattle.sw_pieces.specs.Trimming.{trimmed}
+use Rattle.sw_state_parts.specs.Trimming.{trimmed}
 
 -- ---- what is written
 

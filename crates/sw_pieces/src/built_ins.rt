@@ -10,7 +10,6 @@ ghost use Rattle.sw_pieces.specs.BuiltIns.{of_fn, word_by, constant_by, constant
 ghost use Rattle.sw_syntax_tree.specs.declared.expr.ExprKind.{out-ExprKind};
 ghost use Rattle.sw_syntax_tree.specs.declared.text.Parts.{out-Parts};
 
-use crate::passing::{bound_by, default_at, plain_passed};
 use std::alloc::Global;
 use sw_builtins::{BuiltIn, call, params, variable};
 use sw_fn::FnFault;
@@ -18,6 +17,7 @@ use sw_literals::{
     Refused, constant_value, fails as refuses, into_plain_at, number_value, word_value,
 };
 use sw_scope::{Passed, Slot};
+use sw_state_parts::{bound_by, default_at, plain_passed};
 use sw_syntax_tree::{Expr, ExprKind, Number, Param, Parts};
 use sw_text::{FaultCode, List, Memory, Name, Span};
 use sw_values::Value;

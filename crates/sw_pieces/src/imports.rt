@@ -6,12 +6,12 @@ ghost use Rattle.sw_scan.specs.Pieces.{piece};
 ghost use Rattle.sw_pieces.specs.Imports.{piece_template, templates, template_of, template, is_text, inserted_one, inserted_of, begins_part, is_cut, is_opening, is_closing, behind, step_on, next_cut, parts_of, has_scheme, is_remote, is_web, is_plain, all_plain, is_mark, mark_step, next_mark, place_for, part_pieces, filled_in, filled_all};
 ghost use Rattle.sw_literals.specs.Answers.{Returns};
 
-use crate::trimming::add_trimmed;
 use std::alloc::Global;
 use sw_literals::{Refused, joined};
 use sw_scan::{
     Class, begins_url, byte_at, escape_end, is_quote, piece, run_end, signs, string_end,
 };
+use sw_state_parts::add_trimmed;
 use sw_syntax_tree::{Parts, Piece};
 use sw_text::{List, Memory, Name, Span};
 

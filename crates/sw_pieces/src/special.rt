@@ -6,12 +6,12 @@ ghost use Rattle.sw_pieces.specs.Special.{plain_special, special_value, bare, cl
 use crate::built_ins::built_in_value;
 use crate::imports::is_text;
 use crate::spacing::{Reading, spaced, spaced_texts};
-use crate::trimming::trimmed;
 use std::alloc::Global;
 use sw_builtins::{BuiltIn, Found, find};
 use sw_literals::{Refused, css_text, joined, string_value};
 use sw_scan::{byte_at, signs};
 use sw_scope::Passed;
+use sw_state_parts::trimmed;
 use sw_syntax_tree::{Expr, Kind, Piece};
 use sw_text::{List, Memory, Name, Span};
 use sw_values::Value;

@@ -8,7 +8,7 @@ use Rattle.sw_literals.specs.Answers.{Returns}
 use Rattle.sw_literals.specs.Literals.{string_value}
 use Rattle.sw_talk.proofs.Loops.{next_item, drop_all}
 use Rattle.sw_state.specs.Selecting.{words_of, complex_of, complexes_of}
-use Rattle.sw_pieces.proofs.Answering.{refused_then}
+use Rattle.sw_state_parts.proofs.Answering.{refused_then}
 
 pub word_next : (done : List Plain) (texts : List (List ℕ)) (i : ℕ) (text : List ℕ) (word : Plain) (at : Span) → i < length texts → text ≡ get_or texts i text → string_value text false at ≡ Ok word
     → words_of done (drop i texts) at ≡ words_of (done ++ word ∷ []) (drop (i + 1) texts) at

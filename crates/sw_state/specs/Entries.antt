@@ -11,8 +11,8 @@ use Rattle.sw_literals.specs.Answers.{Answer, with}
 use Rattle.sw_talk.specs.Talk.{Gives, Fails, bind}
 use Rattle.sw_talk.specs.Asking.{fault}
 use Rattle.sw_talk.specs.Refusals.{answer}
-use Rattle.sw_pieces.specs.Contents.{block_has}
-use Rattle.sw_pieces.specs.Passing.{Slots, bound}
+use Rattle.sw_state_parts.specs.Contents.{block_has}
+use Rattle.sw_state_parts.specs.Passing.{Slots, bound}
 use Rattle.sw_state.specs.Callables.{function_here, mixin_here, here_of, content_of}
 use Rattle.sw_state.specs.Eval.{Eval}
 use Rattle.sw_state.specs.declared.here.Block.{Block, out-Block}

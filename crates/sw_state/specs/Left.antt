@@ -18,7 +18,7 @@ use Rattle.indexmap.specs.IndexMap.{insert_entry}
 use Rattle.sw_syntax_tree.specs.declared.callable.Callable.{Callable}
 use Rattle.sw_syntax_tree.specs.declared.statement.Statement.{Statement, out-Statement}
 use Rattle.sw_syntax_tree.specs.declared.statement.Statement.TheOpen.{Statement-F}
-use Rattle.sw_pieces.specs.Layers.{Layer}
+use Rattle.sw_state_parts.specs.Layers.{Layer}
 use Rattle.sw_state.specs.declared.state.State.{State}
 
 abbrev pub or_null : Option Plain → Plain

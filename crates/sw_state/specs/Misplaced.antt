@@ -2,7 +2,7 @@
 use Rattle.std.specs.Prelude.{Bool, true, false, not, ◌||◌}
 use Rattle.sw_syntax_tree.specs.declared.statement.Statement.{Statement, out-Statement}
 use Rattle.sw_syntax_tree.specs.declared.statement.Statement.TheOpen.{Statement-F}
-use Rattle.sw_pieces.specs.Layers.{Layer}
+use Rattle.sw_state_parts.specs.Layers.{Layer}
 use Rattle.sw_state.specs.declared.here.Inside.{Inside}
 use Rattle.sw_state.specs.declared.here.Inside.TheVariants as I
 

@@ -11,7 +11,7 @@ use Rattle.sw_talk.specs.Refusals.{answer}
 use Rattle.sw_state.specs.Output.{opened}
 use Rattle.sw_state.specs.Selecting.{Selectors, selected}
 use Rattle.sw_state.specs.Eval.{Eval}
-use Rattle.sw_pieces.specs.Keyframes.{keyframe_text}
+use Rattle.sw_state_parts.specs.Keyframes.{keyframe_text}
 use Rattle.sw_state.specs.Nestings.{are_keyframes}
 use Rattle.sw_state.specs.declared.nesting.Nesting.{Nesting}
 use Rattle.sw_state.specs.declared.nesting.Rules.TheVariants as R

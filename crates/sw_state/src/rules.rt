@@ -11,8 +11,8 @@ use crate::state::State;
 use std::alloc::Global;
 use std::mem;
 use sw_literals::{Refused, joined};
-use sw_pieces::keyframe_text;
 use sw_selector::Selectors;
+use sw_state_parts::keyframe_text;
 use sw_talk::{Stop, stopped};
 use sw_text::{Name, Shared, Span};
 

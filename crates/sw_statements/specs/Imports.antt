@@ -18,7 +18,7 @@ use Rattle.sw_talk.specs.Refusals.{answer}
 use Rattle.sw_state.specs.AtRules.{imported_all}
 use Rattle.sw_state.specs.Eval.{Eval}
 use Rattle.sw_pieces.specs.Imports.{template, parts_of, all_plain, inserted_of, filled_all}
-use Rattle.sw_pieces.specs.Layers.{Texts}
+use Rattle.sw_state_parts.specs.Layers.{Texts}
 use Rattle.sw_walk.specs.declared.texts.TextKind.TheVariants as K
 use Rattle.sw_statements.specs.Flow.{done}
 use Rattle.sw_walk.specs.Texts.{pieces}

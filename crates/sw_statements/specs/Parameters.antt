@@ -11,7 +11,7 @@ use Rattle.sw_literals.specs.declared.quotients.Parens.TheVariants as P
 use Rattle.sw_talk.specs.Talk.{Gives, bind}
 use Rattle.sw_state.specs.Entering.{given}
 use Rattle.sw_state.specs.Eval.{Eval}
-use Rattle.sw_pieces.specs.Passing.{Slots, default_at}
+use Rattle.sw_state_parts.specs.Passing.{Slots, default_at}
 use Rattle.sw_walk.specs.Texts.{plain_value}
 
 -- `value` is the level below

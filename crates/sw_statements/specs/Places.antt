@@ -2,7 +2,7 @@
 use Rattle.sw_text.specs.declared.place.Span.{Span}
 use Rattle.sw_syntax_tree.specs.declared.statement.Statement.{Statement, out-Statement}
 use Rattle.sw_syntax_tree.specs.declared.statement.Statement.TheOpen.{Statement-F}
-use Rattle.sw_pieces.specs.Layers.{Layer}
+use Rattle.sw_state_parts.specs.Layers.{Layer}
 
 abbrev pub place_by : Layer → Span
 place_by (Statement-F.Variable x) = x.span

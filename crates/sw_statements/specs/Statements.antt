@@ -13,7 +13,7 @@ use Rattle.sw_values.specs.declared.plain.Plain.{Plain}
 use Rattle.sw_scope.specs.declared.mark.FrameKind.TheVariants as F
 use Rattle.sw_literals.specs.declared.quotients.Parens.{Parens}
 use Rattle.sw_literals.specs.declared.quotients.Parens.TheVariants as P
-use Rattle.sw_pieces.specs.Layers.{Layer}
+use Rattle.sw_state_parts.specs.Layers.{Layer}
 use Rattle.sw_talk.specs.Talk.{Gives, Fails, bind}
 use Rattle.sw_talk.specs.Asking.{fault}
 use Rattle.sw_state.specs.Output.{commented}

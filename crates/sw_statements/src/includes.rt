@@ -5,9 +5,9 @@ ghost use Rattle.sw_statements.specs.Parameters.{default_value, slot_value, fill
 ghost use Rattle.sw_statements.specs.Includes.{run_body, include, content_run, content};
 
 use crate::flow::block;
-use sw_pieces::default_at;
 use sw_scope::Slot;
 use sw_state::{Block, block_entry};
+use sw_state_parts::default_at;
 use sw_syntax_tree::{Argument, Content, ContentCall, Expr, Mixin, Param};
 use sw_talk::{Stop, stopped};
 use sw_text::{Name, Shared, Span};

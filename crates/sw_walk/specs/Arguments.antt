@@ -7,7 +7,7 @@ use Rattle.sw_scope.specs.declared.passed.Passed.{Passed}
 use Rattle.sw_literals.specs.declared.quotients.Parens.{Parens}
 use Rattle.sw_talk.specs.Talk.{Gives, bind}
 use Rattle.sw_state.specs.Eval.{Eval}
-use Rattle.sw_pieces.specs.Passing.{passed_on}
+use Rattle.sw_state_parts.specs.Passing.{passed_on}
 
 -- `value` is the level below
 module _ (value : Parens → Expr → Eval Plain) where

@@ -19,7 +19,7 @@ use Rattle.sw_state.specs.Eval.{Eval}
 use Rattle.sw_state.specs.declared.called.Called.{Called}
 use Rattle.sw_state.specs.declared.called.Called.TheVariants as call
 use Rattle.sw_state.specs.declared.entries.Found.{Found}
-use Rattle.sw_pieces.specs.Layers.{Texts}
+use Rattle.sw_state_parts.specs.Layers.{Texts}
 use Rattle.sw_walk.specs.Going.{finding}
 
 -- from the start of a part of a sheet to the end of another

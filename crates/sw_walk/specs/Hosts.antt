@@ -12,9 +12,9 @@ use Rattle.sw_world.specs.declared.answer.Answer.TheVariants.{Hosted}
 use Rattle.sw_talk.specs.Talk.{Calls, Gives, bind}
 use Rattle.sw_talk.specs.Asking.{asking}
 use Rattle.sw_talk.specs.Refusals.{answer}
-use Rattle.sw_pieces.specs.CssCalls.{css_call}
+use Rattle.sw_state_parts.specs.CssCalls.{css_call}
 use Rattle.sw_state.specs.Eval.{Eval}
-use Rattle.sw_pieces.specs.Layers.{Texts}
+use Rattle.sw_state_parts.specs.Layers.{Texts}
 
 abbrev pub given_by : Answer → Option Plain
 given_by (Hosted given) = given

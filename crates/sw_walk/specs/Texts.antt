@@ -10,7 +10,7 @@ use Rattle.sw_literals.specs.declared.quotients.Parens.{Parens}
 use Rattle.sw_literals.specs.Answers.{Answer}
 use Rattle.sw_literals.specs.Quotients.{deeper, plain_at}
 use Rattle.sw_literals.specs.Texts.{inserted, css_text, joined}
-use Rattle.sw_pieces.specs.Layers.{Texts, Pieces}
+use Rattle.sw_state_parts.specs.Layers.{Texts, Pieces}
 use Rattle.sw_talk.specs.Talk.{Gives, bind}
 use Rattle.sw_talk.specs.Refusals.{answer}
 use Rattle.sw_state.specs.Eval.{Eval}

@@ -4,7 +4,7 @@ ghost use Rattle.sw_walk.specs.Going.{Goes_on};
 ghost use Rattle.sw_walk.specs.Hosts.{hosted, hosted_by, css_value};
 
 use crate::walk::Walk;
-use sw_pieces::css_call;
+use sw_state_parts::css_call;
 use sw_syntax_tree::{Callee, Parts};
 use sw_talk::{Stop, stopped};
 use sw_text::{List, Name, Shared, Span};

@@ -1,5 +1,5 @@
 use Rattle.sw_pieces.specs.BuiltIns.{built_in_arguments}
-use Rattle.sw_pieces.proofs.Answering.{refused_then, without_memory}
+use Rattle.sw_state_parts.proofs.Answering.{refused_then, without_memory}
 use Rattle.sw_pieces.proofs.built_ins.built_in_arguments.Goals as goal
 
 pub returns-in_err-plain : goal.returns-in_err-plain

@@ -1,5 +1,5 @@
 use Rattle.sw_pieces.specs.BuiltIns.{built_in_value}
-use Rattle.sw_pieces.proofs.Answering.{refused_then}
+use Rattle.sw_state_parts.proofs.Answering.{refused_then}
 use Rattle.sw_pieces.proofs.built_ins.built_in_value.Goals as goal
 
 pub returns-in_err-arguments : goal.returns-in_err-arguments

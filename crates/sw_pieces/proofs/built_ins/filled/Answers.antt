@@ -1,5 +1,5 @@
 use Rattle.std.proofs.Common.{◌∙◌, arith}
-use Rattle.sw_pieces.proofs.Answering.{without_memory}
+use Rattle.sw_state_parts.proofs.Answering.{without_memory}
 use Rattle.sw_pieces.proofs.Filled.{slot_next, slot_refused, slots_end}
 use Rattle.sw_pieces.proofs.built_ins.filled.Goals as goal
 

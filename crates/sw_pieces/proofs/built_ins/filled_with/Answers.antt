@@ -1,5 +1,5 @@
 use Rattle.std.proofs.Common.{refl}
-use Rattle.sw_pieces.proofs.Answering.{without_memory}
+use Rattle.sw_state_parts.proofs.Answering.{without_memory}
 use Rattle.sw_pieces.proofs.built_ins.filled_with.Goals as goal
 
 pub returns-in_err-share-in-Filled : goal.returns-in_err-share-in-Filled

@@ -1,5 +1,5 @@
 use Rattle.std.proofs.Common.{◌∙◌, arith}
-use Rattle.sw_pieces.proofs.Answering.{without_memory}
+use Rattle.sw_state_parts.proofs.Answering.{without_memory}
 use Rattle.sw_pieces.proofs.Imported.{filled_next, filled_refused, filled_end}
 use Rattle.sw_pieces.proofs.imports.filled_all.Goals as goal
 

@@ -1,5 +1,5 @@
 use Rattle.std.proofs.Common.{refl}
-use Rattle.sw_pieces.proofs.Answering.{refused_then, without_memory}
+use Rattle.sw_state_parts.proofs.Answering.{refused_then, without_memory}
 use Rattle.sw_pieces.proofs.imports.filled_in.Goals as goal
 
 pub returns-in_err-pieces : goal.returns-in_err-pieces

@@ -1,7 +1,7 @@
 use Rattle.std.proofs.Common.{refl}
 use Rattle.sw_syntax_tree.specs.declared.text.Parts as T
 use Rattle.sw_pieces.specs.Imports.{template}
-use Rattle.sw_pieces.proofs.Answering.{without_memory}
+use Rattle.sw_state_parts.proofs.Answering.{without_memory}
 use Rattle.sw_pieces.proofs.Words.{out_Mixed}
 use Rattle.sw_pieces.proofs.imports.template.Goals as goal
 

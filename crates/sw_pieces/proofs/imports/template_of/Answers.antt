@@ -1,4 +1,4 @@
-use Rattle.sw_pieces.proofs.Answering.{without_memory}
+use Rattle.sw_state_parts.proofs.Answering.{without_memory}
 use Rattle.sw_pieces.proofs.imports.template_of.Goals as goal
 
 pub returns-in_err-texts : goal.returns-in_err-texts

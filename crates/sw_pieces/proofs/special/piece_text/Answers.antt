@@ -1,7 +1,7 @@
 use Rattle.std.proofs.Common.{refl}
 use Rattle.sw_syntax_tree.specs.declared.text.Piece as C
 use Rattle.sw_pieces.specs.Special.{piece_text}
-use Rattle.sw_pieces.proofs.Answering.{without_memory}
+use Rattle.sw_state_parts.proofs.Answering.{without_memory}
 use Rattle.sw_pieces.proofs.special.piece_text.Goals as goal
 
 pub returns-in_err-share-in-Text : goal.returns-in_err-share-in-Text

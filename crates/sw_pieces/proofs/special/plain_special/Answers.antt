@@ -1,4 +1,4 @@
-use Rattle.sw_pieces.proofs.Answering.{without_memory}
+use Rattle.sw_state_parts.proofs.Answering.{without_memory}
 use Rattle.sw_pieces.proofs.special.plain_special.Goals as goal
 
 pub returns-in_err-text : goal.returns-in_err-text

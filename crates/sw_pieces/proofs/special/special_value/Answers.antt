@@ -1,5 +1,5 @@
 use Rattle.sw_pieces.specs.Special.{special_value}
-use Rattle.sw_pieces.proofs.Answering.{refused_then, without_memory}
+use Rattle.sw_state_parts.proofs.Answering.{refused_then, without_memory}
 use Rattle.sw_pieces.proofs.special.special_value.Goals as goal
 
 pub returns-in_err-spaced : goal.returns-in_err-spaced

@@ -1,4 +1,4 @@
-use Rattle.sw_pieces.proofs.Answering.{refused_then}
+use Rattle.sw_state_parts.proofs.Answering.{refused_then}
 use Rattle.sw_pieces.proofs.special.written_out.Goals as goal
 
 pub returns-in_err-texts : goal.returns-in_err-texts

@@ -1,5 +1,5 @@
 use Rattle.std.proofs.Common.{◌+◌, ◌≤◌, ◌∙◌, arith}
-use Rattle.sw_pieces.proofs.Answering.{without_memory}
+use Rattle.sw_state_parts.proofs.Answering.{without_memory}
 use Rattle.sw_pieces.proofs.Extremes.{written_next, written_refused, written_end, had_one}
 use Rattle.sw_pieces.specs.Special.{had}
 use Rattle.sw_pieces.proofs.special.written_pieces.Goals as goal

@@ -1,6 +1,6 @@
 use Rattle.std.proofs.Common.{refl}
 use Rattle.sw_state.specs.Entries.{block_entry}
-use Rattle.sw_pieces.proofs.Answering.{refused_then, without_memory}
+use Rattle.sw_state_parts.proofs.Answering.{refused_then, without_memory}
 use Rattle.sw_state.proofs.entries.block_entry.Goals as goal
 
 pub returns-in_err-slots : goal.returns-in_err-slots

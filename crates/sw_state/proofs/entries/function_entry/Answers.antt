@@ -1,6 +1,6 @@
 use Rattle.std.proofs.Common.{refl}
 use Rattle.sw_state.specs.Entries.{function_entry}
-use Rattle.sw_pieces.proofs.Answering.{refused_then}
+use Rattle.sw_state_parts.proofs.Answering.{refused_then}
 use Rattle.sw_state.proofs.entries.function_entry.Goals as goal
 
 pub returns-in_err-slots : goal.returns-in_err-slots

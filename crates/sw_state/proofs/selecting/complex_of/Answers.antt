@@ -1,5 +1,5 @@
 use Rattle.sw_state.specs.Selecting.{complex_of}
-use Rattle.sw_pieces.proofs.Answering.{refused_then}
+use Rattle.sw_state_parts.proofs.Answering.{refused_then}
 use Rattle.sw_state.proofs.selecting.complex_of.Goals as goal
 
 pub returns-in_err-words : goal.returns-in_err-words

@@ -1,5 +1,5 @@
 use Rattle.std.proofs.Common.{◌∙◌, arith}
-use Rattle.sw_pieces.proofs.Answering.{without_memory}
+use Rattle.sw_state_parts.proofs.Answering.{without_memory}
 use Rattle.sw_state.proofs.Parents.{complex_next, complex_refused, complexes_end}
 use Rattle.sw_state.proofs.selecting.complexes_of.Goals as goal
 

@@ -1,6 +1,6 @@
 use Rattle.std.proofs.Common.{refl}
 use Rattle.sw_state.specs.Selecting.{parent_by}
-use Rattle.sw_pieces.proofs.Answering.{refused_then, without_memory}
+use Rattle.sw_state_parts.proofs.Answering.{refused_then, without_memory}
 use Rattle.sw_state.proofs.selecting.parent_by.Goals as goal
 
 pub returns-in-None : goal.returns-in-None
