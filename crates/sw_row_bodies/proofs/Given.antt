@@ -8,7 +8,7 @@ use Rattle.sw_world.specs.declared.end.Turn.TheVariants.{Load as Turn_Load}
 use Rattle.sw_world.specs.Body.{Pair, Next, Job, BodyOf, answers, Goes}
 use Rattle.sw_world.specs.Progress.{Status, Waiting, Progress, IsAt, IsBody, begun, given}
 use Rattle.sw_world.specs.Questions.{IsLoad, Fits}
-use Rattle.sw_starving.specs.Ready.{AnswersLoads, IsReady, IsStopped}
+use Rattle.sw_row_bodies.specs.Ready.{AnswersLoads, IsReady, IsStopped}
 
 pub begun_ready : (body : BodyOf) (job : Job) (p : Progress) → p ≡ begun job [] → IsReady body p
 begun_ready body job p is = subst (λ (q : Progress). IsReady body q) (sym is) (record { runs = refl; is_body = record { goes = tt; place = tt } })

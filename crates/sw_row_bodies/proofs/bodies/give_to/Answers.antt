@@ -1,8 +1,8 @@
 use Rattle.std.proofs.Common.{subst, sym}
 use Rattle.sw_world.specs.declared.answer.Answer.{Answer}
-use Rattle.sw_starving.specs.Ready.{AnswersLoads}
-use Rattle.sw_starving.proofs.Given.{can_give, given_ready}
-use Rattle.sw_starving.proofs.bodies.give_to.Goals as goal
+use Rattle.sw_row_bodies.specs.Ready.{AnswersLoads}
+use Rattle.sw_row_bodies.proofs.Given.{can_give, given_ready}
+use Rattle.sw_row_bodies.proofs.bodies.give_to.Goals as goal
 
 pub give-requires-clause-waits : goal.give-requires-clause-waits
 give-requires-clause-waits g c =

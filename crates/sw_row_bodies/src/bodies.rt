@@ -2,7 +2,7 @@
 ghost use Rattle.std.specs.Prelude.{◌≡◌, IfOk, OnOk, None};
 ghost use Rattle.sw_world.specs.declared.op.Op.{Op};
 ghost use Rattle.sw_world.specs.declared.end.Turn.TheVariants.{Load};
-ghost use Rattle.sw_starving.specs.Ready.{AnswersLoads, IsReady, IsStopped};
+ghost use Rattle.sw_row_bodies.specs.Ready.{AnswersLoads, IsReady, IsStopped};
 
 use crate::broken::Broken;
 use crate::module::Module;

@@ -1,6 +1,6 @@
 // A line for each question at which a body finds no memory, and for each answer that its loads have.
 ghost use Rattle.std.specs.Prelude.{IfOk};
-ghost use Rattle.sw_starving.specs.Ready.{AnswersLoads};
+ghost use Rattle.sw_row_bodies.specs.Ready.{AnswersLoads};
 
 use crate::bodies::{begin, to_end};
 use crate::broken::Broken;

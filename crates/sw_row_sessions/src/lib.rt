@@ -1,0 +1,22 @@
+//! Sessions and compiles as rows: what is sent, over which disk and to which reporters, and what has to come of it. The
+//! text of a file of rows flows in, its rows flow out; an ending flows in, and what differs flows out.
+#![tactic(auto)]
+
+mod archive;
+mod case_rows;
+mod difference;
+mod disks;
+mod ending;
+mod listeners;
+mod replies;
+mod row;
+mod session_rows;
+
+pub use archive::{Section, sections};
+pub use case_rows::case_rows;
+pub use disks::disk_of;
+pub use ending::{Ending, told};
+pub use listeners::{Heard, Listener, heard_by, hub_of};
+pub use replies::looked_at;
+pub use row::{File, Look, Row};
+pub use session_rows::session_rows;
