@@ -1,34 +1,35 @@
 -- What ran is given by the kept runs and the runs of a compile.
-use Rattle.std.proofs.Common.{◌≡◌, ◌≢◌, ◌⊎◌, List, [], ◌∷◌, ◌++◌, Option, None, Some, refl, sym, ◌∙◌, ap, subst, inl, inr}
+use Rattle.std.proofs.Common.{◌≡◌, ◌≢◌, ◌⊎◌, List, [], ◌∷◌, ◌++◌, append_assoc, refl, sym, ◌∙◌, ap, subst, inl, inr, arith}
+use Rattle.std.specs.List.{All, Any, Contains}
+use Rattle.std.proofs.lemmas.List.Elements.{All-contains}
 use Rattle.sw_world.specs.declared.op.Op.{Op}
 use Rattle.sw_world.specs.declared.op.Op.TheVariants as ops
-use Rattle.sw_world.specs.declared.answer.Answer.{Answer}
 use Rattle.sw_world.specs.Body.{Pair, Run}
 use Rattle.sw_record.specs.declared.reply.Cause.{Cause}
 use Rattle.sw_record.specs.declared.reply.Cause.TheVariants.{First, Text, Config, Load, Member, Variable, Call}
-use Rattle.sw_record.specs.Ran.{RanIsOne, IsCause, IsCauseBy, Differs, IsAnswered, kept_at}
+use Rattle.sw_record.specs.Ran.{RanIsOne, IsAlike, IsAnswered, NoneGoesOn, IsCause, IsCauseBy}
 
--- two lists that have the same pairs before
-cancel : (xs : List Pair) (p q : Pair) (ps qs : List Pair) → xs ++ p ∷ ps ≡ xs ++ q ∷ qs → p ≡ q
-cancel [] p q ps qs e = cc
-cancel (x ∷ xs) p q ps qs e = let rest : xs ++ p ∷ ps ≡ xs ++ q ∷ qs = cc in cancel xs p q ps qs rest
+-- a list that two fronts with a pair behind each begin: the pairs are the same, or one front goes on with the other pair
+abbrev Ahead : List Pair → List Pair → Pair → Pair → Type 0
+Ahead xs ys p q = (p ≡ q) ⊎ (((mid : List Pair) × (ys ≡ xs ++ p ∷ mid)) ⊎ ((mid : List Pair) × (xs ≡ ys ++ q ∷ mid)))
 
--- two lists differ first at one question alone
-one_question : (xs ys : List Pair) (op other : Op) (a b c d : Answer) (ps qs rs ss : List Pair)
-    → xs ++ (op, a) ∷ ps ≡ ys ++ (other, b) ∷ qs → xs ++ (op, c) ∷ rs ≡ ys ++ (other, d) ∷ ss → a ≢ c → b ≢ d → op ≡ other
-one_question [] [] op other a b c d ps qs rs ss e f ac bd = let p : (op, a) ≡ (other, b) = cc in ap (λ (x : Pair). x.0) p
-one_question [] (y ∷ ys) op other a b c d ps qs rs ss e f ac bd =
-    let p : (op, a) ≡ y = cc in
-    let q : (op, c) ≡ y = cc in
-    absurd (ac (ap (λ (x : Pair). x.1) (p ∙ sym q)))
-one_question (x ∷ xs) [] op other a b c d ps qs rs ss e f ac bd =
-    let p : x ≡ (other, b) = cc in
-    let q : x ≡ (other, d) = cc in
-    absurd (bd (ap (λ (y : Pair). y.1) (sym p ∙ q)))
-one_question (x ∷ xs) (y ∷ ys) op other a b c d ps qs rs ss e f ac bd =
-    let rest : xs ++ (op, a) ∷ ps ≡ ys ++ (other, b) ∷ qs = cc in
-    let others : xs ++ (op, c) ∷ rs ≡ ys ++ (other, d) ∷ ss = cc in
-    one_question xs ys op other a b c d ps qs rs ss rest others ac bd
+ahead_more : (x y : Pair) (xs ys : List Pair) (p q : Pair) → x ≡ y → Ahead xs ys p q → Ahead (x ∷ xs) (y ∷ ys) p q
+ahead_more x y xs ys p q e (inl a) = inl a
+ahead_more x y xs ys p q e (inr (inl a)) = inr (inl (a.0, ap (λ (z : Pair). z ∷ ys) (sym e) ∙ ap (λ l. x ∷ l) a.1))
+ahead_more x y xs ys p q e (inr (inr a)) = inr (inr (a.0, ap (λ (z : Pair). z ∷ xs) e ∙ ap (λ l. y ∷ l) a.1))
+
+ahead : (xs ys : List Pair) (p q : Pair) (ps qs : List Pair) → xs ++ p ∷ ps ≡ ys ++ q ∷ qs → Ahead xs ys p q
+ahead [] [] p q ps qs e = let same : p ≡ q = cc in inl same
+ahead [] (y ∷ ys) p q ps qs e = let same : p ≡ y = cc in inr (inl (ys, ap (λ (z : Pair). z ∷ ys) (sym same)))
+ahead (x ∷ xs) [] p q ps qs e = let same : x ≡ q = cc in inr (inr (xs, ap (λ (z : Pair). z ∷ xs) same))
+ahead (x ∷ xs) (y ∷ ys) p q ps qs e =
+    let head : x ≡ y = cc in
+    let rest : xs ++ p ∷ ps ≡ ys ++ q ∷ qs = cc in
+    ahead_more x y xs ys p q head (ahead xs ys p q ps qs rest)
+
+-- what begins with a front that goes on so
+goes_on : (seen xs ys mid qs : List Pair) (p q : Pair) → ys ≡ xs ++ p ∷ mid → seen ≡ ys ++ q ∷ qs → seen ≡ xs ++ p ∷ (mid ++ q ∷ qs)
+goes_on seen xs ys mid qs p q front is = is ∙ ap (λ l. l ++ q ∷ qs) front ∙ append_assoc xs (p ∷ mid) (q ∷ qs)
 
 one_cause_by : (op : Op) (c d : Cause) → IsCauseBy op c → IsCauseBy op d → c ≡ d
 one_cause_by (ops.Load site url span how config) c d x y = x ∙ sym y
@@ -38,62 +39,100 @@ one_cause_by (ops.Call name args) c d x y = x ∙ sym y
 one_cause_by (ops.Put owner name value) c d x y = absurd x
 one_cause_by (ops.Say kind span text) c d x y = absurd x
 
-one_answer : (kept run : Run) (c d : Cause) → IsAnswered kept run c → IsAnswered kept run d → c ≡ d
+-- of a kept run that is like this one, where none goes on so
+not_on : (kept : List Run) (run one : Run) (before : List Pair) (pair : Pair) → NoneGoesOn kept run before pair → Contains kept one → IsAlike one run → (rest : List Pair) → one.seen ≢ before ++ pair ∷ rest
+not_on kept run one before pair none among = All-contains (λ (r : Run). IsAlike r run → (rest : List Pair) → r.seen ≢ before ++ pair ∷ rest) kept one none among
+
+-- two that go the furthest stand at one question
+one_answer : (kept : List Run) (run : Run) (c d : Cause) → IsAnswered kept run c → IsAnswered kept run d → c ≡ d
 one_answer kept run c d x y =
-    let f = x.first in
-    let g = y.first in
-    let same : x.op ≡ y.op = one_question f.before g.before x.op y.op f.old_answer g.old_answer f.new_answer g.new_answer f.old_rest g.old_rest f.new_rest g.new_rest (sym f.old_is ∙ g.old_is) (sym f.new_is ∙ g.new_is) f.differ g.differ in
-    let by : IsCauseBy y.op c = subst (λ (o : Op). IsCauseBy o c) same x.by in
-    one_cause_by y.op c d by y.by
+    by (ahead x.first.before y.first.before (x.op, x.first.new_answer) (y.op, y.first.new_answer) x.first.new_rest y.first.new_rest (sym x.first.new_is ∙ y.first.new_is))
+  where
+    by : Ahead x.first.before y.first.before (x.op, x.first.new_answer) (y.op, y.first.new_answer) → c ≡ d
+    by (inl same) =
+        let same_op : x.op ≡ y.op = ap (λ (p : Pair). p.0) same in
+        one_cause_by y.op c d (subst (λ (o : Op). IsCauseBy o c) same_op x.by) y.by
+    by (inr (inl on)) =
+        absurd (not_on kept run y.one x.first.before (x.op, x.first.new_answer) x.furthest y.among y.alike (on.0 ++ (y.op, y.first.old_answer) ∷ y.first.old_rest)
+        (goes_on y.one.seen x.first.before y.first.before on.0 y.first.old_rest (x.op, x.first.new_answer) (y.op, y.first.old_answer) on.1 y.first.old_is))
+    by (inr (inr on)) =
+        absurd (not_on kept run x.one y.first.before (y.op, y.first.new_answer) y.furthest x.among x.alike (on.0 ++ (x.op, x.first.old_answer) ∷ x.first.old_rest)
+        (goes_on x.one.seen y.first.before x.first.before on.0 x.first.old_rest (y.op, y.first.new_answer) (x.op, x.first.old_answer) on.1 x.first.old_is))
 
--- a run differs in its text, in its configuration or in an answer
-abbrev Reason : Run → Run → Cause → Type 0
-Reason kept run c = ((c ≡ Text) × (kept.text ≢ run.text)) ⊎ (((c ≡ Config) × (kept.text ≡ run.text) × (kept.config ≢ run.config)) ⊎ IsAnswered kept run c)
+-- nothing is in an empty list
+none_in : (kept : List Run) (one : Run) → Contains kept one → kept ≡ [] → ⊥
+none_in [] one among e = let lt = among.1 in omega arith
+none_in (x ∷ xs) one among e = cc
 
-reason : (kept run : Run) (c : Cause) → Differs kept run c → Reason kept run c
-reason kept run First h = absurd h
-reason kept run Text h = inl (refl, h)
-reason kept run Config h = inr (inl (refl, h.0, h.1))
-reason kept run Load h = inr (inr h)
-reason kept run Member h = inr (inr h)
-reason kept run Variable h = inr (inr h)
-reason kept run Call h = inr (inr h)
+none_any : (kept : List Run) (run : Run) → Any (λ one. one.text ≡ run.text) kept → kept ≡ [] → ⊥
+none_any kept run some e = none_in kept some.1 (some.0, some.2, some.3) e
 
-one_reason : (kept run : Run) (c d : Cause) → Reason kept run c → Reason kept run d → c ≡ d
+-- of a kept run, where none has the text of this one
+not_text : (kept : List Run) (run one : Run) → All (λ one. one.text ≢ run.text) kept → Contains kept one → one.text ≢ run.text
+not_text kept run one none among = All-contains (λ (r : Run). r.text ≢ run.text) kept one none among
+
+-- of a kept run, where none is like this one
+not_alike : (kept : List Run) (run one : Run) → All (λ one. IsAlike one run → ⊥) kept → Contains kept one → IsAlike one run → ⊥
+not_alike kept run one none among = All-contains (λ (r : Run). IsAlike r run → ⊥) kept one none among
+
+text_any : (kept : List Run) (run : Run) → All (λ one. one.text ≢ run.text) kept → Any (λ one. one.text ≡ run.text) kept → ⊥
+text_any kept run none some = not_text kept run some.1 none (some.0, some.2, some.3) some.4
+
+-- why a run is none of the kept ones
+abbrev Reason : List Run → Run → Cause → Type 0
+Reason kept run c =
+    ((c ≡ First) × (kept ≡ [])) ⊎ (((c ≡ Text) × (kept ≢ []) × All (λ one. one.text ≢ run.text) kept)
+    ⊎ (((c ≡ Config) × Any (λ one. one.text ≡ run.text) kept × All (λ one. IsAlike one run → ⊥) kept) ⊎ IsAnswered kept run c))
+
+reason : (kept : List Run) (run : Run) (c : Cause) → IsCause kept run c → Reason kept run c
+reason kept run First h = inl (refl, h)
+reason kept run Text h = inr (inl (refl, h.0, h.1))
+reason kept run Config h = inr (inr (inl (refl, h.0, h.1)))
+reason kept run Load h = inr (inr (inr h))
+reason kept run Member h = inr (inr (inr h))
+reason kept run Variable h = inr (inr (inr h))
+reason kept run Call h = inr (inr (inr h))
+
+one_reason : (kept : List Run) (run : Run) (c d : Cause) → Reason kept run c → Reason kept run d → c ≡ d
 one_reason kept run c d (inl x) (inl y) = x.0 ∙ sym y.0
-one_reason kept run c d (inl x) (inr (inl y)) = absurd (x.1 y.1)
-one_reason kept run c d (inl x) (inr (inr y)) = absurd (x.1 y.same_text)
-one_reason kept run c d (inr (inl x)) (inl y) = absurd (y.1 x.1)
+one_reason kept run c d (inl x) (inr (inl y)) = absurd (y.1 x.1)
+one_reason kept run c d (inl x) (inr (inr (inl y))) = absurd (none_any kept run y.1 x.1)
+one_reason kept run c d (inl x) (inr (inr (inr y))) = absurd (none_in kept y.one y.among x.1)
+one_reason kept run c d (inr (inl x)) (inl y) = absurd (x.1 y.1)
 one_reason kept run c d (inr (inl x)) (inr (inl y)) = x.0 ∙ sym y.0
-one_reason kept run c d (inr (inl x)) (inr (inr y)) = absurd (x.2 y.same_config)
-one_reason kept run c d (inr (inr x)) (inl y) = absurd (y.1 x.same_text)
-one_reason kept run c d (inr (inr x)) (inr (inl y)) = absurd (y.2 x.same_config)
-one_reason kept run c d (inr (inr x)) (inr (inr y)) = one_answer kept run c d x y
+one_reason kept run c d (inr (inl x)) (inr (inr (inl y))) = absurd (text_any kept run x.2 y.1)
+one_reason kept run c d (inr (inl x)) (inr (inr (inr y))) = absurd (not_text kept run y.one x.2 y.among y.alike.same_text)
+one_reason kept run c d (inr (inr (inl x))) (inl y) = absurd (none_any kept run x.1 y.1)
+one_reason kept run c d (inr (inr (inl x))) (inr (inl y)) = absurd (text_any kept run y.2 x.1)
+one_reason kept run c d (inr (inr (inl x))) (inr (inr (inl y))) = x.0 ∙ sym y.0
+one_reason kept run c d (inr (inr (inl x))) (inr (inr (inr y))) = absurd (not_alike kept run y.one x.2 y.among y.alike)
+one_reason kept run c d (inr (inr (inr x))) (inl y) = absurd (none_in kept x.one x.among y.1)
+one_reason kept run c d (inr (inr (inr x))) (inr (inl y)) = absurd (not_text kept run x.one y.2 x.among x.alike.same_text)
+one_reason kept run c d (inr (inr (inr x))) (inr (inr (inl y))) = absurd (not_alike kept run x.one y.2 x.among x.alike)
+one_reason kept run c d (inr (inr (inr x))) (inr (inr (inr y))) = one_answer kept run c d x y
 
--- the kept run doesn't differ from itself
-no_reason : (kept run : Run) (c : Cause) → kept ≡ run → Reason kept run c → ⊥
-no_reason kept run c same (inl x) = x.1 (ap (λ (r : Run). r.text) same)
-no_reason kept run c same (inr (inl x)) = x.2 (ap (λ (r : Run). r.config) same)
-no_reason kept run c same (inr (inr x)) =
-    let f = x.first in
-    let seen : kept.seen ≡ run.seen = ap (λ (r : Run). r.seen) same in
-    let p : (x.op, f.old_answer) ≡ (x.op, f.new_answer) = cancel f.before (x.op, f.old_answer) (x.op, f.new_answer) f.old_rest f.new_rest (sym f.old_is ∙ seen ∙ f.new_is) in
-    f.differ (ap (λ (q : Pair). q.1) p)
+one_cause : (kept : List Run) (run : Run) (c d : Cause) → IsCause kept run c → IsCause kept run d → c ≡ d
+one_cause kept run c d x y = one_reason kept run c d (reason kept run c x) (reason kept run d y)
 
-one_cause : (kept : Option Run) (run : Run) (c d : Cause) → IsCause kept run c → IsCause kept run d → c ≡ d
-one_cause None run c d x y = x ∙ sym y
-one_cause (Some kept) run c d x y = one_reason kept run c d (reason kept run c x) (reason kept run d y)
+-- a kept run is like itself, and goes on as it does
+itself : (run : Run) → IsAlike run run
+itself run = record { same_text = refl; same_config = refl }
 
-no_cause : (kept : Option Run) (run : Run) (c : Cause) → kept ≡ Some run → IsCause kept run c → ⊥
-no_cause None run c same x = cc
-no_cause (Some kept) run c same x = let one : kept ≡ run = cc in no_reason kept run c one (reason kept run c x)
+no_reason : (kept : List Run) (run : Run) (c : Cause) → Contains kept run → Reason kept run c → ⊥
+no_reason kept run c among (inl x) = none_in kept run among x.1
+no_reason kept run c among (inr (inl x)) = not_text kept run run x.2 among refl
+no_reason kept run c among (inr (inr (inl x))) = not_alike kept run run x.2 among (itself run)
+no_reason kept run c among (inr (inr (inr x))) = not_on kept run run x.first.before (x.op, x.first.new_answer) x.furthest among (itself run) x.first.new_rest x.first.new_is
+
+no_cause : (kept : List Run) (run : Run) (c : Cause) → Contains kept run → IsCause kept run c → ⊥
+no_cause kept run c among x = no_reason kept run c among (reason kept run c x)
 
 pub ran_is_one : RanIsOne
-ran_is_one table [] ran other x y = x ∙ sym y
-ran_is_one table (run ∷ runs) ran other (inl x) (inl y) = ran_is_one table runs ran other x.1 y.1
-ran_is_one table (run ∷ runs) ran other (inl x) (inr y) = absurd (no_cause (kept_at table run.path) run y.0 x.0 y.1)
-ran_is_one table (run ∷ runs) ran other (inr x) (inl y) = absurd (no_cause (kept_at table run.path) run x.0 y.0 x.1)
-ran_is_one table (run ∷ runs) ran other (inr x) (inr y) =
-    let cause : x.0 ≡ y.0 = one_cause (kept_at table run.path) run x.0 y.0 x.1 y.1 in
-    let rest : x.2.0 ≡ y.2.0 = ran_is_one table runs x.2.0 y.2.0 x.2.2 y.2.2 in
+ran_is_one kept [] ran other x y = x ∙ sym y
+ran_is_one kept (run ∷ runs) ran other (inl x) (inl y) = ran_is_one kept runs ran other x.1 y.1
+ran_is_one kept (run ∷ runs) ran other (inl x) (inr y) = absurd (no_cause (kept run.path) run y.0 x.0 y.1)
+ran_is_one kept (run ∷ runs) ran other (inr x) (inl y) = absurd (no_cause (kept run.path) run x.0 y.0 x.1)
+ran_is_one kept (run ∷ runs) ran other (inr x) (inr y) =
+    let cause : x.0 ≡ y.0 = one_cause (kept run.path) run x.0 y.0 x.1 y.1 in
+    let rest : x.2.0 ≡ y.2.0 = ran_is_one kept runs x.2.0 y.2.0 x.2.2 y.2.2 in
     x.2.1 ∙ ap (λ l. (run.path, x.0) ∷ l) rest ∙ ap (λ (c : Cause). (run.path, c) ∷ y.2.0) cause ∙ sym y.2.1

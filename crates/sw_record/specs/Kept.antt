@@ -6,11 +6,22 @@ use Rattle.sw_css_print.specs.Parts.{print_one}
 use Rattle.sw_world.specs.declared.end.End.{End}
 use Rattle.sw_world.specs.declared.end.End.TheVariants.{Done, Fault}
 use Rattle.sw_world.specs.Body.{Run, Job, BodyOf, Ends, answers, Goes}
+use Rattle.sw_record.specs.declared.trace.Trace.{Trace}
 
 -- a run, with the sheet that it ran
 pub record Kept : Type 0 where
   pub sheet : Sheet
   pub run : Run
+
+-- the run of which this is the trace
+abbrev pub kept_of : Trace → Kept
+kept_of trace =
+    record {
+      sheet = trace.sheet;
+      run =
+          record
+          { path = trace.path; text = trace.text; config = trace.config; seen = trace.seen; end = trace.end };
+    }
 
 abbrev pub job_of : Kept → Job
 job_of kept = record { sheet = kept.sheet; config = kept.run.config; path = kept.run.path }

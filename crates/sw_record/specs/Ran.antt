@@ -1,6 +1,6 @@
--- Which bodies a compile runs, and why (this project's own rule): those whose run isn't the kept one.
-use Rattle.std.specs.Prelude.{◌≡◌, ◌≢◌, ◌⊎◌, ℕ, List, [], ◌∷◌, ◌++◌, bytes_eq, Option, None, Some}
-use Rattle.std.specs.Map.{lookup}
+-- Which bodies a compile runs, and why (this project's own rule): those whose run is none of the kept runs of its path.
+use Rattle.std.specs.Prelude.{◌≡◌, ◌≢◌, ◌⊎◌, ℕ, List, [], ◌∷◌, ◌++◌}
+use Rattle.std.specs.List.{All, Any, Contains}
 use Rattle.sw_world.specs.declared.op.Op.{Op}
 use Rattle.sw_world.specs.declared.op.Op.TheVariants as ops
 use Rattle.sw_world.specs.declared.answer.Answer.{Answer}
@@ -8,12 +8,13 @@ use Rattle.sw_world.specs.Body.{Pair, Run}
 use Rattle.sw_record.specs.declared.reply.Cause.{Cause}
 use Rattle.sw_record.specs.declared.reply.Cause.TheVariants.{First, Text, Config, Load, Member, Variable, Call}
 
--- the latest runs that ended well, by the paths of their modules
-abbrev pub Table : Type 0
-Table = List (List ℕ × Run)
+-- the kept runs of the module at a path
+abbrev pub KeptRuns : Type 0
+KeptRuns = List ℕ → List Run
 
-abbrev pub kept_at : Table → List ℕ → Option Run
-kept_at table path = lookup (bytes_eq path) table
+-- of no module a run is kept
+abbrev pub none_kept : KeptRuns
+none_kept path = []
 
 -- the cause that such a question stands for; an assignment and a message have one answer alone
 abbrev pub IsCauseBy : Op → Cause → Type 0
@@ -23,6 +24,11 @@ IsCauseBy (ops.Get owner name) cause = cause ≡ Variable
 IsCauseBy (ops.Call name args) cause = cause ≡ Call
 IsCauseBy (ops.Put owner name value) cause = ⊥
 IsCauseBy (ops.Say kind span text) cause = ⊥
+
+-- two runs are of the same text and the same configuration
+pub record IsAlike (one other : Run) : Type 0 where
+  pub same_text : one.text ≡ other.text
+  pub same_config : one.config ≡ other.config
 
 -- the pairs are the same up to a question that has another answer
 pub record FirstDiffer (old new : List Pair) (op : Op) : Type 0 where
@@ -35,38 +41,42 @@ pub record FirstDiffer (old new : List Pair) (op : Op) : Type 0 where
   pub new_is : new ≡ before ++ (op, new_answer) ∷ new_rest
   pub differ : old_answer ≢ new_answer
 
--- a question of the kept run has another answer in this one
-pub record IsAnswered (kept run : Run) (cause : Cause) : Type 0 where
-  pub same_text : kept.text ≡ run.text
-  pub same_config : kept.config ≡ run.config
+-- no kept run that is like this one begins with these pairs and then this pair
+abbrev pub NoneGoesOn : List Run → Run → List Pair → Pair → Type 0
+NoneGoesOn kept run before pair =
+    All (λ one. IsAlike one run → (rest : List Pair) → one.seen ≢ before ++ pair ∷ rest) kept
+
+-- of the kept runs that are like this one, one has the same pairs the furthest, up to a question that has another answer
+pub record IsAnswered (kept : List Run) (run : Run) (cause : Cause) : Type 0 where
+  pub one : Run
+  pub among : Contains kept one
+  pub alike : IsAlike one run
   pub op : Op
-  pub first : FirstDiffer kept.seen run.seen op
+  pub first : FirstDiffer one.seen run.seen op
+  pub furthest : NoneGoesOn kept run first.before (op, first.new_answer)
   pub by : IsCauseBy op cause
 
--- why a run differs from the kept one
-abbrev pub Differs : Run → Run → Cause → Type 0
-Differs kept run First = ⊥
-Differs kept run Text = kept.text ≢ run.text
-Differs kept run Config = (kept.text ≡ run.text) × (kept.config ≢ run.config)
-Differs kept run Load = IsAnswered kept run Load
-Differs kept run Member = IsAnswered kept run Member
-Differs kept run Variable = IsAnswered kept run Variable
-Differs kept run Call = IsAnswered kept run Call
+-- why a run is none of the kept ones: none is kept, none has its text, of those that have its text none has its
+-- configuration, or the first question that is answered otherwise than in the kept run that goes with it the furthest
+abbrev pub IsCause : List Run → Run → Cause → Type 0
+IsCause kept run First = kept ≡ []
+IsCause kept run Text = (kept ≢ []) × All (λ one. one.text ≢ run.text) kept
+IsCause kept run Config = Any (λ one. one.text ≡ run.text) kept × All (λ one. IsAlike one run → ⊥) kept
+IsCause kept run Load = IsAnswered kept run Load
+IsCause kept run Member = IsAnswered kept run Member
+IsCause kept run Variable = IsAnswered kept run Variable
+IsCause kept run Call = IsAnswered kept run Call
 
-abbrev pub IsCause : Option Run → Run → Cause → Type 0
-IsCause None run cause = cause ≡ First
-IsCause (Some kept) run cause = Differs kept run cause
-
--- of the runs in order, those that aren't the kept ones ran, each for its cause
-abbrev pub Ran : Table → List Run → List (List ℕ × Cause) → Type 0
-Ran table [] ran = ran ≡ []
-Ran table (run ∷ runs) ran =
-    ((kept_at table run.path ≡ Some run) × Ran table runs ran)
-    ⊎ ((cause : Cause) × IsCause (kept_at table run.path) run cause
-    × ((rest : List (List ℕ × Cause)) × (ran ≡ (run.path, cause) ∷ rest) × Ran table runs rest))
+-- of the runs in order, those that are none of the kept ones ran, each for its cause
+abbrev pub Ran : KeptRuns → List Run → List (List ℕ × Cause) → Type 0
+Ran kept [] ran = ran ≡ []
+Ran kept (run ∷ runs) ran =
+    (Contains (kept run.path) run × Ran kept runs ran)
+    ⊎ ((cause : Cause) × IsCause (kept run.path) run cause
+    × ((rest : List (List ℕ × Cause)) × (ran ≡ (run.path, cause) ∷ rest) × Ran kept runs rest))
 
 -- so the kept runs and the runs of a compile give which bodies ran and why
 abbrev pub RanIsOne : Type 0
 RanIsOne =
-    (table : Table) (runs : List Run) (ran other : List (List ℕ × Cause)) → Ran table runs ran → Ran table runs other
+    (kept : KeptRuns) (runs : List Run) (ran other : List (List ℕ × Cause)) → Ran kept runs ran → Ran kept runs other
     → ran ≡ other

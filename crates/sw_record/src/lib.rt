@@ -6,8 +6,10 @@ mod again;
 mod laws;
 mod reply;
 mod run;
+mod trace;
 
 pub use again::{Replayed, replay};
 pub use laws::ran_is_one;
 pub use reply::{Cause, Outcome, Reply};
 pub use run::Run;
+pub use trace::Trace;

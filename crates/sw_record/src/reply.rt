@@ -7,11 +7,11 @@ use sw_world::Saying;
 pub enum Cause {
     /// No run of its module is kept.
     First,
-    /// Its text is another than that of the kept run.
+    /// None that is kept has its text.
     Text,
-    /// Its configuration is another.
+    /// None that is kept and has its text has its configuration.
     Config,
-    /// The first question of the kept run that is answered otherwise is a load.
+    /// The first question that is answered otherwise than in the kept run that goes with it the furthest is a load.
     Load,
     /// It is what a name means.
     Member,

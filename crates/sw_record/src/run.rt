@@ -2,25 +2,21 @@
 ghost use Rattle.std.specs.Prelude.{◌≡◌, [], IfOk};
 ghost use Rattle.std.specs.Option.{option_copied};
 ghost use Rattle.sw_world.specs.Body.{Goes, Ends, answers};
-ghost use Rattle.sw_record.specs.Kept.{IsKept, printed_of};
+ghost use Rattle.sw_record.specs.Kept.{IsKept, kept_of, job_of, printed_of};
 
+use crate::Trace;
 use std::alloc::Global;
 use std::marker::{Model, PhantomData};
 use sw_css_print::{Printed, print_one};
 use sw_syntax_tree::Sheet;
-use sw_text::{List, Memory, Name, Shared};
+use sw_text::{Memory, Name, Shared};
 use sw_world::{Answer, Config, End, Engine, Op};
 
 /// A body that ran from its start to its end, with the sheet that it ran. Its questions and its end are those of the
 /// engine's body; where it ended well, its output is kept as it is printed.
 #[derive(Drop)]
 pub struct Run<E: Engine> {
-    path: Name,
-    text: Name,
-    sheet: Shared<Sheet>,
-    config: Config,
-    seen: Shared<List<(Op, Answer)>>,
-    end: End,
+    trace: Trace,
     printed: Option<Shared<Printed>>,
     of: PhantomData<E>,
 }
@@ -31,54 +27,27 @@ impl<E: Engine> Model for Run<E> {
     ghost use Rattle.sw_syntax_tree.specs.contracts.statement.Statement as statement;
     ghost use Rattle.sw_values.specs.contracts.plain.Plain as plain;
     ghost use Rattle.std.specs.Prelude.{◌≡◌};
-    ghost use Rattle.sw_record.specs.Kept.{Kept, IsKept, printed_of};
+    ghost use Rattle.sw_record.specs.Kept.{Kept, IsKept, kept_of, printed_of};
 
     ghost Value = { Kept };
 
     ghost coded = { Prim.hlevel (codes, expr.the_row.coded, statement.the_row.coded, plain.the_row.coded) };
 
-    ghost view = { λ run. record {
-      sheet = run.sheet;
-      run =
-          record { path = run.path; text = run.text; config = run.config; seen = run.seen; end = run.end };
-    } };
+    ghost view = { λ run. kept_of run.trace };
 
-    ghost invariant = { λ run. IsKept E.body (record {
-      sheet = run.sheet;
-      run =
-          record { path = run.path; text = run.text; config = run.config; seen = run.seen; end = run.end };
-    })
-        × (run.printed ≡ printed_of run.end) };
+    ghost invariant = { λ run. IsKept E.body (kept_of run.trace) × (run.printed ≡ printed_of run.trace.end) };
 }
 
 impl<E: Engine> Run<E> {
-    /// The run of a body that went through these questions and ended so. Prints its output.
-    pub fn new(
-        alloc: Global,
-        path: Name,
-        text: Name,
-        sheet: Shared<Sheet>,
-        config: Config,
-        seen: Shared<List<(Op, Answer)>>,
-        end: End,
-    ) -> Result<Run<E>, Memory>
-        requires goes { Goes (E.body (record { sheet = sheet; config = config; path = path })) [] seen }
-        requires ends { E.body (record { sheet = sheet; config = config; path = path }) (answers seen) ≡ Ends end }
-        ensures { IfOk result (λ run. run
-            ≡ record {
-              sheet = sheet;
-              run =
-                  record { path = path; text = text; config = config; seen = seen; end = end };
-            }) }
+    /// The run of a body that left this trace. Prints its output.
+    pub fn new(alloc: Global, trace: Trace) -> Result<Run<E>, Memory>
+        requires goes { Goes (E.body (job_of (kept_of trace))) [] trace.seen }
+        requires ends { E.body (job_of (kept_of trace)) (answers trace.seen) ≡ Ends trace.end }
+        ensures { IfOk result (λ run. run ≡ kept_of trace) }
     {
-        let printed = printed_of(alloc, &end)?;
+        let printed = printed_of(alloc, &trace.end)?;
         Ok(Run {
-            path,
-            text,
-            sheet,
-            config,
-            seen,
-            end,
+            trace,
             printed,
             of: PhantomData,
         })
@@ -87,26 +56,26 @@ impl<E: Engine> Run<E> {
     pub fn path(&self) -> &Name
         ensures { result.now ≡ self.now.run.path }
     {
-        &self.path
+        &self.trace.path
     }
 
     /// The text that the body ran.
     pub fn text(&self) -> &Name
         ensures { result.now ≡ self.now.run.text }
     {
-        &self.text
+        &self.trace.text
     }
 
     pub fn sheet(&self) -> &Shared<Sheet>
         ensures { result.now ≡ self.now.sheet }
     {
-        &self.sheet
+        &self.trace.sheet
     }
 
     pub fn config(&self) -> &Config
         ensures { result.now ≡ self.now.run.config }
     {
-        &self.config
+        &self.trace.config
     }
 
     /// The questions with their answers, in order.
@@ -114,14 +83,14 @@ impl<E: Engine> Run<E> {
         ensures seen { result.now ≡ self.now.run.seen }
         ensures is_kept { IsKept E.body self.now }
     {
-        self.seen.get().as_slice()
+        self.trace.seen.get().as_slice()
     }
 
     pub fn end(&self) -> &End
         ensures end { result.now ≡ self.now.run.end }
         ensures is_kept { IsKept E.body self.now }
     {
-        &self.end
+        &self.trace.end
     }
 
     /// Its output as it is printed: none exactly where it ended with a fault.
@@ -136,12 +105,7 @@ impl<E: Engine> Run<E> {
         ensures { IfOk result (λ run. run ≡ self.now) }
     {
         Ok(Run {
-            path: self.path.share()?,
-            text: self.text.share()?,
-            sheet: self.sheet.share()?,
-            config: self.config.share()?,
-            seen: self.seen.share()?,
-            end: self.end.share()?,
+            trace: self.trace.share()?,
             printed: share_printed(&self.printed)?,
             of: PhantomData,
         })
