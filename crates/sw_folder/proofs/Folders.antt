@@ -1,12 +1,13 @@
 -- That an edit which isn't refused leaves a folder a folder.
-use Rattle.std.proofs.Common.{◌≡◌, ℕ, ◌+◌, ◌-◌, ◌<◌, ◌≤◌, Bool, true, false, not, ◌&&◌, cond, List, [], length, Option, None, Some, IfSome, Bor, refl, sym, ap, subst, ◌∙◌, ◌⊎◌, inl, inr, arith, nat_lt, nat_le, if◌then◌else◌, IsTrue}
+use Rattle.std.proofs.Common.{◌≡◌, ℕ, ◌+◌, ◌-◌, ◌<◌, ◌≤◌, Bool, true, false, not, ◌&&◌, cond, List, [], length, None, Some, refl, sym, ap, subst, ◌∙◌, ◌⊎◌, inl, inr, arith, nat_lt, nat_le, if◌then◌else◌, IsTrue}
 use Rattle.std.proofs.lemmas.Bool.{ltb-false, leb-false, lt-ltb}
-use Rattle.std.specs.Option.{option_copied}
 use Rattle.std.specs.Str.{is_utf8, bytes_eq}
 use Rattle.std.specs.Ordering.{is_eq, nat_cmp}
 use Rattle.std.specs.Cmp.Lexicographic.{slice_cmp, nat_list_cmp_total}
 use Rattle.std.specs.FinMap.{get, contains_key, insert, remove, len, get-empty, get-insert, get-remove, len-empty, len-insert, len-remove}
+use Rattle.sw_folder.specs.declared.folder.Marks.{Marks}
 use Rattle.sw_folder.specs.Table.{files_of, IsTable}
+use Rattle.sw_folder.proofs.Marks.{Tells-empty}
 use Rattle.std.proofs.lemmas.Map.Text.{is_eq-slice_cmp}
 use Rattle.std.proofs.lemmas.Slice.Eq.{bytes_eq-Decides}
 use Rattle.sw_folder.specs.declared.edit.EditFault.{EditFault}
@@ -82,17 +83,8 @@ IsFolder-remove files path old = record {
   short = λ q found e. old.short q found (removed files path q found e);
 }
 
--- what `text` finds
-pub short-found : (files : Files) (path : List ℕ) (found : Option (Bor (List ℕ))) → option_copied found ≡ get files path → IsFolder files → IfSome found (λ text. length text.now ≤ most_bytes)
-short-found files path None e folder = tt
-short-found files path (Some text) e folder = folder.short path text.now (sym e)
-
-pub path-found : (files : Files) (path : List ℕ) (found : Option (Bor (List ℕ))) → option_copied found ≡ get files path → IsFolder files → IfSome found (λ _. IsTrue (is_path path))
-path-found files path None e folder = tt
-path-found files path (Some text) e folder = folder.paths path text.now (sym e)
-
-pub IsTable-empty : IsTable []
-IsTable-empty = record { one_each = sym none; folder = record { few = few; paths = λ q found e. nothing q found e; short = λ q found e. nothing q found e } }
+pub IsTable-empty : (marks : Marks) → IsTable marks []
+IsTable-empty marks = record { one_each = sym none; named = λ q file e. cc; tells = Tells-empty marks; folder = record { few = few; paths = λ q found e. nothing q found e; short = λ q found e. nothing q found e } }
   where
     none : len (files_of []) ≡ 0
     none = len-empty (slice_cmp nat_cmp) (List ℕ)

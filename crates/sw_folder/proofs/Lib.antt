@@ -1,5 +1,6 @@
 pub mod Segments
 pub mod Walks
 pub mod Tables
+pub mod Marks
 pub mod Folders
 pub mod Choices

@@ -5,6 +5,9 @@ use Rattle.std.specs.List.{list_all, slice_split}
 abbrev pub is_slash : ℕ → Bool
 is_slash byte = byte == 47
 
+abbrev pub is_underscore : ℕ → Bool
+is_underscore byte = byte == 95
+
 -- the parts of a text between its slashes
 abbrev pub segments : List ℕ → List (List ℕ)
 segments text = slice_split is_slash text

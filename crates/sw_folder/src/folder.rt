@@ -1,28 +1,47 @@
 // The table of files, and the edits.
-ghost use Rattle.std.specs.Prelude.{◌≡◌, ◌≤◌, not, ◌&&◌, nat_le, true, false, Ok, None, Some, IsTrue, length, IfOk, IfErr, IfSome, OnOk, OnErr, MatchResult};
+ghost use Rattle.std.specs.Prelude.{◌≡◌, ◌≤◌, ℕ, List, codes, nat_eq, not, ◌&&◌, nat_le, true, false, Ok, None, Some, IsTrue, length, if◌then◌else◌, IfOk, IfErr, IfSome, OnOk, OnErr, MatchResult};
 ghost use Rattle.std.specs.Bool.{OnFalse};
+ghost use Rattle.std.specs.List.{ends_with, list_any};
 ghost use Rattle.std.specs.Option.{option_copied};
 ghost use Rattle.std.specs.Str.{is_utf8};
 ghost use Rattle.std.specs.FinMap as files;
 ghost use Rattle.sw_folder.specs.Edits.{after_put, after_removal, put_fault, IsFaultOf};
 ghost use Rattle.sw_folder.specs.Files.{IsFolder, most_bytes, most_files};
-ghost use Rattle.sw_folder.specs.Paths.{is_path};
+ghost use Rattle.sw_folder.specs.Paths.{is_path, is_underscore};
+ghost use Rattle.sw_folder.specs.Table.{marked};
 
 use crate::edit::{EditFault, unread_fault};
-use crate::path::is_path;
+use crate::path::{ends_with, has_underscore, is_path};
 use indexmap::IndexMap;
 use std::alloc::Global;
 use std::marker::Model;
 use std::rc::RcStr;
 use std::str;
-use sw_text::Name;
+use sw_text::{Memory, Name};
 
 const MOST_FILES: usize = 4_096;
+
+/// A file: its path, shared with whom it is resolved for, and its text.
+#[derive(Drop)]
+struct File {
+    path: Name,
+    text: Name,
+}
+
+/// What a path of the folder may have: false only where none has it, and then it isn't looked for.
+#[derive(Clone, Copy, Drop)]
+struct Marks {
+    /// It ends in `.sass`.
+    indented: bool,
+    /// It has an `_`, as that of a partial.
+    underscored: bool,
+}
 
 /// The files of a folder, each a text in UTF-8 under its path, which contracts see in byte order of the paths.
 #[derive(Drop)]
 pub struct Folder {
-    table: IndexMap<RcStr, Name>,
+    table: IndexMap<RcStr, File>,
+    marks: Marks,
     alloc: Global,
 }
 
@@ -37,7 +56,7 @@ impl Model for Folder {
 
     ghost view = { λ folder. files_of folder.table.entries };
 
-    ghost invariant = { λ folder. IsTable folder.table.entries };
+    ghost invariant = { λ folder. IsTable folder.marks folder.table.entries };
 }
 
 impl Folder {
@@ -47,6 +66,10 @@ impl Folder {
     {
         Folder {
             table: IndexMap::new(alloc),
+            marks: Marks {
+                indented: false,
+                underscored: false,
+            },
             alloc,
         }
     }
@@ -87,7 +110,10 @@ impl Folder {
         ensures short { IfSome result (λ text. length text.now ≤ most_bytes) }
         ensures path { IfSome result (λ _. IsTrue (is_path path.now)) }
     {
-        self.table.get(path)
+        match self.table.get(path) {
+            Some(file) => Some(&file.text),
+            None => None,
+        }
     }
 
     /// What every folder keeps: at most 4,096 files, each under a path, with at most 1,048,576 bytes.
@@ -102,6 +128,33 @@ impl Folder {
         ensures { result ≡ files.contains_key self.now path.now }
     {
         self.table.contains_key(path)
+    }
+
+    /// The path of the file with this path, where there is one.
+    pub(crate) fn path(&self, path: &str) -> Option<&Name>
+        ensures { option_copied result
+            ≡ (if files.contains_key self.now path.now then Some path.now else None) }
+    {
+        match self.table.get(path) {
+            Some(file) => Some(&file.path),
+            None => None,
+        }
+    }
+
+    /// Whether a path may end in `.sass`.
+    pub(crate) fn may_be_indented(&self) -> bool
+        ensures { OnFalse result ((path : List ℕ) → ends_with nat_eq path (codes ".sass") ≡ true
+            → files.contains_key self.now path ≡ false) }
+    {
+        self.marks.indented
+    }
+
+    /// Whether a path may have an `_`.
+    pub(crate) fn may_be_partial(&self) -> bool
+        ensures { OnFalse result ((path : List ℕ) → list_any is_underscore path ≡ true
+            → files.contains_key self.now path ≡ false) }
+    {
+        self.marks.underscored
     }
 
     pub(crate) fn allocator(&self) -> Global {
@@ -150,11 +203,35 @@ impl Folder {
         ensures err { IfErr result (λ fault. fault ≡ EditFault.Memory) }
         ensures unchanged { OnErr result (self.new ≡ self.old) }
     {
+        let marks = self.marks.with(path);
         let key = RcStr::from_str(self.alloc, path)?;
-        let text = Name::new(self.alloc, text)?;
-        self.table.insert(key, text)?;
+        let file = file_of(self.alloc, path, text)?;
+        self.table.insert(key, file)?;
+        self.marks = marks;
         Ok(())
     }
+}
+
+impl Marks {
+    /// What one more path may have too.
+    fn with(self, path: &str) -> Marks
+        ensures { result ≡ marked path.now self }
+    {
+        Marks {
+            indented: self.indented || ends_with(path, ".sass"),
+            underscored: self.underscored || has_underscore(path),
+        }
+    }
+}
+
+fn file_of(alloc: Global, path: &str, text: &str) -> Result<File, Memory>
+    ensures path { IfOk result (λ file. file.path ≡ path.now) }
+    ensures text { IfOk result (λ file. file.text ≡ text.now) }
+{
+    Ok(File {
+        path: Name::new(alloc, path)?,
+        text: Name::new(alloc, text)?,
+    })
 }
 
 fn text_of(bytes: &[u8]) -> Result<&str, EditFault>

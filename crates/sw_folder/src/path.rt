@@ -1,8 +1,8 @@
 // What a path is, and the segments of a text.
-ghost use Rattle.std.specs.Prelude.{◌≡◌, ◌∷◌, ◌<◌, length, IfSome};
-ghost use Rattle.std.specs.List.{list_all};
+ghost use Rattle.std.specs.Prelude.{◌≡◌, ◌∷◌, ◌<◌, length, nat_eq, IfSome};
+ghost use Rattle.std.specs.List.{ends_with, list_all, list_any};
 ghost use Rattle.std.specs.Option.{option_copied};
-ghost use Rattle.sw_folder.specs.Paths.{segments, rest_segments, is_dot, is_dot_dot, is_path_byte, is_segment, is_path};
+ghost use Rattle.sw_folder.specs.Paths.{segments, rest_segments, is_dot, is_dot_dot, is_path_byte, is_segment, is_path, is_underscore};
 
 const MOST_PATH: usize = 255;
 
@@ -73,4 +73,22 @@ fn is_path_byte(byte: u8) -> bool
         || byte == b'.'
         || byte == b'_'
         || byte == b'-'
+}
+
+pub(crate) fn has_underscore(text: &str) -> bool
+    ensures { result ≡ list_any is_underscore text.now }
+{
+    text.bytes().any(is_underscore)
+}
+
+fn is_underscore(byte: u8) -> bool
+    ensures { result ≡ is_underscore byte }
+{
+    byte == b'_'
+}
+
+pub(crate) fn ends_with(name: &str, ending: &str) -> bool
+    ensures { result ≡ ends_with nat_eq name.now ending.now }
+{
+    name.ends_with(ending)
 }

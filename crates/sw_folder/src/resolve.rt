@@ -5,7 +5,7 @@ ghost use Rattle.sw_folder.specs.Paths.{segments};
 ghost use Rattle.sw_folder.specs.Resolution.{IsResolution, bases, both, both_choices, choice, first_choice, folder_text, groups, groups_at, groups_from, has_extension, name_groups, or_not_found, present, resolved, sheets, step, up, walk};
 
 use crate::folder::Folder;
-use crate::path::{first_segment, is_dot, is_dot_dot};
+use crate::path::{ends_with, first_segment, is_dot, is_dot_dot};
 use smallvec::SmallVec;
 use std::alloc::{AllocError, AllocFailed};
 use sw_text::{Memory, Name};
@@ -54,6 +54,9 @@ impl From<Memory> for ResolveFault {
         ResolveFault::Memory
     }
 }
+
+/// Room for most paths.
+const PATH_ROOM: usize = 64;
 
 /// The segments of a place in the folder; few paths have more than sixteen.
 type Place<'a> = SmallVec<&'a str, 16>;
@@ -156,7 +159,7 @@ impl Folder {
     fn named(&self, mut folder: String, name: &str) -> Result<Option<Name>, ResolveFault>
         ensures { IsResolution result (first_choice self.now (groups (string_bytes folder) name.now)) }
     {
-        let mut path = String::new(self.allocator());
+        let mut path = String::with_capacity(self.allocator(), PATH_ROOM)?;
         if has_extension(name) {
             return self.both(&mut path, folder.as_str(), name, "");
         }
@@ -194,9 +197,25 @@ impl Folder {
     ) -> Result<Option<Name>, ResolveFault>
         ensures { IsResolution result (choice (present self.now (sheets folder.now name.now))) }
     {
-        let sass = self.both(path, folder, name, ".sass")?;
+        let sass = self.indented(path, folder, name)?;
         let scss = self.both(path, folder, name, ".scss")?;
         one_of(sass, scss)
+    }
+
+    // Those in the indented syntax, if a path may be one of it.
+    fn indented(
+        &self,
+        path: &mut String,
+        folder: &str,
+        name: &str,
+    ) -> Result<Option<Name>, ResolveFault>
+        ensures { IsResolution result (choice (present self.now (both folder.now name.now (codes ".sass")))) }
+    {
+        if self.may_be_indented() {
+            self.both(path, folder, name, ".sass")
+        } else {
+            Ok(None)
+        }
     }
 
     fn both(
@@ -209,8 +228,26 @@ impl Folder {
         ensures { IsResolution result (choice (present self.now (both folder.now name.now ending.now))) }
     {
         let plain = self.candidate(path, folder, "", name, ending)?;
-        let partial = self.candidate(path, folder, "_", name, ending)?;
+        let partial = self.partial(path, folder, name, ending)?;
         one_of(plain, partial)
+    }
+
+    // The partial, if a path may be one.
+    fn partial(
+        &self,
+        path: &mut String,
+        folder: &str,
+        name: &str,
+        ending: &str,
+    ) -> Result<Option<Name>, ResolveFault>
+        ensures { IsResolution result (choice
+            (present self.now ((folder.now ++ (codes "_" ++ (name.now ++ ending.now))) ∷ []))) }
+    {
+        if self.may_be_partial() {
+            self.candidate(path, folder, "_", name, ending)
+        } else {
+            Ok(None)
+        }
     }
 
     fn candidate(
@@ -229,10 +266,9 @@ impl Folder {
         path.push_str(mark)?;
         path.push_str(name)?;
         path.push_str(ending)?;
-        if self.holds(path.as_str()) {
-            Ok(Some(Name::new(self.allocator(), path.as_str())?))
-        } else {
-            Ok(None)
+        match self.path(path.as_str()) {
+            Some(found) => Ok(Some(found.share()?)),
+            None => Ok(None),
         }
     }
 }
@@ -262,12 +298,6 @@ pub fn has_extension(name: &str) -> bool
     ensures { result ≡ has_extension name.now }
 {
     ends_with(name, ".sass") || (ends_with(name, ".scss") || ends_with(name, ".css"))
-}
-
-fn ends_with(name: &str, ending: &str) -> bool
-    ensures { result ≡ ends_with nat_eq name.now ending.now }
-{
-    name.ends_with(ending)
 }
 
 /// Goes on from a place by the segments of a text. False where that leaves the folder, and then the place isn't used

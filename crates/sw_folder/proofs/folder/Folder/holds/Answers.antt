@@ -1,7 +1,7 @@
-use Rattle.std.proofs.Common.{is_some, sym, ap, ◌∙◌}
+use Rattle.std.proofs.Common.{sym, ap, ◌∙◌}
 use Rattle.std.specs.FinMap.{contains_key}
-use Rattle.sw_folder.proofs.Tables.{get-files_of}
+use Rattle.sw_folder.proofs.Tables.{is_there}
 use Rattle.sw_folder.proofs.folder.Folder.holds.Goals as goal
 
 pub returns : goal.returns
-returns c = c.contains_key.ensures ∙ ap is_some (sym (get-files_of c.args.path.now c.self.inside.table.entries)) ∙ ap (λ f. contains_key f c.args.path.now) c.self.view_is
+returns c = c.contains_key.ensures ∙ sym (is_there c.args.path.now c.self.inside.table.entries) ∙ ap (λ f. contains_key f c.args.path.now) c.self.view_is

@@ -1,18 +1,18 @@
-use Rattle.std.proofs.Common.{sym, ap, subst, ◌∙◌}
+use Rattle.std.proofs.Common.{sym, ap, ◌∙◌}
 use Rattle.std.specs.FinMap.{get}
-use Rattle.sw_folder.specs.Files.{IsFolder}
-use Rattle.sw_folder.proofs.Tables.{get-files_of}
-use Rattle.sw_folder.proofs.Folders.{short-found, path-found}
+use Rattle.sw_folder.proofs.Tables.{get-files_of, text_in}
 use Rattle.sw_folder.proofs.folder.Folder.text.Goals as goal
 
-value : goal.returns-clause-value
-value c = c.get.ensures.value ∙ sym (get-files_of c.args.path.now c.self.inside.table.entries) ∙ ap (λ f. get f c.args.path.now) c.self.view_is
+pub returns-in-Some-clause-value : goal.returns-in-Some-clause-value
+returns-in-Some-clause-value c = ap text_in c.in-Some.ensures.value ∙ sym (get-files_of c.args.path.now c.self.inside.table.entries) ∙ ap (λ f. get f c.args.path.now) c.self.view_is
 
-pub returns-clause-value : goal.returns-clause-value
-returns-clause-value c = value c
+pub returns-in-Some-clause-short : goal.returns-in-Some-clause-short
+returns-in-Some-clause-short c =
+    c.self.invariant.folder.short c.args.path.now c.in-Some.file.now.text (get-files_of c.args.path.now c.self.inside.table.entries ∙ ap text_in (sym c.in-Some.ensures.value))
 
-pub returns-clause-short : goal.returns-clause-short
-returns-clause-short c = short-found c.args.self.now c.args.path.now c.get.result (value c) (subst IsFolder c.self.view_is c.self.invariant.folder)
+pub returns-in-Some-clause-path : goal.returns-in-Some-clause-path
+returns-in-Some-clause-path c =
+    c.self.invariant.folder.paths c.args.path.now c.in-Some.file.now.text (get-files_of c.args.path.now c.self.inside.table.entries ∙ ap text_in (sym c.in-Some.ensures.value))
 
-pub returns-clause-path : goal.returns-clause-path
-returns-clause-path c = path-found c.args.self.now c.args.path.now c.get.result (value c) (subst IsFolder c.self.view_is c.self.invariant.folder)
+pub returns-in-None-clause-value : goal.returns-in-None-clause-value
+returns-in-None-clause-value c = ap text_in c.in-None.ensures.value ∙ sym (get-files_of c.args.path.now c.self.inside.table.entries) ∙ ap (λ f. get f c.args.path.now) c.self.view_is

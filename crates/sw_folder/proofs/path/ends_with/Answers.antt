@@ -1,5 +1,5 @@
 use Rattle.std.proofs.lemmas.Str.Pattern.{ends_text}
-use Rattle.sw_folder.proofs.resolve.ends_with.Goals as goal
+use Rattle.sw_folder.proofs.path.ends_with.Goals as goal
 
 pub returns : goal.returns
 returns c = ends_text c.ends_with.result c.args.ending.now c.args.name.now c.ends_with.ensures.cases
