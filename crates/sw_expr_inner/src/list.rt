@@ -62,8 +62,12 @@ fn list_of(
     ensures { IfOk result (λ value. listed (span_between source.now at place) (ends_with_comma source.now place) (first
         ∷ rest) ≡ Values value ∷ []) }
 {
+    let comma = ends_with_comma(source, place);
+    if rest.is_empty() && !comma {
+        return Ok(first);
+    }
     match span_between(source, at, place) {
-        Ok(span) => listed(first, rest, ends_with_comma(source, place), span),
+        Ok(span) => listed(first, rest, comma, span),
         Err(error) => Err(given_up((first, rest), error)),
     }
 }

@@ -144,6 +144,9 @@ pub fn joined(first: Option<Inserted>, rest: List<Inserted>) -> Result<List<Inse
 pub fn appended(list: List<Inserted>, items: List<Inserted>) -> Result<List<Inserted>, Memory>
     ensures { IfOk result (λ whole. map insert_of whole ≡ map insert_of list ++ map insert_of items) }
 {
+    if items.is_empty() {
+        return Ok(list);
+    }
     let mut whole = list.into_vec();
     let mut items = items.into_vec();
     whole.append(&mut items)?;

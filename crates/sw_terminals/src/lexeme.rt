@@ -6,6 +6,8 @@ use sw_text::Pos;
 #[derive(Clone, Copy, Debug)]
 pub struct Lexeme {
     pub terminal: Terminal,
+    /// A comment that is white space stands between it and the lexeme before.
+    pub commented: bool,
     /// The offset of its first byte.
     pub from: u32,
     /// The offset behind its last byte.
@@ -16,6 +18,4 @@ pub struct Lexeme {
     pub end: Pos,
     /// The place of its token in the sheet's tokens.
     pub token: usize,
-    /// A comment that is white space stands between it and the lexeme before.
-    pub commented: bool,
 }
