@@ -28,11 +28,11 @@ use Rattle.sw_record.specs.declared.again.Replayed.{Replayed}
 use Rattle.sw_record.specs.declared.again.Replayed.TheVariants as again
 use Rattle.sw_record.specs.declared.reply.Reply.{Reply}
 use Rattle.sw_record.specs.Kept.{Kept, IsKept, job_of}
-use Rattle.sw_record.specs.Ran.{Table, Ran}
+use Rattle.sw_record.specs.Ran.{Ran}
 use Rattle.sw_record.specs.Replay.{AskedAgain}
 use Rattle.sw_keeper.specs.declared.departure.Departure.{Departure}
 use Rattle.sw_keeper.specs.Compile.{Compile, compiled, compile_by, from_entry, paths_of, CompilesTo, BreaksOff}
-use Rattle.sw_keeper.specs.Keeping.{Keeping, table_of, kept_after}
+use Rattle.sw_keeper.specs.Keeping.{Table, Keeping, kept_in, table_of, kept_after}
 use Rattle.sw_keeper.specs.Steps.{Moment, Grown, Advances, DidRespond, DidEvaluate, WentOn, Turned, RunsOn, IsSame, ran_at}
 use Rattle.sw_keeper.specs.Cuts.{RanMore, CutOff}
 use Rattle.sw_keeper.specs.Replays.{AskedTo, ReplaysOn, DidReplay, behind}
@@ -290,7 +290,7 @@ compiles_to c entry table reply runs old new hosts told told_now did is kept fol
     record {
       says = did.says;
       outcome = did.outcome;
-      ran = subst (λ (t : Table). Ran t c.runs reply.ran) is did.ran;
+      ran = subst (λ (t : Table). Ran (kept_in t) c.runs reply.ran) is did.ran;
       told = did.told;
       hosts = did.same_hosts;
       kept = kept ∙ ap (kept_after old.kept entry) did.same_runs;

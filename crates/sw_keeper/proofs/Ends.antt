@@ -1,5 +1,6 @@
 -- Evaluations that begin with a kept run.
 use Rattle.std.proofs.Common.{◌≡◌, ℕ, suc, List, [], ◌∷◌, ◌++◌, length, take, drop, Option, Some, None, Ok, refl, sym, ◌∙◌, ap, subst, append_assoc, append-nil, inl}
+use Rattle.std.specs.List.{Contains}
 use Rattle.sw_text.specs.declared.place.Span.{Span}
 use Rattle.sw_syntax_tree.specs.declared.sheet.Sheet.{Sheet}
 use Rattle.sw_values.specs.declared.plain.Plain.{Plain}
@@ -17,7 +18,9 @@ use Rattle.sw_modules.specs.Fresh.{Setting, ended}
 use Rattle.sw_record.specs.declared.reply.Cause.{Cause}
 use Rattle.sw_record.specs.declared.reply.Cause.TheVariants.{First, Text, Config}
 use Rattle.sw_record.specs.Kept.{Kept, job_of}
-use Rattle.sw_record.specs.Ran.{Table, IsCause, IsCauseBy, IsAnswered, FirstDiffer, Differs, kept_at}
+use Rattle.sw_record.specs.Ran.{IsCause, IsCauseBy, FirstDiffer}
+use Rattle.sw_record.proofs.Single.{Differs, IsAnsweredBy, IsCauseAt, cause_of_one, one_kept}
+use Rattle.sw_keeper.specs.Keeping.{Table, kept_at, kept_in}
 use Rattle.sw_keeper.specs.declared.departure.Departure.{Departure}
 use Rattle.sw_keeper.specs.Results.{Results}
 use Rattle.sw_keeper.specs.Departures.{HasTwoAnswers}
@@ -64,16 +67,21 @@ pub say_once : (kind : SayKind) (span : Span) (text : List ℕ) → HasTwoAnswer
 say_once kind span text two = two.differ (say_done kind span text two.one two.fits_one ∙ sym (say_done kind span text two.other two.fits_other))
 
 -- what such an answer is the cause of
-differs_by : (op : Op) (cause : Cause) (kept run : Run) → IsCauseBy op cause → IsAnswered kept run cause → Differs kept run cause
-differs_by (ops.Load site url span how config) cause kept run by is = let P : Cause → Type 0 = λ c. IsAnswered kept run c → Differs kept run c in subst P (sym by) (λ x. x) is
-differs_by (ops.Find site space kind name) cause kept run by is = let P : Cause → Type 0 = λ c. IsAnswered kept run c → Differs kept run c in subst P (sym by) (λ x. x) is
-differs_by (ops.Get owner name) cause kept run by is = let P : Cause → Type 0 = λ c. IsAnswered kept run c → Differs kept run c in subst P (sym by) (λ x. x) is
-differs_by (ops.Call name args) cause kept run by is = let P : Cause → Type 0 = λ c. IsAnswered kept run c → Differs kept run c in subst P (sym by) (λ x. x) is
+differs_by : (op : Op) (cause : Cause) (kept run : Run) → IsCauseBy op cause → IsAnsweredBy kept run cause → Differs kept run cause
+differs_by (ops.Load site url span how config) cause kept run by is = let P : Cause → Type 0 = λ c. IsAnsweredBy kept run c → Differs kept run c in subst P (sym by) (λ x. x) is
+differs_by (ops.Find site space kind name) cause kept run by is = let P : Cause → Type 0 = λ c. IsAnsweredBy kept run c → Differs kept run c in subst P (sym by) (λ x. x) is
+differs_by (ops.Get owner name) cause kept run by is = let P : Cause → Type 0 = λ c. IsAnsweredBy kept run c → Differs kept run c in subst P (sym by) (λ x. x) is
+differs_by (ops.Call name args) cause kept run by is = let P : Cause → Type 0 = λ c. IsAnsweredBy kept run c → Differs kept run c in subst P (sym by) (λ x. x) is
 differs_by (ops.Put owner name value) cause kept run by is = absurd by
 differs_by (ops.Say kind span text) cause kept run by is = absurd by
 
-cause_at : (table : Table) (path : List ℕ) (kept run : Run) (cause : Cause) → kept_at table path ≡ Some kept → Differs kept run cause → IsCause (kept_at table path) run cause
-cause_at table path kept run cause at differs = subst (λ (o : Option Run). IsCause o run cause) (sym at) differs
+-- what is said of the one kept run holds of the list
+cause_in : (table : Table) (path : List ℕ) (kept : Option Run) (run : Run) (cause : Cause) → kept_at table path ≡ kept → IsCauseAt kept run cause → IsCause (kept_in table path) run cause
+cause_in table path kept run cause at is =
+    cause_of_one (kept_at table path) run cause (subst (λ (o : Option Run). IsCauseAt o run cause) (sym at) is)
+
+cause_at : (table : Table) (path : List ℕ) (kept run : Run) (cause : Cause) → kept_at table path ≡ Some kept → Differs kept run cause → IsCause (kept_in table path) run cause
+cause_at table path kept run cause at differs = cause_in table path (Some kept) run cause at differs
 
 -- a body that starts with the pairs of a departure
 pub known_differs : (table : Table) (path text : List ℕ) (config : List (List ℕ × Plain)) (k : Kept) (run : Run) (d : Departure)
@@ -92,7 +100,7 @@ known_differs table path text config k run d same is departs more end =
       differ = here.differs;
     } in
     cause_at table path run new d.cause same.at
-    (differs_by here.pair.0 d.cause run new here.by (record { same_text = same.text_is; same_config = same.config_is; op = here.pair.0; first = first; by = here.by }))
+    (differs_by here.pair.0 d.cause run new here.by (record { alike = record { same_text = same.text_is; same_config = same.config_is }; op = here.pair.0; first = first; by = here.by }))
 
 pub same_job : (table : Table) (path text : List ℕ) (config : List (List ℕ × Plain)) (sheet : Sheet) (k : Kept) (run : Run) → IsSame table path text config run → k.run ≡ run → sheet ≡ k.sheet
     → job_of k ≡ record { sheet = sheet; config = config; path = path }
@@ -152,7 +160,7 @@ did_whole setting table path text config k run r end o m t in_time same is reads
     let a1 : Advances setting (job_of k) [] k.run.seen did.new o.outside m.outside = subst (λ (x : Option Departure). Advances setting (job_of k) [] (behind k.run.seen x) did.new o.outside m.outside) r_is did.advances in
     let run_is : run_of (job_of k) text k.run.seen k.run.end ≡ run =
     ap (λ (x : List ℕ). run_of (job_of k) x k.run.seen k.run.end) (sym same.text_is ∙ sym (ap (λ (x : Run). x.text) is)) ∙ is in
-    let here : kept_at table run.path ≡ Some run = ap (kept_at table) same.path_is ∙ same.at in
+    let here : Contains (kept_in table run.path) run = one_kept (kept_at table run.path) run (ap (kept_at table) same.path_is ∙ same.at) in
     let one : Grown table (run ∷ []) m t = record {
       runs = ap (λ (x : Results). x.runs) results;
       grown = [];
@@ -175,7 +183,7 @@ did_whole setting table path text config k run r end o m t in_time same is reads
 -- why a body runs of which no such run is kept
 pub first_cause : (table : Table) (path text : List ℕ) (config : List (List ℕ × Plain)) → kept_at table path ≡ None → DiffersBy table path text config [] First
 first_cause table path text config none more end =
-    subst (λ (o : Option Run). IsCause o (record { path = path; text = text; config = config; seen = more; end = end }) First) (sym none) refl
+    cause_in table path None (record { path = path; text = text; config = config; seen = more; end = end }) First none refl
 
 pub text_cause : (table : Table) (path text : List ℕ) (config : List (List ℕ × Plain)) (run : Run) → kept_at table path ≡ Some run → (run.text ≡ text → ⊥) → DiffersBy table path text config [] Text
 text_cause table path text config run at differ more end =

@@ -17,7 +17,7 @@ use Rattle.sw_modules.specs.State.{State, open_at, path_in}
 use Rattle.sw_modules.specs.Loads.{begun, ended_by, AnswersLoad}
 use Rattle.sw_modules.specs.Outside.{Functions, Outside}
 use Rattle.sw_modules.specs.Fresh.{Setting, Outcome, Evaluation, Response, responds, load_response, load_ended, at_once, fresh, room, evaluated_by, rest_of}
-use Rattle.sw_record.specs.Ran.{Table}
+use Rattle.sw_keeper.specs.Keeping.{Table}
 use Rattle.sw_keeper.specs.Steps.{Moment, Grown, DidRespond, DidEnd, DidEvaluate, moment_of, run_of}
 use Rattle.sw_keeper.proofs.Rest.{fresh_opens}
 use Rattle.sw_keeper.proofs.Parts.{grown_none}

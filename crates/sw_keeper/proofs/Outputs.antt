@@ -34,8 +34,7 @@ use Rattle.sw_modules.specs.Loads.{is_open, refused, first_explicit, built_in_un
 use Rattle.sw_modules.specs.Outside.{Functions, Outside}
 use Rattle.sw_modules.specs.Fresh.{Setting, Outcome as Evaluated, Evaluation, Response, load_by, responds, ended, turn, goes_on, evaluated_by, fresh, room, rest_of, from_open}
 use Rattle.sw_world.specs.Laws.{most_asked}
-use Rattle.sw_record.specs.declared.reply.Outcome.{Outcome}
-use Rattle.sw_keeper.specs.Compile.{compiled, compile_by, outcome_of}
+use Rattle.sw_keeper.specs.Compile.{compile_by, outcome_of}
 use Rattle.sw_keeper.specs.Outputs.{output_of, outputs_of, IsCssOf, CssIsOfRuns}
 
 -- Loads

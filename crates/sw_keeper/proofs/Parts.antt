@@ -11,7 +11,8 @@ use Rattle.sw_modules.specs.Fresh.{Setting, responds, fresh, room, rest_of}
 use Rattle.sw_modules.specs.Calls.{HostCall, after_calls, calls_within, calls_left}
 use Rattle.sw_modules.proofs.Calls.{calls_along, after_calls-append}
 use Rattle.sw_record.specs.declared.reply.Cause.{Cause}
-use Rattle.sw_record.specs.Ran.{Table, Ran}
+use Rattle.sw_record.specs.Ran.{KeptRuns, Ran}
+use Rattle.sw_keeper.specs.Keeping.{Table, kept_in}
 use Rattle.sw_keeper.specs.Compile.{paths_of}
 use Rattle.sw_keeper.specs.Results.{Results}
 use Rattle.sw_keeper.specs.Steps.{Moment, Grown, Advances, DidRespond, WentOn}
@@ -20,10 +21,10 @@ use Rattle.sw_keeper.proofs.Rest.{rest_more, calls_more, hosts_more, led, led_op
 pub paths_of-append : (xs ys : List (List ℕ × Cause)) → paths_of (xs ++ ys) ≡ paths_of xs ++ paths_of ys
 paths_of-append xs ys = map-append (λ (one : List ℕ × Cause). one.0) xs ys
 
-pub ran_join : (table : Table) (new more : List Run) (xs ys : List (List ℕ × Cause)) → Ran table new xs → Ran table more ys → Ran table (new ++ more) (xs ++ ys)
-ran_join table [] more xs ys e b = rw e b
-ran_join table (r ∷ rs) more xs ys (inl a) b = inl (a.0, ran_join table rs more xs ys a.1 b)
-ran_join table (r ∷ rs) more xs ys (inr a) b = inr (a.0, a.1, (a.2.0 ++ ys, ap (λ l. l ++ ys) a.2.1, ran_join table rs more a.2.0 ys a.2.2 b))
+pub ran_join : (kept : KeptRuns) (new more : List Run) (xs ys : List (List ℕ × Cause)) → Ran kept new xs → Ran kept more ys → Ran kept (new ++ more) (xs ++ ys)
+ran_join kept [] more xs ys e b = rw e b
+ran_join kept (r ∷ rs) more xs ys (inl a) b = inl (a.0, ran_join kept rs more xs ys a.1 b)
+ran_join kept (r ∷ rs) more xs ys (inr a) b = inr (a.0, a.1, (a.2.0 ++ ys, ap (λ l. l ++ ys) a.2.1, ran_join kept rs more a.2.0 ys a.2.2 b))
 
 pub grown_none : (table : Table) (o t : Moment) → t.results ≡ o.results → t.told ≡ o.told → Grown table [] o t
 grown_none table o t results told =
@@ -40,7 +41,7 @@ grown_join table new more o m t a b =
     record {
       runs = b.runs ∙ ap (λ l. l ++ more) a.runs ∙ append_assoc o.results.runs new more;
       grown = a.grown ++ b.grown;
-      is = ran_join table new more a.grown b.grown a.is b.is;
+      is = ran_join (kept_in table) new more a.grown b.grown a.is b.is;
       ran = b.ran ∙ ap (λ l. l ++ b.grown) a.ran ∙ append_assoc o.results.ran a.grown b.grown;
       told = b.told ∙ ap (λ l. l ++ paths_of b.grown) a.told ∙ append_assoc o.told (paths_of a.grown) (paths_of b.grown) ∙ ap (λ l. o.told ++ l) (sym (paths_of-append a.grown b.grown));
     }

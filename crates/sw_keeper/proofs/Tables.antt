@@ -6,9 +6,10 @@ use Rattle.indexmap.specs.IndexMap.{insert_entry}
 use Rattle.sw_world.specs.declared.end.End.{End}
 use Rattle.sw_world.specs.declared.end.End.TheVariants.{Done, Fault}
 use Rattle.sw_world.specs.Body.{Run}
-use Rattle.sw_record.specs.Ran.{Table, Ran, kept_at}
+use Rattle.sw_record.specs.Ran.{Ran}
+use Rattle.sw_record.proofs.Single.{kept_one}
 use Rattle.sw_record.specs.declared.reply.Cause.{Cause}
-use Rattle.sw_keeper.specs.Keeping.{Tables, EachAtItsPath, table_of, with_run_by, with_runs, kept_after}
+use Rattle.sw_keeper.specs.Keeping.{Table, Tables, EachAtItsPath, kept_at, kept_in, table_of, kept_for, with_run_by, with_runs, kept_after}
 use Rattle.sw_keeper.specs.Latest.{is_done, latest, KeepsTheLatest}
 
 -- what is at a name after a value was given to one
@@ -108,10 +109,10 @@ same_run table run (Done finish) here = insert_same run.path run table here
 same_run table run (Fault fault) here = refl
 
 -- where no body ran, the runs are the kept ones
-same_runs : (table : Table) (runs : List Run) (ran : List (List ℕ × Cause)) → ran ≡ [] → Ran table runs ran → with_runs table runs ≡ table
+same_runs : (table : Table) (runs : List Run) (ran : List (List ℕ × Cause)) → ran ≡ [] → Ran (kept_in table) runs ran → with_runs table runs ≡ table
 same_runs table [] ran none are = refl
 same_runs table (run ∷ runs) ran none (inl are) =
-    ap (λ (t : Table). with_runs t runs) (same_run table run run.end are.0) ∙ same_runs table runs ran none are.1
+    ap (λ (t : Table). with_runs t runs) (same_run table run run.end (kept_one (kept_at table run.path) run are.0)) ∙ same_runs table runs ran none are.1
 same_runs table (run ∷ runs) ran none (inr are) = cc
 
 -- and their table is there
@@ -121,16 +122,16 @@ same_table tables entry (Some table) run is here = is
 same_table tables entry None run is here = cc
 
 -- the tables after a compile
-pub kept_some : (tables now : Tables) (entry : List ℕ) (runs : List Run) (ran : List (List ℕ × Cause)) (after : Table) → (ran ≡ [] → ⊥) → Ran (table_of tables entry) runs ran
+pub kept_some : (tables now : Tables) (entry : List ℕ) (runs : List Run) (ran : List (List ℕ × Cause)) (after : Table) → (ran ≡ [] → ⊥) → Ran (kept_for tables entry) runs ran
     → after ≡ with_runs (table_of tables entry) runs → now ≡ insert_entry bytes_eq tables entry after → now ≡ kept_after tables entry runs
 kept_some tables now entry [] ran after some are is put = absurd (some are)
 kept_some tables now entry (run ∷ runs) ran after some are is put = put ∙ ap (λ (t : Table). insert_entry bytes_eq tables entry t) is
 
-pub kept_same : (tables : Tables) (entry : List ℕ) (runs : List Run) (ran : List (List ℕ × Cause)) → ran ≡ [] → Ran (table_of tables entry) runs ran → tables ≡ kept_after tables entry runs
+pub kept_same : (tables : Tables) (entry : List ℕ) (runs : List Run) (ran : List (List ℕ × Cause)) → ran ≡ [] → Ran (kept_for tables entry) runs ran → tables ≡ kept_after tables entry runs
 kept_same tables entry [] ran none are = refl
 kept_same tables entry (run ∷ runs) ran none (inl are) =
     let table : Table = table_of tables entry in
     let all : with_runs table (run ∷ runs) ≡ table = same_runs table (run ∷ runs) ran none (inl are) in
-    let there : lookup (bytes_eq entry) tables ≡ Some table = same_table tables entry (lookup (bytes_eq entry) tables) run refl are.0 in
+    let there : lookup (bytes_eq entry) tables ≡ Some table = same_table tables entry (lookup (bytes_eq entry) tables) run refl (kept_one (kept_at table run.path) run are.0) in
     sym (ap (λ (t : Table). insert_entry bytes_eq tables entry t) all ∙ insert_same entry table tables there)
 kept_same tables entry (run ∷ runs) ran none (inr are) = cc

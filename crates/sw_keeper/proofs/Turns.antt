@@ -11,7 +11,8 @@ use Rattle.sw_modules.specs.Outside.{Outside}
 use Rattle.sw_modules.specs.Fresh.{Setting, responds, fresh, room, ended, rest_of}
 use Rattle.sw_record.specs.declared.reply.Cause.{Cause}
 use Rattle.sw_record.specs.Kept.{Kept}
-use Rattle.sw_record.specs.Ran.{Table, Ran, IsCause, kept_at}
+use Rattle.sw_record.specs.Ran.{Ran, IsCause}
+use Rattle.sw_keeper.specs.Keeping.{Table, kept_in}
 use Rattle.sw_keeper.specs.Compile.{paths_of}
 use Rattle.sw_keeper.specs.Results.{Results}
 use Rattle.sw_keeper.specs.Steps.{Moment, Grown, Advances, DidRespond, DidEnd, WentOn, Turned, IsTurned, ran_at, RunsOn, DiffersBy, run_of}
@@ -171,16 +172,16 @@ module _ (setting : Setting) (table : Table) (job : Job) (known : List Pair) (p 
       → DidEnd setting table job text known end o u
   runs_end text cause end u is in_time is_q differs outside told results =
       let this : Run = run_of job text q.seen end in
-      let why : IsCause (kept_at table job.path) this cause =
-      subst (λ (l : List Pair). IsCause (kept_at table job.path) (run_of job text l end) cause) (sym all_extends) (differs (on.more ++ turned.more) end) in
-      let ran_this : Ran table (this ∷ []) ((job.path, cause) ∷ []) = inr (cause, why, ([], refl, refl)) in
+      let why : IsCause (kept_in table job.path) this cause =
+      subst (λ (l : List Pair). IsCause (kept_in table job.path) (run_of job text l end) cause) (sym all_extends) (differs (on.more ++ turned.more) end) in
+      let ran_this : Ran (kept_in table) (this ∷ []) ((job.path, cause) ∷ []) = inr (cause, why, ([], refl, refl)) in
       let path_is : q.job.path ≡ job.path = ap (λ (j : Job). j.path) (turned.same_job ∙ on.same_job) in
       let grown : List (List ℕ × Cause) = turned.grown ++ (job.path, cause) ∷ [] in
       let step : Grown table (turned.new ++ this ∷ []) m u =
       record {
         runs = ap (λ (x : Results). x.runs) results ∙ ap (λ l. l ++ this ∷ []) turned.runs ∙ append_assoc m.results.runs turned.new (this ∷ []);
         grown = grown;
-        is = ran_join table turned.new (this ∷ []) turned.grown ((job.path, cause) ∷ []) turned.is ran_this;
+        is = ran_join (kept_in table) turned.new (this ∷ []) turned.grown ((job.path, cause) ∷ []) turned.is ran_this;
         ran = ap (λ (x : Results). x.ran) results ∙ ap (λ l. l ++ (job.path, cause) ∷ []) turned.ran ∙ append_assoc m.results.ran turned.grown ((job.path, cause) ∷ []);
         told = told ∙ turned.told ∙ ap (λ x. m.told ++ (paths_of turned.grown ++ ran_at x q.job.path)) is ∙ ap (λ n. m.told ++ (paths_of turned.grown ++ n ∷ [])) path_is
             ∙ ap (λ l. m.told ++ l) (sym (paths_of-append turned.grown ((job.path, cause) ∷ [])));

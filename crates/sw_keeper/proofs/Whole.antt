@@ -15,7 +15,8 @@ use Rattle.sw_modules.specs.Calls.{HostCall, calls_open}
 use Rattle.sw_record.specs.declared.reply.Cause.{Cause}
 use Rattle.sw_record.specs.declared.reply.Outcome.{Outcome}
 use Rattle.sw_record.specs.declared.reply.Outcome.TheVariants.{Error}
-use Rattle.sw_record.specs.Ran.{Table, Ran}
+use Rattle.sw_record.specs.Ran.{Ran}
+use Rattle.sw_keeper.specs.Keeping.{Table, kept_in}
 use Rattle.sw_keeper.specs.Compile.{Compile, compiled, compile_by, from_entry, after_entry, outcome_of, paths_of}
 use Rattle.sw_keeper.specs.Outputs.{outputs_of}
 use Rattle.sw_keeper.proofs.Outputs.{open_adds}
@@ -66,6 +67,6 @@ is_opened setting folder paths entry hosts table enter path text config end s m 
       outcome = outcome_is ∙ ap (λ runs. outcome_of end (outputs_of runs)) runs_are ∙ ap (outcome_of end) (sym outputs);
       same_runs = runs_are;
       same_hosts = refl;
-      ran = subst (λ (l : List (List ℕ × Cause)). Ran table did.runs l) (sym ran_is) did.grown.is;
+      ran = subst (λ (l : List (List ℕ × Cause)). Ran (kept_in table) did.runs l) (sym ran_is) did.grown.is;
       told = did.grown.told ∙ ap (λ l. told ++ paths_of l) (sym ran_is);
     })

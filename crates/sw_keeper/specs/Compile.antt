@@ -20,7 +20,7 @@ use Rattle.sw_record.specs.declared.reply.Reply.{Reply}
 use Rattle.sw_record.specs.Ran.{Ran}
 use Rattle.sw_record.specs.declared.reply.Outcome.{Outcome}
 use Rattle.sw_record.specs.declared.reply.Outcome.TheVariants.{Css, Error}
-use Rattle.sw_keeper.specs.Keeping.{Keeping, table_of, kept_after}
+use Rattle.sw_keeper.specs.Keeping.{Keeping, kept_for, kept_after}
 
 -- a compile: its messages, its CSS or its fault, the runs of its modules in the order in which they ended, its calls of
 -- the host's functions, and the state of these then
@@ -70,7 +70,7 @@ pub record CompilesTo (c : Compile) (entry : List ℕ) (reply : Reply) (old new 
     (told_old told_new : List (List ℕ)) : Type 0 where
   pub says : reply.says ≡ c.says
   pub outcome : reply.outcome ≡ c.outcome
-  pub ran : Ran (table_of old.kept entry) c.runs reply.ran
+  pub ran : Ran (kept_for old.kept entry) c.runs reply.ran
   pub told : told_new ≡ told_old ++ paths_of reply.ran
   pub hosts : hosts_now ≡ c.hosts
   pub kept : new.kept ≡ kept_after old.kept entry c.runs

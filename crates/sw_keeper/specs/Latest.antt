@@ -3,8 +3,7 @@ use Rattle.std.specs.Prelude.{◌≡◌, ◌≢◌, ◌&&◌, ℕ, Bool, true, f
 use Rattle.sw_world.specs.declared.end.End.{End}
 use Rattle.sw_world.specs.declared.end.End.TheVariants.{Done, Fault}
 use Rattle.sw_world.specs.Body.{Run}
-use Rattle.sw_record.specs.Ran.{kept_at}
-use Rattle.sw_keeper.specs.Keeping.{Tables, table_of, kept_after}
+use Rattle.sw_keeper.specs.Keeping.{Tables, kept_at, table_of, kept_after}
 
 abbrev pub is_done : End → Bool
 is_done (Done finish) = true

@@ -1,3 +1,4 @@
+pub mod Settings
 pub mod Compile
 pub mod Outputs
 pub mod Departures

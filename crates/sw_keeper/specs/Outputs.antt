@@ -12,7 +12,7 @@ use Rattle.sw_world.specs.Body.{Run}
 use Rattle.sw_modules.specs.Fresh.{Setting}
 use Rattle.sw_record.specs.declared.reply.Outcome.{Outcome}
 use Rattle.sw_record.specs.declared.reply.Outcome.TheVariants.{Css, Error}
-use Rattle.sw_keeper.specs.Compile.{Compile, compiled}
+use Rattle.sw_keeper.specs.Compile.{compiled}
 
 -- what a body that ended so has put out
 abbrev pub output_of : End → List Output

@@ -8,7 +8,8 @@ use Rattle.sw_modules.specs.Fresh.{Setting}
 use Rattle.sw_record.specs.declared.again.Replayed.{Replayed}
 use Rattle.sw_record.specs.declared.again.Replayed.TheVariants.{Same, Load, Differs}
 use Rattle.sw_record.specs.Kept.{Kept, IsKept, job_of}
-use Rattle.sw_record.specs.Ran.{Table, IsCauseBy}
+use Rattle.sw_record.specs.Ran.{IsCauseBy}
+use Rattle.sw_keeper.specs.Keeping.{Table}
 use Rattle.sw_keeper.specs.Steps.{Moment, Grown, Advances}
 use Rattle.sw_keeper.specs.declared.departure.Departure.{Departure}
 use Rattle.sw_keeper.specs.declared.evaluate.Came.{Came}

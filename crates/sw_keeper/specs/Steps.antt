@@ -13,8 +13,9 @@ use Rattle.sw_modules.specs.Outside.{Outside}
 use Rattle.sw_modules.specs.Calls.{HostCall, after_calls, calls_left}
 use Rattle.sw_modules.specs.Fresh.{Setting, Response, responds, fresh, room, rest_of, ended, from_open}
 use Rattle.sw_record.specs.declared.reply.Cause.{Cause}
-use Rattle.sw_record.specs.Ran.{Table, Ran, IsCause, kept_at}
+use Rattle.sw_record.specs.Ran.{Ran, IsCause}
 use Rattle.sw_keeper.specs.declared.context.Opening.{Opening}
+use Rattle.sw_keeper.specs.Keeping.{Table, kept_at, kept_in}
 use Rattle.sw_keeper.specs.Compile.{paths_of}
 use Rattle.sw_keeper.specs.Results.{Results}
 
@@ -36,11 +37,11 @@ job_at sheet opening = record { sheet = sheet; config = opening.config; path = o
 abbrev pub run_of : Job → List ℕ → List Pair → End → Run
 run_of job text seen end = record { path = job.path; text = text; config = job.config; seen = seen; end = end }
 
--- these runs ended, and of those of them that aren't the kept ones the bodies ran and the engine told
+-- these runs ended, and of those of them that are none of the kept ones the bodies ran and the engine told
 pub record Grown (table : Table) (new : List Run) (old now : Moment) : Type 0 where
   pub runs : now.results.runs ≡ old.results.runs ++ new
   pub grown : List (List ℕ × Cause)
-  pub is : Ran table new grown
+  pub is : Ran (kept_in table) new grown
   pub ran : now.results.ran ≡ old.results.ran ++ grown
   pub told : now.told ≡ old.told ++ paths_of grown
 
@@ -110,7 +111,7 @@ pub record Turned (setting : Setting) (table : Table) (p q : Progress) (end : Op
     pub advances : Advances setting p.job (p.seen ++ p.left) q.seen new old.outside now.outside
     pub runs : now.results.runs ≡ old.results.runs ++ new
     pub grown : List (List ℕ × Cause)
-    pub is : Ran table new grown
+    pub is : Ran (kept_in table) new grown
     pub ran : now.results.ran ≡ old.results.ran ++ grown
     pub told : now.told ≡ old.told ++ (paths_of grown ++ ran_at end q.job.path)
     pub place : IsTurned end p q
@@ -142,5 +143,5 @@ NoneSame table path text config =
 abbrev pub DiffersBy : Table → List ℕ → List ℕ → List (List ℕ × Plain) → List Pair → Cause → Type 0
 DiffersBy table path text config known cause =
     (more : List Pair) (end : End)
-    → IsCause (kept_at table path) (record
+    → IsCause (kept_in table path) (record
     { path = path; text = text; config = config; seen = known ++ more; end = end }) cause

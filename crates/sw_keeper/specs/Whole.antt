@@ -3,9 +3,10 @@ use Rattle.std.specs.Prelude.{◌≡◌, ℕ, List, ◌++◌}
 use Rattle.sw_world.specs.Hosts.{HostState}
 use Rattle.sw_world.specs.Body.{Run}
 use Rattle.sw_record.specs.declared.reply.Reply.{Reply}
-use Rattle.sw_record.specs.Ran.{Table, Ran}
+use Rattle.sw_record.specs.Ran.{Ran}
 use Rattle.sw_folder.specs.Files.{Files}
 use Rattle.sw_modules.specs.Fresh.{Setting}
+use Rattle.sw_keeper.specs.Keeping.{Table, kept_in}
 use Rattle.sw_keeper.specs.Compile.{Compile, compiled, paths_of}
 use Rattle.sw_keeper.specs.Cuts.{CutOff}
 
@@ -17,7 +18,7 @@ pub record IsCompiled (compile : Compile) (table : Table) (reply : Reply) (runs 
   pub outcome : reply.outcome ≡ compile.outcome
   pub same_runs : runs ≡ compile.runs
   pub same_hosts : hosts ≡ compile.hosts
-  pub ran : Ran table compile.runs reply.ran
+  pub ran : Ran (kept_in table) compile.runs reply.ran
   pub told : told_new ≡ told_old ++ paths_of reply.ran
 
 -- a compile was cut off

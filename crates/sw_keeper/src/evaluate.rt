@@ -4,18 +4,17 @@ ghost use Rattle.sw_folder.specs.Files.{most_bytes};
 ghost use Rattle.sw_world.specs.Questions.{IsLoad, Fits};
 ghost use Rattle.sw_world.specs.Body.{Goes};
 ghost use Rattle.sw_world.specs.Progress.{Running, IsBody};
-ghost use Rattle.sw_modules.specs.Fresh.{setting_of};
 ghost use Rattle.sw_record.specs.Kept.{job_of};
 ghost use Rattle.sw_keeper.specs.Steps.{DidLoad, DidEnd, DidEvaluate, Turned, DiffersBy, job_at, moment_of};
 ghost use Rattle.sw_keeper.specs.Cuts.{LoadCut, BodyCut, OpenCut};
 ghost use Rattle.sw_keeper.specs.Replays.{DidTurn, DidReplay};
 
-use crate::Reader;
 use crate::context::{Moment, Opening, Start, Within};
 use crate::departure::{Departure, departure_of};
 use crate::outside::{go_outside, replay_outside};
 use crate::reading::{cause_anew, read_sheet, same_run};
 use crate::results::run_ended;
+use crate::{HasSetting, Reader};
 use sw_modules::Begin;
 use sw_record::{Replayed, Run};
 use sw_text::Memory;
@@ -42,13 +41,13 @@ fn load<R: Reader, E: Engine, H: Hosts>(
     op: &Op,
 ) -> Result<Answer, Memory>
     requires { IsLoad op.now }
-    ensures did { IfOk result (λ answer. DidLoad (setting_of H.answer H.after R.reads E.body) within.now.kept.now
+    ensures did { IfOk result (λ answer. DidLoad ⟦<(R, E, H) as HasSetting>⟧.setting within.now.kept.now
         op.now answer
         (moment_of moment.old.live (H.state hosts.old) moment.old.results (E.ran engine.old))
         (moment_of moment.new.live (H.state hosts.new) moment.new.results (E.ran engine.new))) }
     ensures fits { IfOk result (λ answer. Fits op.now answer) }
     ensures depth { IfOk result (λ _. length moment.new.live.opened ≡ length moment.old.live.opened) }
-    ensures cut { OnErr result (LoadCut (setting_of H.answer H.after R.reads E.body) op.now
+    ensures cut { OnErr result (LoadCut ⟦<(R, E, H) as HasSetting>⟧.setting op.now
         (moment_of moment.old.live (H.state hosts.old) moment.old.results (E.ran engine.old))
         (moment_of moment.new.live (H.state hosts.new) moment.new.results (E.ran engine.new))) }
 {
@@ -75,12 +74,12 @@ fn turn<R: Reader, E: Engine, H: Hosts>(
     requires runs { (E.progress body.old).status ≡ Running }
     requires is_body { IsBody E.body (E.progress body.old) }
     ensures is_body { IfOk result (λ _. IsBody E.body (E.progress body.new)) }
-    ensures turned { IfOk result (λ end. Turned (setting_of H.answer H.after R.reads E.body) within.now.kept.now
+    ensures turned { IfOk result (λ end. Turned ⟦<(R, E, H) as HasSetting>⟧.setting within.now.kept.now
         (E.progress body.old) (E.progress body.new) end
         (moment_of moment.old.live (H.state hosts.old) moment.old.results (E.ran engine.old))
         (moment_of moment.new.live (H.state hosts.new) moment.new.results (E.ran engine.new))) }
     ensures depth { IfOk result (λ _. length moment.new.live.opened ≡ length moment.old.live.opened) }
-    ensures cut { OnErr result (BodyCut (setting_of H.answer H.after R.reads E.body) (E.progress body.old).job
+    ensures cut { OnErr result (BodyCut ⟦<(R, E, H) as HasSetting>⟧.setting (E.progress body.old).job
         ((E.progress body.old).seen ++ (E.progress body.old).left)
         (moment_of moment.old.live (H.state hosts.old) moment.old.results (E.ran engine.old))
         (moment_of moment.new.live (H.state hosts.new) moment.new.results (E.ran engine.new))) }
@@ -116,12 +115,12 @@ fn run_body<R: Reader, E: Engine, H: Hosts>(
     requires goes { Goes (E.body (job_at start.now.sheet.now opening.now)) [] start.now.known.now }
     requires differs { DiffersBy within.now.kept.now opening.now.path opening.now.text opening.now.config
         start.now.known.now start.now.cause }
-    ensures did { IfOk result (λ end. DidEnd (setting_of H.answer H.after R.reads E.body) within.now.kept.now
+    ensures did { IfOk result (λ end. DidEnd ⟦<(R, E, H) as HasSetting>⟧.setting within.now.kept.now
         (job_at start.now.sheet.now opening.now) opening.now.text start.now.known.now end
         (moment_of moment.old.live (H.state hosts.old) moment.old.results (E.ran engine.old))
         (moment_of moment.new.live (H.state hosts.new) moment.new.results (E.ran engine.new))) }
     ensures depth { IfOk result (λ _. length moment.new.live.opened ≡ length moment.old.live.opened) }
-    ensures cut { OnErr result (BodyCut (setting_of H.answer H.after R.reads E.body)
+    ensures cut { OnErr result (BodyCut ⟦<(R, E, H) as HasSetting>⟧.setting
         (job_at start.now.sheet.now opening.now) start.now.known.now
         (moment_of moment.old.live (H.state hosts.old) moment.old.results (E.ran engine.old))
         (moment_of moment.new.live (H.state hosts.new) moment.new.results (E.ran engine.new))) }
@@ -156,12 +155,12 @@ fn replay_turn<R: Reader, E: Engine, H: Hosts>(
     from: usize,
 ) -> Result<Came, Memory>
     requires { from ≤ length run.now.run.seen }
-    ensures did { IfOk result (λ came. DidTurn (setting_of H.answer H.after R.reads E.body) within.now.kept.now run.now
+    ensures did { IfOk result (λ came. DidTurn ⟦<(R, E, H) as HasSetting>⟧.setting within.now.kept.now run.now
         from came
         (moment_of moment.old.live (H.state hosts.old) moment.old.results (E.ran engine.old))
         (moment_of moment.new.live (H.state hosts.new) moment.new.results (E.ran engine.new))) }
     ensures depth { IfOk result (λ _. length moment.new.live.opened ≡ length moment.old.live.opened) }
-    ensures cut { OnErr result (BodyCut (setting_of H.answer H.after R.reads E.body) (job_of run.now)
+    ensures cut { OnErr result (BodyCut ⟦<(R, E, H) as HasSetting>⟧.setting (job_of run.now)
         (take from run.now.run.seen)
         (moment_of moment.old.live (H.state hosts.old) moment.old.results (E.ran engine.old))
         (moment_of moment.new.live (H.state hosts.new) moment.new.results (E.ran engine.new))) }
@@ -202,12 +201,12 @@ fn replay_all<R: Reader, E: Engine, H: Hosts>(
     engine: &mut E,
     run: &Run<E>,
 ) -> Result<Option<Departure>, Memory>
-    ensures did { IfOk result (λ departure. DidReplay (setting_of H.answer H.after R.reads E.body) within.now.kept.now
+    ensures did { IfOk result (λ departure. DidReplay ⟦<(R, E, H) as HasSetting>⟧.setting within.now.kept.now
         run.now departure
         (moment_of moment.old.live (H.state hosts.old) moment.old.results (E.ran engine.old))
         (moment_of moment.new.live (H.state hosts.new) moment.new.results (E.ran engine.new))) }
     ensures depth { IfOk result (λ _. length moment.new.live.opened ≡ length moment.old.live.opened) }
-    ensures cut { OnErr result (BodyCut (setting_of H.answer H.after R.reads E.body) (job_of run.now) []
+    ensures cut { OnErr result (BodyCut ⟦<(R, E, H) as HasSetting>⟧.setting (job_of run.now) []
         (moment_of moment.old.live (H.state hosts.old) moment.old.results (E.ran engine.old))
         (moment_of moment.new.live (H.state hosts.new) moment.new.results (E.ran engine.new))) }
 {
@@ -233,12 +232,12 @@ pub(crate) fn evaluate<R: Reader, E: Engine, H: Hosts>(
     opening: &Opening,
 ) -> Result<End, Memory>
     requires { length opening.now.text ≤ most_bytes }
-    ensures did { IfOk result (λ end. DidEvaluate (setting_of H.answer H.after R.reads E.body) within.now.kept.now
+    ensures did { IfOk result (λ end. DidEvaluate ⟦<(R, E, H) as HasSetting>⟧.setting within.now.kept.now
         opening.now.path opening.now.text opening.now.config end
         (moment_of moment.old.live (H.state hosts.old) moment.old.results (E.ran engine.old))
         (moment_of moment.new.live (H.state hosts.new) moment.new.results (E.ran engine.new))) }
     ensures depth { IfOk result (λ _. length moment.new.live.opened ≡ length moment.old.live.opened) }
-    ensures cut { OnErr result (OpenCut (setting_of H.answer H.after R.reads E.body) opening.now.path opening.now.text
+    ensures cut { OnErr result (OpenCut ⟦<(R, E, H) as HasSetting>⟧.setting opening.now.path opening.now.text
         opening.now.config
         (moment_of moment.old.live (H.state hosts.old) moment.old.results (E.ran engine.old))
         (moment_of moment.new.live (H.state hosts.new) moment.new.results (E.ran engine.new))) }

@@ -4,16 +4,15 @@ ghost use Rattle.std.specs.FinMap as files;
 ghost use Rattle.sw_folder.specs.Edits.{after_put, after_removal, IsFaultOf};
 ghost use Rattle.sw_record.specs.Ran.{Ran};
 ghost use Rattle.sw_keeper.specs.Compile.{compiled, CompilesTo, BreaksOff};
-ghost use Rattle.sw_keeper.specs.Keeping.{table_of, with_runs, kept_after};
-ghost use Rattle.sw_modules.specs.Fresh.{setting_of};
+ghost use Rattle.sw_keeper.specs.Keeping.{table_of, kept_for, with_runs, kept_after};
 ghost use Rattle.sw_keeper.specs.Whole.{IsCompiled, CompileCut};
 
-use crate::Reader;
 use crate::context::{Moment, Opening, Within};
 use crate::evaluate::evaluate;
 use crate::kept::{KeptRun, KeptRuns};
 use crate::outcome::outcome_of;
 use crate::results::Results;
+use crate::{HasSetting, Reader};
 use std::alloc::Global;
 use std::marker::Model;
 use sw_folder::{EditFault, Folder};
@@ -85,8 +84,8 @@ impl<R: Reader, E: Engine> Keeper<R, E> {
     }
 
     /// Compiles an entry with these load paths: the messages and the CSS or the fault that the evaluation of the files
-    /// as they are gives from nothing. Of the bodies of that evaluation those run whose run isn't the kept one, each
-    /// with its cause, and the engine tells of just these; the runs that ended well are kept from then on. After
+    /// as they are gives from nothing. Of the bodies of that evaluation those run whose run is none of the kept ones,
+    /// each with its cause, and the engine tells of just these; the runs that ended well are kept from then on. After
     /// `Memory` folder and kept runs are as before, the engine has told of some bodies more, and the host's functions
     /// are as they are after the first calls of that evaluation, so many as were made.
     pub fn compile<H: Hosts>(
@@ -98,10 +97,10 @@ impl<R: Reader, E: Engine> Keeper<R, E> {
         hosts: &mut H,
     ) -> Result<Reply, Memory>
         ensures ok { IfOk result (λ reply. CompilesTo
-            (compiled (setting_of H.answer H.after R.reads E.body) self.old.folder paths.now entry.now
+            (compiled ⟦<(R, E, H) as HasSetting>⟧.setting self.old.folder paths.now entry.now
             (H.state hosts.old))
             entry.now reply self.old self.new (H.state hosts.new) (E.ran engine.old) (E.ran engine.new)) }
-        ensures err { OnErr result (BreaksOff (setting_of H.answer H.after R.reads E.body) self.old.folder paths.now
+        ensures err { OnErr result (BreaksOff ⟦<(R, E, H) as HasSetting>⟧.setting self.old.folder paths.now
             entry.now (H.state hosts.old) (H.state hosts.new) (E.ran engine.old) (E.ran engine.new)) }
         ensures folder { self.new.folder ≡ self.old.folder }
         ensures unchanged { OnErr result (self.new ≡ self.old) }
@@ -136,7 +135,7 @@ fn keep_runs<R: Reader, E: Engine>(
     runs: &List<KeptRun<R, E>>,
     ran: &List<(Name, Cause)>,
 ) -> Result<(), Memory>
-    requires { Ran (table_of tables.old entry.now) runs.now ran.now }
+    requires { Ran (kept_for tables.old entry.now) runs.now ran.now }
     ensures ok { OnOk result (tables.new ≡ kept_after tables.old entry.now runs.now) }
     ensures err { OnErr result (tables.new ≡ tables.old) }
 {
@@ -194,9 +193,9 @@ fn compile_folder<R: Reader, E: Engine, H: Hosts>(
     hosts: &mut H,
 ) -> Result<Compiled<R, E>, Memory>
     ensures did { IfOk result (λ given. IsCompiled
-        (compiled (setting_of H.answer H.after R.reads E.body) folder.now paths.now entry.now (H.state hosts.old))
+        (compiled ⟦<(R, E, H) as HasSetting>⟧.setting folder.now paths.now entry.now (H.state hosts.old))
         within.now.kept.now given.reply given.runs (H.state hosts.new) (E.ran engine.old) (E.ran engine.new)) }
-    ensures cut { OnErr result (CompileCut (setting_of H.answer H.after R.reads E.body) folder.now paths.now entry.now
+    ensures cut { OnErr result (CompileCut ⟦<(R, E, H) as HasSetting>⟧.setting folder.now paths.now entry.now
         (H.state hosts.old) (H.state hosts.new) (E.ran engine.old) (E.ran engine.new)) }
 {
     let alloc = within.alloc;

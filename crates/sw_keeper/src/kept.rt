@@ -1,8 +1,7 @@
 // Runs that are kept, of texts that read to their sheets.
 ghost use Rattle.std.specs.Prelude.{◌≡◌, [], Ok, IfOk, IfSome, OnOk};
 ghost use Rattle.std.specs.Option.{option_copied};
-ghost use Rattle.sw_record.specs.Ran.{kept_at};
-ghost use Rattle.sw_keeper.specs.Keeping.{with_run_by, with_runs};
+ghost use Rattle.sw_keeper.specs.Keeping.{kept_at, with_run_by, with_runs};
 
 use crate::Reader;
 use std::alloc::Global;
@@ -74,16 +73,15 @@ impl<R: Reader, E: Engine> Model for KeptRuns<R, E> {
     ghost use Rattle.sw_syntax_tree.specs.contracts.expr.ExprKind as expr;
     ghost use Rattle.sw_syntax_tree.specs.contracts.statement.Statement as statement;
     ghost use Rattle.sw_values.specs.contracts.plain.Plain as plain;
-    ghost use Rattle.sw_record.specs.Ran as ran;
-    ghost use Rattle.sw_keeper.specs.Keeping.{EachAtItsPath};
+    ghost use Rattle.sw_keeper.specs.Keeping as keeping;
 
-    ghost Value = { ran.Table };
+    ghost Value = { keeping.Table };
 
     ghost coded = { Prim.hlevel (codes, expr.the_row.coded, statement.the_row.coded, plain.the_row.coded) };
 
     ghost view = { λ kept. kept.table };
 
-    ghost invariant = { λ kept. EachAtItsPath kept.table };
+    ghost invariant = { λ kept. keeping.EachAtItsPath kept.table };
 }
 
 impl<R: Reader, E: Engine> KeptRuns<R, E> {

@@ -13,7 +13,9 @@ mod outside;
 mod reader;
 mod reading;
 mod results;
+mod setting;
 
 pub use keeper::Keeper;
 pub use laws::{css_is_of_runs, keeps_the_latest};
 pub use reader::Reader;
+pub use setting::HasSetting;

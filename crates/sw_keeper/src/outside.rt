@@ -1,13 +1,12 @@
 // What is outside the bodies, lent for the questions that are no loads.
 ghost use Rattle.std.specs.Prelude.{◌≡◌, ◌≤◌, ◌++◌, ℕ, List, [], length, take, IfOk, OnErr};
 ghost use Rattle.sw_world.specs.Progress.{Running, IsBody, stops, ran_by};
-ghost use Rattle.sw_modules.specs.Fresh.{setting_of};
 ghost use Rattle.sw_record.specs.Kept.{job_of};
 ghost use Rattle.sw_keeper.specs.Steps.{WentOn};
 ghost use Rattle.sw_keeper.specs.Cuts.{RestCut};
 ghost use Rattle.sw_keeper.specs.Replays.{AskedTo};
 
-use crate::Reader;
+use crate::{HasSetting, Reader};
 use std::alloc::Global;
 use sw_modules::{Asked, Live};
 use sw_record::{Replayed, Run, replay};
@@ -24,7 +23,7 @@ fn go_asked<R: Reader, E: Engine, H: Hosts>(
 ) -> Result<Turn, Memory>
     requires runs { (E.progress body.old).status ≡ Running }
     requires is_body { IsBody E.body (E.progress body.old) }
-    ensures went { IfOk result (λ _. WentOn (setting_of H.answer H.after R.reads E.body) (E.progress body.old)
+    ensures went { IfOk result (λ _. WentOn ⟦<(R, E, H) as HasSetting>⟧.setting (E.progress body.old)
         (E.progress body.new)
         (record { live = asked.old.live.now; hosts = H.state asked.old.hosts.now })
         (record { live = asked.new.live.now; hosts = H.state asked.new.hosts.now })) }
@@ -35,7 +34,7 @@ fn go_asked<R: Reader, E: Engine, H: Hosts>(
         × ((E.progress body.new).left ≡ [])) }
     ensures ran { IfOk result (λ turn. E.ran engine.new
         ≡ E.ran engine.old ++ ran_by turn (E.progress body.new).job.path) }
-    ensures cut { OnErr result (RestCut (setting_of H.answer H.after R.reads E.body) (E.progress body.old).job
+    ensures cut { OnErr result (RestCut ⟦<(R, E, H) as HasSetting>⟧.setting (E.progress body.old).job
         ((E.progress body.old).seen ++ (E.progress body.old).left)
         (record { live = asked.old.live.now; hosts = H.state asked.old.hosts.now })
         (record { live = asked.new.live.now; hosts = H.state asked.new.hosts.now })
@@ -58,7 +57,7 @@ pub(crate) fn go_outside<R: Reader, E: Engine, H: Hosts>(
 ) -> Result<Turn, Memory>
     requires runs { (E.progress body.old).status ≡ Running }
     requires is_body { IsBody E.body (E.progress body.old) }
-    ensures went { IfOk result (λ _. WentOn (setting_of H.answer H.after R.reads E.body) (E.progress body.old)
+    ensures went { IfOk result (λ _. WentOn ⟦<(R, E, H) as HasSetting>⟧.setting (E.progress body.old)
         (E.progress body.new)
         (record { live = live.old; hosts = H.state hosts.old })
         (record { live = live.new; hosts = H.state hosts.new })) }
@@ -68,7 +67,7 @@ pub(crate) fn go_outside<R: Reader, E: Engine, H: Hosts>(
         × ((E.progress body.new).left ≡ [])) }
     ensures ran { IfOk result (λ turn. E.ran engine.new
         ≡ E.ran engine.old ++ ran_by turn (E.progress body.new).job.path) }
-    ensures cut { OnErr result (RestCut (setting_of H.answer H.after R.reads E.body) (E.progress body.old).job
+    ensures cut { OnErr result (RestCut ⟦<(R, E, H) as HasSetting>⟧.setting (E.progress body.old).job
         ((E.progress body.old).seen ++ (E.progress body.old).left)
         (record { live = live.old; hosts = H.state hosts.old })
         (record { live = live.new; hosts = H.state hosts.new })
@@ -88,11 +87,11 @@ fn replay_asked<R: Reader, E: Engine, H: Hosts>(
     from: usize,
 ) -> Result<Replayed, Memory>
     requires { from ≤ length run.now.run.seen }
-    ensures to { IfOk result (λ replayed. AskedTo (setting_of H.answer H.after R.reads E.body) run.now from replayed
+    ensures to { IfOk result (λ replayed. AskedTo ⟦<(R, E, H) as HasSetting>⟧.setting run.now from replayed
         (record { live = asked.old.live.now; hosts = H.state asked.old.hosts.now })
         (record { live = asked.new.live.now; hosts = H.state asked.new.hosts.now })) }
     ensures same_live { IfOk result (λ _. asked.new.live.ghost_name ≡ asked.old.live.ghost_name) }
-    ensures cut { OnErr result ((told : List (List ℕ)) → RestCut (setting_of H.answer H.after R.reads E.body)
+    ensures cut { OnErr result ((told : List (List ℕ)) → RestCut ⟦<(R, E, H) as HasSetting>⟧.setting
         (job_of run.now) (take from run.now.run.seen)
         (record { live = asked.old.live.now; hosts = H.state asked.old.hosts.now })
         (record { live = asked.new.live.now; hosts = H.state asked.new.hosts.now }) told told) }
@@ -115,10 +114,10 @@ pub(crate) fn replay_outside<R: Reader, E: Engine, H: Hosts>(
     from: usize,
 ) -> Result<Replayed, Memory>
     requires { from ≤ length run.now.run.seen }
-    ensures to { IfOk result (λ replayed. AskedTo (setting_of H.answer H.after R.reads E.body) run.now from replayed
+    ensures to { IfOk result (λ replayed. AskedTo ⟦<(R, E, H) as HasSetting>⟧.setting run.now from replayed
         (record { live = live.old; hosts = H.state hosts.old })
         (record { live = live.new; hosts = H.state hosts.new })) }
-    ensures cut { OnErr result ((told : List (List ℕ)) → RestCut (setting_of H.answer H.after R.reads E.body)
+    ensures cut { OnErr result ((told : List (List ℕ)) → RestCut ⟦<(R, E, H) as HasSetting>⟧.setting
         (job_of run.now) (take from run.now.run.seen)
         (record { live = live.old; hosts = H.state hosts.old })
         (record { live = live.new; hosts = H.state hosts.new }) told told) }

@@ -8,7 +8,7 @@ use crate::context::Opening;
 use crate::kept::KeptRun;
 use std::alloc::Global;
 use std::marker::Model;
-use sw_record::{Cause, Run};
+use sw_record::{Cause, Run, Trace};
 use sw_syntax_tree::Sheet;
 use sw_text::{List, Memory, Name, Shared};
 use sw_world::{Answer, End, Engine, Op, Share};
@@ -26,12 +26,15 @@ pub(crate) fn run_ended<E: Engine>(
     ensures { IfOk result (λ run. run
         ≡ record { sheet = sheet.now; run = run_of (job_at sheet.now opening.now) opening.now.text seen end }) }
 {
-    let path = opening.path.share()?;
-    let text = opening.text.share()?;
-    let sheet = sheet.share()?;
-    let config = opening.config.share()?;
-    let seen = Shared::new(alloc, seen)?;
-    Run::new(alloc, path, text, sheet, config, seen, end)
+    let trace = Trace {
+        path: opening.path.share()?,
+        text: opening.text.share()?,
+        sheet: sheet.share()?,
+        config: opening.config.share()?,
+        seen: Shared::new(alloc, seen)?,
+        end,
+    };
+    Run::new(alloc, trace)
 }
 
 /// The runs that ended in a compile, kept ones and new ones, and the modules whose bodies ran, each with its cause;
