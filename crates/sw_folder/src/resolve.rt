@@ -58,8 +58,8 @@ impl From<Memory> for ResolveFault {
 /// Room for most paths.
 const PATH_ROOM: usize = 64;
 
-/// The segments of a place in the folder; few paths have more than sixteen.
-type Place<'a> = SmallVec<&'a str, 16>;
+/// The segments of a place in the folder; few paths have more than eight.
+type Place<'a> = SmallVec<&'a str, 8>;
 
 impl Folder {
     /// The path of the file that a URL means in the sheet `from`: the URL is joined to the folder of that sheet, then
@@ -95,14 +95,14 @@ impl Folder {
         if !go_up(&mut place) {
             return Ok(None);
         }
-        self.further(place, url)
+        self.further(&mut place, url)
     }
 
-    fn further<'a>(&self, mut place: Place<'a>, url: &'a str) -> Result<Option<Name>, ResolveFault>
+    fn further<'a>(&self, place: &mut Place<'a>, url: &'a str) -> Result<Option<Name>, ResolveFault>
         ensures { IsResolution result (first_choice self.now
-            (groups_at (walk (map (λ segment. segment.now) place.entry.items) (segments url.now)))) }
+            (groups_at (walk (map (λ segment. segment.now) place.old.items) (segments url.now)))) }
     {
-        if !walk(&mut place, url)? {
+        if !walk(place, url)? {
             return Ok(None);
         }
         self.at(place.as_slice())
@@ -116,7 +116,7 @@ impl Folder {
         if !walk(&mut place, base)? {
             return Ok(None);
         }
-        self.further(place, url)
+        self.further(&mut place, url)
     }
 
     fn on_paths(&self, url: &str, paths: &[Name]) -> Result<Option<Name>, ResolveFault>

@@ -68,6 +68,14 @@ impl Loaded {
         self.entries.len()
     }
 
+    /// Makes room for so many more.
+    pub(crate) fn reserve(&mut self, count: usize) -> Result<(), Memory>
+        ensures { self.new ≡ self.old }
+    {
+        self.entries.reserve(count)?;
+        Ok(())
+    }
+
     /// Adds the module at a path that this body left behind, as yet without its uses. After `Memory` the modules are as
     /// before.
     pub(crate) fn add_ended(
@@ -90,8 +98,9 @@ impl Loaded {
     pub(crate) fn set_uses(&mut self, path: &Name, uses: Uses)
         ensures { self.new ≡ used_by self.old path.now uses }
     {
-        if let Some(held) = self.entries.get_mut(path) {
-            held.set_uses(uses);
+        match self.entries.get_mut(path) {
+            Some(held) => held.set_uses(uses),
+            None => drop(uses),
         }
     }
 
