@@ -28,6 +28,7 @@ fn room_at(source: &Source, at: usize) -> usize {
 }
 
 /// Puts a statement behind the others, where there is room for so many before the first.
+#[inline(always)]
 fn push_one(list: &mut Vec<Statement>, statement: Statement, room: usize) -> Result<(), Memory>
     ensures { OnOk result (list.new.items ≡ list.old.items ++ statement ∷ []) }
 {
@@ -38,6 +39,7 @@ fn push_one(list: &mut Vec<Statement>, statement: Statement, room: usize) -> Res
     Ok(())
 }
 
+#[inline(always)]
 fn added(list: &mut Vec<Statement>, item: Option<Statement>, room: usize) -> Result<(), Memory>
     ensures { OnOk result (map States list.new.items ≡ map States list.old.items ++ statement_in item) }
 {
@@ -48,6 +50,7 @@ fn added(list: &mut Vec<Statement>, item: Option<Statement>, room: usize) -> Res
 }
 
 /// Puts what was read behind the others.
+#[inline(always)]
 fn grown(list: &mut Vec<Statement>, item: Option<Statement>, room: usize) -> Result<(), ReadError>
     ensures more { OnOk result (map States list.new.items ≡ map States list.old.items ++ statement_in item) }
     ensures memory { IfErr result (λ error. error ≡ ReadError.Memory) }
