@@ -40,6 +40,7 @@ pub(crate) fn piece_of(inserted: Inserted) -> Piece
     }
 }
 
+#[inline(never)]
 fn pieces_of(
     alloc: Global,
     source: &Source,
@@ -64,6 +65,7 @@ fn pieces_of(
     Ok(List::from_vec(pieces))
 }
 
+#[inline(always)]
 fn parts_by(
     alloc: Global,
     source: &Source,
@@ -80,6 +82,7 @@ fn parts_by(
 }
 
 /// What a text from the token at a place to the one before another is made of.
+#[inline(always)]
 pub fn parts_of(
     alloc: Global,
     source: &Source,

@@ -1,5 +1,5 @@
 -- How a call ends, by what the table's reader answers.
-use Rattle.std.proofs.Common.{◌≡◌, ℕ, [], ◌∷◌, inl, inr, sym, subst, Result, Ok, Err}
+use Rattle.std.proofs.Common.{ℕ, [], ◌∷◌, inl, inr, sym, subst, Result, Ok, Err}
 use Rattle.sw_grammar.specs.Readers.{ReadsForm}
 use Rattle.sw_grammar.specs.Grammar.{Unexpected, TooDeep}
 use Rattle.sw_grammar.specs.declared.ReadError.{ReadError}

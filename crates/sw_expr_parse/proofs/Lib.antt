@@ -1,5 +1,6 @@
 pub mod Choices
 pub mod Repeated
 pub mod Climb
+pub mod Alone
 pub mod Endings
 pub mod Forms

@@ -1,5 +1,5 @@
 -- What reading an expression at a place in a sheet's tokens gives: its tree and the place behind it, or the fault.
-use Rattle.std.specs.Prelude.{◌≡◌, ℕ, ◌⊎◌, List, [], ◌∷◌, Option, Some, None, Result, Ok, Err, length}
+use Rattle.std.specs.Prelude.{◌≡◌, ℕ, ◌⊎◌, [], ◌∷◌, Option, Some, None, Result, Ok, Err, length}
 use Rattle.sw_grammar.specs.Grammar.{Answer, Got, Unexpected, TooDeep}
 use Rattle.sw_grammar.specs.Levels.{ReadsDeep}
 use Rattle.sw_grammar.specs.declared.ReadError.{ReadError}

@@ -114,6 +114,9 @@ fn signed_of(
     ensures { IfOk result (λ value. prefixed (span_between source.now at place) signs (operand ∷ []) ≡ Values value
         ∷ []) }
 {
+    if signs.is_empty() {
+        return Ok(operand);
+    }
     match span_between(source, at, place) {
         Ok(span) => prefixed(alloc, signs, operand, span),
         Err(error) => Err(given_up((signs, operand), error)),

@@ -1,15 +1,21 @@
 // The readers of whole expressions.
-ghost use Rattle.std.specs.Prelude.{◌<◌};
+ghost use Rattle.std.specs.Prelude.{◌≡◌, ◌<◌, length, IsTrue};
+ghost use Rattle.sw_grammar.specs.Grammar.{member};
+ghost use Rattle.sw_syntax.specs.Sources.{terminal_at};
 ghost use Rattle.sw_syntax.specs.Expressions.{space, sum, expr};
 ghost use Rattle.sw_syntax.specs.Reads.{reads, ReadsValue};
+ghost use Rattle.sw_expr_parse.specs.Alone.{enders, is_alone};
 
 use crate::chain::chain_at;
 use crate::space::space_by;
 use std::alloc::Global;
 use sw_expr_inner::expr_at;
+use sw_expr_nodes::text_of;
 use sw_grammar::ReadError;
-use sw_syntax::Source;
-use sw_syntax_tree::Expr;
+use sw_syntax::{Source, found, is_at};
+use sw_syntax_tree::{Expr, ExprKind};
+use sw_terminals::Terminal;
+use sw_text::List;
 
 /// The expression without commas at a place, where so many levels of brackets may be opened, and the place behind it.
 pub fn read_space(
@@ -35,6 +41,39 @@ pub fn read_space(
     )
 }
 
+/// Whether a word stands at a place, and the statement ends behind it.
+fn is_alone(source: &Source, at: usize) -> bool
+    ensures test { result ≡ is_alone source.now at }
+    ensures within { IsTrue result → at < length source.now.lexemes.now }
+{
+    is_at(source, at, Terminal::Word) && ends_statement(source, at + 1)
+}
+
+fn ends_statement(source: &Source, at: usize) -> bool
+    ensures { result ≡ member (terminal_at source.now at) enders }
+{
+    is_at(source, at, Terminal::Semicolon) || is_at(source, at, Terminal::Close)
+}
+
+/// The word that stands there as a value: most values are one, which the descent through all operators needn't find.
+fn word_alone_at(
+    alloc: Global,
+    source: &Source,
+    levels: u8,
+    at: usize,
+) -> Result<(Expr, usize), ReadError>
+    requires alone { IsTrue (is_alone source.now at) }
+    requires within { at < length source.now.lexemes.now }
+    ensures { ReadsValue result (reads source.now levels expr at) }
+{
+    let word = found(text_of(alloc, source, at, at + 1, List::new(alloc)))?;
+    let value = Expr {
+        kind: ExprKind::Word(word.parts),
+        span: word.span,
+    };
+    Ok((value, at + 1))
+}
+
 /// The same of an expression with commas.
 pub fn read_value(
     alloc: Global,
@@ -44,6 +83,9 @@ pub fn read_value(
 ) -> Result<(Expr, usize), ReadError>
     ensures { ReadsValue result (reads source.now levels expr at) }
 {
+    if is_alone(source, at) {
+        return word_alone_at(alloc, source, levels, at);
+    }
     expr_at(
         alloc,
         |lower: u8, place: usize| -> Result<(Expr, usize), ReadError>

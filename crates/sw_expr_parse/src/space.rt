@@ -25,6 +25,9 @@ fn space_of(
 ) -> Result<Expr, Memory>
     ensures { IfOk result (λ value. spaced (span_between source.now at place) (first ∷ rest) ≡ Values value ∷ []) }
 {
+    if rest.is_empty() {
+        return Ok(first);
+    }
     match span_between(source, at, place) {
         Ok(span) => spaced(first, rest, span),
         Err(error) => Err(given_up((first, rest), error)),

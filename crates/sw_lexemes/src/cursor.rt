@@ -66,7 +66,14 @@ fn step(cursor: Cursor, byte: u8) -> Cursor
     ensures line { result.line ≤ cursor.line + 1 }
     ensures column { result.column ≤ cursor.column + 1 }
 {
-    if byte == b'\n' && cursor.returned {
+    // Most bytes are characters of their own and no line breaks, which one look tells.
+    if byte > b'\r' && byte < 128 {
+        Cursor {
+            column: cursor.column + 1,
+            returned: false,
+            ..cursor
+        }
+    } else if byte == b'\n' && cursor.returned {
         Cursor {
             column: 1,
             returned: false,

@@ -150,6 +150,7 @@ fn mode_of(frame: Option<Frame>, mode: Mode) -> Mode
     }
 }
 
+#[inline(always)]
 fn stepped(state: &mut State, mode: Mode, word: bool, terminal: Terminal)
     ensures { state.new ≡ stepped state.old mode word terminal }
 {
@@ -194,6 +195,7 @@ fn inserted(state: &mut State)
     below_insert(&mut state.frames)
 }
 
+#[inline(always)]
 fn closed(state: &mut State, terminal: Terminal)
     ensures value { state.new ≡ after_opening state.old terminal None }
     ensures none { state.new.ignored ≡ 0 }
@@ -211,6 +213,7 @@ fn closed(state: &mut State, terminal: Terminal)
 
 /// Goes behind a token of a terminal.
 #[tactic(auto, unfolding(crate::specs::Steps::after))]
+#[inline(always)]
 pub(crate) fn after(state: &mut State, terminal: Terminal) -> Result<(), Memory>
     ensures value { OnOk result (state.new ≡ after state.old terminal) }
     ensures none { OnOk result (state.new.ignored ≡ 0) }

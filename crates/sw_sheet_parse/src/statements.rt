@@ -1,5 +1,5 @@
 // The readers of statements, one behind the other.
-ghost use Rattle.std.specs.Prelude.{◌≡◌, ◌<◌, ◌++◌, map, OnOk, IfErr};
+ghost use Rattle.std.specs.Prelude.{◌≡◌, ◌<◌, ◌++◌, ◌∷◌, [], map, OnOk, IfErr};
 ghost use Rattle.sw_syntax.specs.Parts.{States};
 ghost use Rattle.sw_syntax.specs.Reads.{reader};
 ghost use Rattle.sw_expr_inner.specs.Deeper.{Callable};
@@ -14,21 +14,48 @@ use sw_syntax::{Source, found};
 use sw_syntax_tree::Statement;
 use sw_text::{List, Memory};
 
-fn added(list: &mut List<Statement>, item: Option<Statement>) -> Result<(), Memory>
-    ensures { OnOk result (map States list.new ≡ map States list.old ++ statement_in item) }
+// A statement of a whole sheet has about so many tokens, with those of its block.
+const TOKENS_OF_ONE: usize = 6;
+
+/// For how many statements room is made at a place before the first: most blocks have one or a few, and a whole sheet
+/// has one of every few tokens.
+fn room_at(source: &Source, at: usize) -> usize {
+    if at == 0 {
+        source.lexemes.len() / TOKENS_OF_ONE + 1
+    } else {
+        1
+    }
+}
+
+/// Puts a statement behind the others, where there is room for so many before the first.
+#[inline(always)]
+fn push_one(list: &mut Vec<Statement>, statement: Statement, room: usize) -> Result<(), Memory>
+    ensures { OnOk result (list.new.items ≡ list.old.items ++ statement ∷ []) }
+{
+    if list.is_empty() {
+        list.reserve_exact(room)?;
+    }
+    list.push(statement)?;
+    Ok(())
+}
+
+#[inline(always)]
+fn added(list: &mut Vec<Statement>, item: Option<Statement>, room: usize) -> Result<(), Memory>
+    ensures { OnOk result (map States list.new.items ≡ map States list.old.items ++ statement_in item) }
 {
     match item {
         None => Ok(()),
-        Some(statement) => list.push(statement),
+        Some(statement) => push_one(list, statement, room),
     }
 }
 
 /// Puts what was read behind the others.
-fn grown(list: &mut List<Statement>, item: Option<Statement>) -> Result<(), ReadError>
-    ensures more { OnOk result (map States list.new ≡ map States list.old ++ statement_in item) }
+#[inline(always)]
+fn grown(list: &mut Vec<Statement>, item: Option<Statement>, room: usize) -> Result<(), ReadError>
+    ensures more { OnOk result (map States list.new.items ≡ map States list.old.items ++ statement_in item) }
     ensures memory { IfErr result (λ error. error ≡ ReadError.Memory) }
 {
-    found(added(list, item))
+    found(added(list, item, room))
 }
 
 /// Any number of statements, over a reader of those in blocks.
@@ -44,14 +71,16 @@ fn statements_by<S: Fn(u8, usize) -> Result<(List<Statement>, usize), ReadError>
     requires reading { ReadingInner (S.Fn.post inner) source.now levels }
     ensures { ReadsStatements result (reader source.now levels (statements source.now) at) }
 {
-    let mut list = List::new(alloc);
+    let mut list = Vec::new(alloc);
+    let room = room_at(source, at);
     let mut place = at;
     'items: while begins_statement(source, place) {
         let (item, next) = statement_at(alloc, inner, source, levels, place)?;
-        grown(&mut list, item)?;
+        grown(&mut list, item, room)?;
         place = next;
     }
-    Ok((list, place))
+    list.shrink_to_fit();
+    Ok((List::from_vec(list), place))
 }
 
 /// The statements from a place on, where so many levels of brackets may be opened, and the place behind them.

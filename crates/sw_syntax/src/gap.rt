@@ -33,6 +33,7 @@ fn is_silent(silent: bool, byte: u8) -> bool
 }
 
 /// From the token at a place to the one before another.
+#[inline(always)]
 pub fn stretch_between(source: &Source, at: usize, place: usize) -> Stretch
     ensures stretch { result ≡ stretch_between source.now at place }
     ensures cut { IsCut source.now result }
@@ -102,6 +103,7 @@ fn add_blank(text: &mut String, gap: &[u8]) -> Result<(), Memory>
 
 /// Whether a comment stands between the token at a place and the one before.
 #[tactic(auto, unfolding(crate::specs::Sources::is_commented))]
+#[inline(always)]
 fn is_commented(source: &Source, at: usize) -> bool
     ensures { result ≡ is_commented source.now at }
 {
@@ -170,6 +172,7 @@ fn add_gap(text: &mut String, source: &Source, at: usize) -> Result<(), Memory>
 }
 
 /// Whether comments stand behind the tokens from a place to before another.
+#[inline(always)]
 fn has_comments(source: &Source, first: usize, end: usize) -> bool
     ensures { (to from : ℕ) → result ≡ false → said_from source.now to from first (end - first) ≡ bytes_from source.now
         from to }
@@ -199,6 +202,7 @@ fn add_before(text: &mut String, source: &Source, from: u32, at: usize) -> Resul
 }
 
 /// Adds the text of a stretch without the comments in it.
+#[inline(never)]
 fn add_said(text: &mut String, source: &Source, stretch: &Stretch) -> Result<(), Memory>
     requires { IsCut source.now stretch.now }
     ensures { OnOk result (string_bytes text.new ≡ string_bytes text.old ++ said_from source.now stretch.now.to
@@ -219,6 +223,7 @@ fn add_said(text: &mut String, source: &Source, stretch: &Stretch) -> Result<(),
 
 /// The text of a stretch without the comments in it.
 #[tactic(auto, unfolding(crate::specs::Sources::said))]
+#[inline(always)]
 pub fn said(alloc: Global, source: &Source, stretch: &Stretch) -> Result<Name, Memory>
     requires { IsCut source.now stretch.now }
     ensures { IfOk result (λ name. name ≡ said source.now stretch.now) }

@@ -25,5 +25,5 @@ items-preserved g c =
 
 pub returns : goal.returns
 returns g c =
-    loop_end (fit c.args.source.now) c.args.levels (statement c.args.source.now) (repeated c.args.source.now).all _ _ _ c.items.invariant
-    (at_first (statement c.args.source.now) _ _ false (repeated c.args.source.now).starts (sym c.items-test.ensures.test))
+    rw (c.from_vec.ensures, c.shrink_to_fit.ensures.items) (loop_end (fit c.args.source.now) c.args.levels (statement c.args.source.now) (repeated c.args.source.now).all _ _ _ c.items.invariant
+    (at_first (statement c.args.source.now) _ _ false (repeated c.args.source.now).starts (sym c.items-test.ensures.test)))

@@ -7,7 +7,7 @@ use Rattle.sw_sheet_parse.proofs.statements.statements_by.Given as goal
 
 abbrev pub invariant-items : goal.invariant-items
 invariant-items g l =
-    prepend (map States l.list) (reader l.source l.levels (many (statement l.source)) l.place)
+    prepend (map States l.list.items) (reader l.source l.levels (many (statement l.source)) l.place)
     ≡ reader l.source l.levels (many (statement l.source)) l.at
 
 abbrev pub decreases-items : goal.decreases-items
