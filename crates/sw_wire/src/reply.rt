@@ -8,6 +8,9 @@ use sw_record::{Cause, Outcome, Reply};
 use sw_text::{Fault, Memory, Name, Pos, Span};
 use sw_world::{SayKind, Saying};
 
+/// Room for the line in front of the CSS, and what stands behind it.
+const LINE_ROOM: usize = 32;
+
 /// Writes the reply to a compile behind what stands in `out`: for each message the line `warn PATH L:C L:C N`,
 /// `debug PATH L:C L:C N` or `fatal PATH L:C L:C N`, the N bytes of its text and a line feed; for each module whose
 /// body ran the line `ran PATH CAUSE`; then `css N`, a line feed, the N bytes and a line feed, or the line
@@ -137,6 +140,7 @@ fn write_css(alloc: Global, bytes: &[u8], out: &mut Vec<u8>) -> Result<(), Memor
 {
     let count = bytes.len();
     let head = format!(in alloc; "css {count}\n")?;
+    out.reserve(bytes.len().saturating_add(LINE_ROOM))?;
     out.extend_from_slice(head.as_bytes())?;
     out.extend_from_slice(bytes)?;
     out.extend_from_slice(b"\n")?;
