@@ -10,7 +10,7 @@ use Rattle.sw_record.specs.declared.reply.Cause.{Cause}
 use Rattle.sw_record.specs.declared.reply.Reply.{Reply}
 use Rattle.sw_record.specs.Ran.{Ran}
 use Rattle.sw_keeper.specs.Compile.{Compile as Compiled, compiled, paths_of}
-use Rattle.sw_keeper.specs.Keeping.{Tables, table_of, kept_after}
+use Rattle.sw_keeper.specs.Keeping.{Tables, kept_for, kept_after}
 use Rattle.sw_protocol.specs.declared.stop.Stop.{Stop}
 use Rattle.sw_protocol.specs.declared.stop.Stop.TheVariants.{Ended, Wrong, CutOff, SourceFailed, SinkFailed, Memory, OutsideFailed, Over as Over_stop}
 use Rattle.sw_protocol.specs.Script.{Next, Whole, Closing, NoRequest, Ending, End, Bad, Over, Grammar}
@@ -84,10 +84,10 @@ turn_of setting h Scan (Refused course folder ran) = refused_turn h course ran
 turn_of setting h Scan (Unread course) = unread_turn h course
 
 -- the folder is the one that was read; the bodies that an answered compile's mark tells of are the runs of its
--- evaluation that aren't the kept ones, in order, each with its cause
+-- evaluation that are none of the kept ones, in order, each with its cause
 abbrev pub IsMark : Setting → Held → Event → Mark → Type 0
 IsMark setting h Scan (Answered course folder ran) =
-    IsRead h.course course folder × Ran (table_of h.kept h.target.entry) (compiled_of setting h folder).runs ran
+    IsRead h.course course folder × Ran (kept_for h.kept h.target.entry) (compiled_of setting h folder).runs ran
 IsMark setting h Scan (Refused course folder ran) = IsRead h.course course folder
 IsMark setting h Scan (Unread course) = IsBrokenOff h.course course
 

@@ -1,27 +1,21 @@
 -- What one compile of a disk's folder gives, by how it ended. This project's own rule.
-use Rattle.std.specs.Prelude.{◌≡◌, ℕ, List, [], ◌++◌, Option, None, Result}
+use Rattle.std.specs.Prelude.{◌≡◌, ℕ, List, [], ◌++◌, Option}
 use Rattle.std.specs.Io.KnownBytes.{Appends}
 use Rattle.sw_text.specs.declared.fault.Fault.{Fault}
 use Rattle.sw_io.specs.Disks.{Course}
 use Rattle.sw_folder.specs.Files.{Files}
 use Rattle.sw_folders.specs.Held.{IsRead, IsBrokenOff}
 use Rattle.sw_command_line.specs.Forms.{Target}
-use Rattle.sw_syntax_tree.specs.declared.sheet.Sheet.{Sheet}
-use Rattle.sw_world.specs.Body.{BodyOf}
-use Rattle.sw_modules.specs.Fresh.{Setting, setting_of}
+use Rattle.sw_modules.specs.Fresh.{Setting}
 use Rattle.sw_record.specs.declared.reply.Outcome.{Outcome}
 use Rattle.sw_record.specs.declared.reply.Reply.{Reply}
 use Rattle.sw_record.specs.declared.reply.Outcome.TheVariants.{Css, Error}
-use Rattle.sw_record.specs.Ran.{Ran}
+use Rattle.sw_record.specs.Ran.{none_kept, Ran}
 use Rattle.sw_keeper.specs.Compile.{compiled, paths_of}
 use Rattle.sw_wire.specs.Replies.{fault_text}
 use Rattle.sw_protocol.specs.Heard.{Hearing}
 use Rattle.sw_disk_compile.specs.declared.ending.Ending.{Ending}
 use Rattle.sw_disk_compile.specs.declared.ending.Ending.TheVariants.{Css as Css_end, Error as Error_end, SinkFailed, Memory, DiskFailed}
-
--- without functions of a host
-abbrev pub hostless : (List ℕ → List ℕ → Result Sheet Fault) → BodyOf → Setting
-hostless reads body = setting_of (λ state name args. None) (λ state name args. state) reads body
 
 -- what is around a compile: what the disk tells of the folder, the bytes written, and the paths of the bodies that ran
 pub record Surroundings : Type 0 where
@@ -50,7 +44,7 @@ pub record Compiles (setting : Setting) (target : Target) (reply : Reply) (old n
   pub read : IsRead old.course new.course folder
   pub says : reply.says ≡ (compiled setting folder target.paths target.entry []).says
   pub outcome : reply.outcome ≡ (compiled setting folder target.paths target.entry []).outcome
-  pub bodies : Ran [] (compiled setting folder target.paths target.entry []).runs reply.ran
+  pub bodies : Ran none_kept (compiled setting folder target.paths target.entry []).runs reply.ran
   pub told : new.ran ≡ old.ran ++ paths_of reply.ran
 
 -- what is to be written of an outcome was written, and then the whole reply was heard

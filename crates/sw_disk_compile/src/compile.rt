@@ -3,7 +3,8 @@ ghost use Rattle.std.specs.Prelude.{◌≡◌, IfOk};
 ghost use Rattle.sw_io.specs.Causes.{Rose};
 ghost use Rattle.sw_wire.specs.Replies.{fault_text};
 ghost use Rattle.sw_command_line.specs.Forms.{target_seen};
-ghost use Rattle.sw_disk_compile.specs.Once.{surroundings, hostless, EndsBy, HearsBy, WritesBy};
+ghost use Rattle.sw_keeper.specs.Settings.{hostless};
+ghost use Rattle.sw_disk_compile.specs.Once.{surroundings, EndsBy, HearsBy, WritesBy};
 
 use crate::{Ending, Watched};
 use std::alloc::Global;

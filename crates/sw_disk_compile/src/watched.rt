@@ -4,7 +4,7 @@ ghost use Rattle.std.specs.FinMap as files;
 ghost use Rattle.sw_folder.specs.Files.{IsFolder};
 ghost use Rattle.sw_folder.specs.Edits.{after_removal, folder_after};
 ghost use Rattle.sw_keeper.specs.Compile.{compiled, CompilesTo, BreaksOff};
-ghost use Rattle.sw_disk_compile.specs.Once.{hostless};
+ghost use Rattle.sw_keeper.specs.Settings.{hostless};
 ghost use Rattle.sw_disk_compile.specs.Watched.{Covers};
 
 use std::alloc::Global;

@@ -1,23 +1,16 @@
 -- The folder of a made workload, what its compiles give, and what is told of them in the end. This project's own rule.
-use Rattle.std.specs.Prelude.{◌≡◌, ℕ, suc, zero, ◌+◌, List, [], ◌∷◌, ◌++◌, length, None, Result}
+use Rattle.std.specs.Prelude.{◌≡◌, ℕ, suc, zero, ◌+◌, List, [], ◌∷◌, ◌++◌, length}
 use Rattle.std.specs.FinMap.{empty}
-use Rattle.sw_text.specs.declared.fault.Fault.{Fault}
 use Rattle.sw_folder.specs.Files.{Files}
 use Rattle.sw_folder.specs.Edits.{after_put, folder_after}
-use Rattle.sw_syntax_tree.specs.declared.sheet.Sheet.{Sheet}
-use Rattle.sw_world.specs.Body.{BodyOf}
-use Rattle.sw_modules.specs.Fresh.{Setting, setting_of}
+use Rattle.sw_modules.specs.Fresh.{Setting}
 use Rattle.sw_record.specs.declared.reply.Outcome.{Outcome}
 use Rattle.sw_record.specs.declared.reply.Outcome.TheVariants.{Css, Error}
 use Rattle.sw_record.specs.declared.reply.Reply.{Reply}
 use Rattle.sw_record.specs.Ran.{Ran}
 use Rattle.sw_keeper.specs.Compile.{Compile, compiled, paths_of}
-use Rattle.sw_keeper.specs.Keeping.{Keeping, table_of, kept_after}
+use Rattle.sw_keeper.specs.Keeping.{Keeping, kept_for, kept_after}
 use Rattle.sw_made.specs.Texts.{lib_path, lib_text, parts_of, width_of, part_path, part_text, main_path, main_text, edited_place, edited_width, summary}
-
--- without functions of a host
-abbrev pub hostless : (List ℕ → List ℕ → Result Sheet Fault) → BodyOf → Setting
-hostless reads body = setting_of (λ state name args. None) (λ state name args. state) reads body
 
 -- a file is put
 abbrev pub with_file : List ℕ → List ℕ → Files → Files
@@ -65,11 +58,11 @@ held_after setting number (suc turn) =
     after_compile setting (at_turn number turn (held_after setting number turn))
 
 -- the reply to a compile of what is held: what the evaluation of its files from nothing gives, and the bodies whose run
--- there isn't the kept one
+-- there is none of the kept ones
 pub record IsReply (setting : Setting) (k : Keeping) (reply : Reply) : Type 0 where
   pub says : reply.says ≡ (compile_of setting k).says
   pub outcome : reply.outcome ≡ (compile_of setting k).outcome
-  pub ran : Ran (table_of k.kept main_path) (compile_of setting k).runs reply.ran
+  pub ran : Ran (kept_for k.kept main_path) (compile_of setting k).runs reply.ran
 
 -- the replies to so many compiles, in order
 abbrev pub AreReplies : Setting → ℕ → ℕ → List Reply → Type 0

@@ -2,7 +2,7 @@
 ghost use Rattle.std.specs.Prelude.{◌≡◌, ◌+◌, IfOk, OnErr};
 ghost use Rattle.sw_io.specs.Causes.{Rose};
 ghost use Rattle.sw_made.specs.Texts.{parts_of, summary};
-ghost use Rattle.sw_make.specs.Made.{hostless};
+ghost use Rattle.sw_keeper.specs.Settings.{hostless};
 ghost use Rattle.sw_make.specs.Ends.{standing, Counts, BreaksOff, EndsBy, WritesBy};
 
 use crate::workload::{compile, edit, folder_made};

@@ -2,7 +2,8 @@
 ghost use Rattle.std.specs.Prelude.{◌≡◌, ◌++◌, [], List, ℕ, IfOk, OnOk, OnErr};
 ghost use Rattle.sw_keeper.specs.Compile.{paths_of};
 ghost use Rattle.sw_made.specs.Texts.{parts_of, part_path, part_text};
-ghost use Rattle.sw_make.specs.Made.{hostless, with_file, with_parts, made, edited, after_compile, IsReply};
+ghost use Rattle.sw_keeper.specs.Settings.{hostless};
+ghost use Rattle.sw_make.specs.Made.{with_file, with_parts, made, edited, after_compile, IsReply};
 
 use std::alloc::Global;
 use sw_folder::EditFault;

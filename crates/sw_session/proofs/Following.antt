@@ -6,7 +6,7 @@ use Rattle.sw_modules.specs.Fresh.{Setting}
 use Rattle.sw_record.specs.declared.reply.Cause.{Cause}
 use Rattle.sw_record.proofs.One.{ran_is_one}
 use Rattle.sw_keeper.specs.Compile.{compiled}
-use Rattle.sw_keeper.specs.Keeping.{table_of}
+use Rattle.sw_keeper.specs.Keeping.{kept_for}
 use Rattle.sw_protocol.specs.declared.stop.Stop.{Stop}
 use Rattle.sw_protocol.specs.declared.stop.Stop.TheVariants.{Ended, Wrong, CutOff, SourceFailed, SinkFailed, Memory, OutsideFailed, Over}
 use Rattle.sw_protocol.specs.Script.{script, End}
@@ -58,7 +58,7 @@ compile_mark : (setting : Setting) (h : Held) (entry : List ℕ) (paths : List (
 compile_mark setting h entry paths Edited other a b e = absurd a
 compile_mark setting h entry paths (Answered ran) Edited a b e = absurd b
 compile_mark setting h entry paths (Answered ran) (Answered other) a b e =
-    ap (λ (x : List (List ℕ × Cause)). Answered x) (ran_is_one (table_of h.kept entry) (compiled setting h.folder paths entry h.hosts).runs ran other a b)
+    ap (λ (x : List (List ℕ × Cause)). Answered x) (ran_is_one (kept_for h.kept entry) (compiled setting h.folder paths entry h.hosts).runs ran other a b)
 compile_mark setting h entry paths (Answered ran) (Refused bodies calls) a b e = cc
 compile_mark setting h entry paths (Refused ran calls) Edited a b e = absurd b
 compile_mark setting h entry paths (Refused ran calls) (Answered other) a b e = cc

@@ -10,7 +10,7 @@ use Rattle.sw_record.specs.declared.reply.Cause.{Cause}
 use Rattle.sw_record.specs.declared.reply.Reply.{Reply}
 use Rattle.sw_record.specs.Ran.{Ran}
 use Rattle.sw_keeper.specs.Compile.{Compile as Compiled, compiled, paths_of, after_first}
-use Rattle.sw_keeper.specs.Keeping.{Tables, Keeping, table_of, kept_after}
+use Rattle.sw_keeper.specs.Keeping.{Tables, Keeping, kept_for, kept_after}
 use Rattle.sw_protocol.specs.declared.stop.Stop.{Stop}
 use Rattle.sw_protocol.specs.declared.stop.Stop.TheVariants.{Ended, Wrong, CutOff, SourceFailed, SinkFailed, Memory, OutsideFailed, Over}
 use Rattle.sw_protocol.specs.Protocol.{Protocol, Turn}
@@ -87,7 +87,7 @@ IsEditMark (Refused ran calls) = ⊥
 abbrev pub IsCompileMark : Setting → Held → List ℕ → List (List ℕ) → Mark → Type 0
 IsCompileMark setting h entry paths Edited = ⊥
 IsCompileMark setting h entry paths (Answered ran) =
-    Ran (table_of h.kept entry) (compiled setting h.folder paths entry h.hosts).runs ran
+    Ran (kept_for h.kept entry) (compiled setting h.folder paths entry h.hosts).runs ran
 IsCompileMark setting h entry paths (Refused ran calls) =
     calls ≤ length (compiled setting h.folder paths entry h.hosts).calls
 

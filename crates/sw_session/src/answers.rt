@@ -3,12 +3,11 @@ ghost use Rattle.std.specs.Prelude.{◌≡◌, ◌≤◌, List, ℕ, length, Non
 ghost use Rattle.std.specs.Io.KnownBytes.{Appends};
 ghost use Rattle.sw_io.specs.Causes.{HasCause};
 ghost use Rattle.sw_world.specs.Hosts.{HostState};
-ghost use Rattle.sw_modules.specs.Fresh.{Setting, setting_of};
+ghost use Rattle.sw_modules.specs.Fresh.{Setting};
 ghost use Rattle.sw_wire.specs.Replies.{reply_text};
 ghost use Rattle.sw_protocol.specs.Heard.{told_of};
 ghost use Rattle.sw_protocol.specs.Turns.{place, standing, Says, SaysSome, SayStops, Cause};
 ghost use Rattle.sw_session.specs.Script.{Compile, Remove};
-ghost use Rattle.sw_file_parse.specs.Files.{sheet_at};
 ghost use Rattle.sw_session.specs.Transcript.{holding, session};
 ghost use Rattle.sw_session.specs.Edits.{PutAnswers, PutStops, SendEnds};
 
@@ -17,6 +16,7 @@ use crate::reading::SheetReader;
 use crate::session::Session;
 use std::alloc::Global;
 use sw_io::{Failed, Reader, Sink, Source};
+use sw_keeper::HasSetting;
 use sw_protocol::{Stop, send};
 use sw_record::Reply;
 use sw_text::{List, Memory, Name};
@@ -34,12 +34,12 @@ impl<E: Engine> Session<E> {
         engine: &mut E,
         hosts: &mut H,
     ) -> Result<Option<Reply>, Stop>
-        ensures ok { IfOk result (λ reply. Says (session (setting_of H.answer H.after sheet_at E.body))
+        ensures ok { IfOk result (λ reply. Says (session ⟦<(SheetReader, E, H) as HasSetting>⟧.setting)
             (Compile entry.now paths.now) (told_of reply)
             (standing (holding self.old.keeper (H.state hosts.old)) (E.ran engine.old))
             (standing (holding self.new.keeper (H.state hosts.new)) (E.ran engine.new)) (K.written sink.old)
             (K.written sink.new)) }
-        ensures err { IfErr result (λ stop. SayStops (session (setting_of H.answer H.after sheet_at E.body)) stop
+        ensures err { IfErr result (λ stop. SayStops (session ⟦<(SheetReader, E, H) as HasSetting>⟧.setting) stop
             (Compile entry.now paths.now)
             (standing (holding self.old.keeper (H.state hosts.old)) (E.ran engine.old))
             (standing (holding self.new.keeper (H.state hosts.new)) (E.ran engine.new)) (K.written sink.old)

@@ -1,13 +1,13 @@
 // A whole session.
 ghost use Rattle.std.specs.Prelude.{◌≡◌};
 ghost use Rattle.sw_io.specs.Causes.{Rose};
-ghost use Rattle.sw_modules.specs.Fresh.{setting_of};
-ghost use Rattle.sw_file_parse.specs.Files.{sheet_at};
 ghost use Rattle.sw_session.specs.Served.{surroundings, ServedAndHeard, ServedWith};
 
+use crate::reading::SheetReader;
 use crate::session::Session;
 use std::alloc::Global;
 use sw_io::{Sink, Source};
+use sw_keeper::HasSetting;
 use sw_protocol::{Audience, Lines, Output, Service, Stop};
 use sw_record::Reply;
 use sw_world::{Engine, Hosts};
@@ -26,7 +26,7 @@ pub fn serve<S: Source, K: Sink, E: Engine, H: Hosts, T: Audience<Reply>>(
     engine: &mut E,
     hosts: &mut H,
 ) -> u8
-    ensures served { ServedWith (setting_of H.answer H.after sheet_at E.body) T.hears result
+    ensures served { ServedWith ⟦<(SheetReader, E, H) as HasSetting>⟧.setting T.hears result
         (surroundings (S.left source.old) (K.written output.old.sink) (E.ran engine.old) (H.state hosts.old))
         (surroundings (S.left source.new) (K.written output.new.sink) (E.ran engine.new) (H.state hosts.new))
         (T.state output.old.audience) (T.state output.new.audience) }
@@ -45,7 +45,7 @@ pub fn serve_within<S: Source, K: Sink, E: Engine, H: Hosts, T: Audience<Reply>>
     engine: &mut E,
     hosts: &mut H,
 ) -> Stop
-    ensures served { ServedAndHeard (setting_of H.answer H.after sheet_at E.body) T.hears most result
+    ensures served { ServedAndHeard ⟦<(SheetReader, E, H) as HasSetting>⟧.setting T.hears most result
         (surroundings (S.left source.old) (K.written output.old.sink) (E.ran engine.old) (H.state hosts.old))
         (surroundings (S.left source.new) (K.written output.new.sink) (E.ran engine.new) (H.state hosts.new))
         (T.state output.old.audience) (T.state output.new.audience) }

@@ -4,15 +4,13 @@ ghost use Rattle.std.specs.FinMap as files;
 ghost use Rattle.sw_protocol.specs.Heard.{told_of};
 ghost use Rattle.sw_protocol.specs.Turns.{place, standing, Answers, TurnEnds, Cause};
 ghost use Rattle.sw_session.specs.Script.{grammar};
-ghost use Rattle.sw_modules.specs.Fresh.{setting_of};
-ghost use Rattle.sw_file_parse.specs.Files.{sheet_at};
 ghost use Rattle.sw_session.specs.Transcript.{holding, session as protocol};
 
 use crate::reading::SheetReader;
 use crate::requests::{last_stop, request_in};
 use std::alloc::Global;
 use sw_io::{Sink, Source};
-use sw_keeper::Keeper;
+use sw_keeper::{HasSetting, Keeper};
 use sw_protocol::{Lines, Protocol, Stop};
 use sw_record::Reply;
 use sw_wire::Request;
@@ -40,8 +38,6 @@ impl<E: Engine> Session<E> {
 impl<E: Engine, H: Hosts> Protocol<E, H, Reply> for Session<E> {
     ghost use Rattle.sw_session.specs.Script.{Event};
     ghost use Rattle.sw_session.specs.Transcript.{Mark, Held, holding, session};
-    ghost use Rattle.sw_modules.specs.Fresh.{setting_of};
-    ghost use Rattle.sw_file_parse.specs.Files.{sheet_at};
 
     ghost Event = { Event };
 
@@ -49,7 +45,7 @@ impl<E: Engine, H: Hosts> Protocol<E, H, Reply> for Session<E> {
 
     ghost Held = { Held };
 
-    ghost rules = { session (setting_of H.answer H.after sheet_at E.body) };
+    ghost rules = { session ⟦<(SheetReader, E, H) as HasSetting>⟧.setting };
 
     ghost held = { λ s hosts. holding s.keeper (H.state hosts) };
 
@@ -87,13 +83,13 @@ fn turn<S: Source, K: Sink, E: Engine, H: Hosts>(
 ) -> Result<Option<Reply>, Stop>
     requires { length lines.old.reader ≤ 4096 }
     ensures ok { IfOk result (λ reply. Answers (grammar.front lines.old.line.items)
-        (protocol (setting_of H.answer H.after sheet_at E.body)) (told_of reply)
+        (protocol ⟦<(SheetReader, E, H) as HasSetting>⟧.setting) (told_of reply)
         (place lines.old.reader (S.left source.old) (K.written sink.old))
         (standing (holding session.old.keeper (H.state hosts.old)) (E.ran engine.old))
         (place lines.new.reader (S.left source.new) (K.written sink.new))
         (standing (holding session.new.keeper (H.state hosts.new)) (E.ran engine.new))) }
     ensures err { IfErr result (λ stop. TurnEnds (grammar.front lines.old.line.items)
-        (protocol (setting_of H.answer H.after sheet_at E.body)) stop
+        (protocol ⟦<(SheetReader, E, H) as HasSetting>⟧.setting) stop
         (place lines.old.reader (S.left source.old) (K.written sink.old))
         (standing (holding session.old.keeper (H.state hosts.old)) (E.ran engine.old))
         (place lines.new.reader (S.left source.new) (K.written sink.new))

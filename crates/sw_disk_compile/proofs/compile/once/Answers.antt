@@ -2,7 +2,8 @@ use Rattle.std.proofs.Common.{List, ℕ, refl, ap, ◌∙◌, subst}
 use Rattle.sw_folders.specs.Held.{IsRead, IsBrokenOff}
 use Rattle.sw_command_line.specs.Forms.{target_seen}
 use Rattle.sw_keeper.specs.Keeping.{Keeping}
-use Rattle.sw_disk_compile.specs.Once.{surroundings, hostless}
+use Rattle.sw_keeper.specs.Settings.{hostless}
+use Rattle.sw_disk_compile.specs.Once.{surroundings}
 use Rattle.sw_disk_compile.proofs.Compiling.{unread, compiles, ends_by}
 use Rattle.sw_disk_compile.proofs.compile.once.Goals as goal
 

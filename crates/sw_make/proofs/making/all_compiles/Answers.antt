@@ -1,6 +1,6 @@
 use Rattle.std.proofs.Common.{◌≡◌, ℕ, [], refl, sym, subst, arith}
 use Rattle.std.proofs.lemmas.List.{append-nil}
-use Rattle.sw_make.specs.Made.{hostless}
+use Rattle.sw_keeper.specs.Settings.{hostless}
 use Rattle.sw_make.specs.Ends.{standing, Counts}
 use Rattle.sw_make.proofs.Going.{going_start, nothing_yet, on_err, going_breaks, uncounted, going_on}
 use Rattle.sw_make.proofs.making.all_compiles.Goals as goal

@@ -1,4 +1,4 @@
-use Rattle.sw_make.specs.Made.{hostless}
+use Rattle.sw_keeper.specs.Settings.{hostless}
 use Rattle.sw_make.specs.Ends.{standing}
 use Rattle.sw_make.proofs.Summing.{sums}
 use Rattle.sw_make.proofs.making.make.Goals as goal
