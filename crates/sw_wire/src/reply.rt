@@ -11,6 +11,10 @@ use sw_world::{SayKind, Saying};
 /// Room for the line in front of the CSS, and what stands behind it.
 const LINE_ROOM: usize = 32;
 
+/// A reply has room for its CSS so many times. What an allocator gets back in one piece is about what it then keeps for the
+/// next, so a session's next replies find their memory there, and not at the system's.
+const CSS_ROOM: usize = 2;
+
 /// Writes the reply to a compile behind what stands in `out`: for each message the line `warn PATH L:C L:C N`,
 /// `debug PATH L:C L:C N` or `fatal PATH L:C L:C N`, the N bytes of its text and a line feed; for each module whose
 /// body ran the line `ran PATH CAUSE`; then `css N`, a line feed, the N bytes and a line feed, or the line
@@ -140,7 +144,7 @@ fn write_css(alloc: Global, bytes: &[u8], out: &mut Vec<u8>) -> Result<(), Memor
 {
     let count = bytes.len();
     let head = format!(in alloc; "css {count}\n")?;
-    out.reserve(bytes.len().saturating_add(LINE_ROOM))?;
+    out.reserve(room_of(bytes))?;
     out.extend_from_slice(head.as_bytes())?;
     out.extend_from_slice(bytes)?;
     out.extend_from_slice(b"\n")?;
@@ -217,4 +221,11 @@ pub fn memory_reply() -> &'static [u8]
     ensures { result.now ≡ memory_text }
 {
     b"memory\n"
+}
+
+fn room_of(bytes: &[u8]) -> usize {
+    bytes
+        .len()
+        .saturating_mul(CSS_ROOM)
+        .saturating_add(LINE_ROOM)
 }
