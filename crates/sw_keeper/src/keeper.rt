@@ -184,11 +184,11 @@ fn kept_of<'k, R: Reader, E: Engine>(
     }
 }
 
-fn compile_folder<'f, R: Reader, E: Engine, H: Hosts>(
+fn compile_folder<R: Reader, E: Engine, H: Hosts>(
     within: &Within<'_, R, E>,
-    folder: &'f Folder,
+    folder: &Folder,
     entry: &Name,
-    paths: &'f [Name],
+    paths: &[Name],
     engine: &mut E,
     hosts: &mut H,
 ) -> Result<Compiled<R, E>, Memory>
@@ -199,7 +199,7 @@ fn compile_folder<'f, R: Reader, E: Engine, H: Hosts>(
         (H.state hosts.old) (H.state hosts.new) (E.ran engine.old) (E.ran engine.new)) }
 {
     let alloc = within.alloc;
-    let mut live = Live::with_room(alloc, folder, paths, within.kept.len())?;
+    let mut live = Live::new(alloc, folder, paths);
     match live.enter(entry)? {
         Enter::Refused(fault) => Ok(Compiled {
             reply: Reply {

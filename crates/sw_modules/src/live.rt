@@ -124,20 +124,6 @@ impl<'a> Live<'a> {
         }
     }
 
-    /// Nothing is loaded or open, and there is room for so many modules.
-    pub fn with_room(
-        alloc: Global,
-        folder: &'a Folder,
-        paths: &'a [Name],
-        count: usize,
-    ) -> Result<Live<'a>, Memory>
-        ensures { IfOk result (λ live. live ≡ nothing_loaded folder.now paths.now) }
-    {
-        let mut live = Live::new(alloc, folder, paths);
-        live.loaded.reserve(count)?;
-        Ok(live)
-    }
-
     /// The messages and the outputs. Takes no memory.
     pub fn finish(self) -> Finished
         ensures says { result.says ≡ self.entry.says }

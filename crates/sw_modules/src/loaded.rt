@@ -68,14 +68,6 @@ impl Loaded {
         self.entries.len()
     }
 
-    /// Makes room for so many more.
-    pub(crate) fn reserve(&mut self, count: usize) -> Result<(), Memory>
-        ensures { self.new ≡ self.old }
-    {
-        self.entries.reserve(count)?;
-        Ok(())
-    }
-
     /// Adds the module at a path that this body left behind, as yet without its uses. After `Memory` the modules are as
     /// before.
     pub(crate) fn add_ended(
