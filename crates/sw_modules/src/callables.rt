@@ -2,16 +2,16 @@
 ghost use Rattle.std.specs.Prelude.{◌≡◌, IfOk, OnOk};
 ghost use Rattle.sw_modules.specs.Callables.{no_callables, with_callable, callables_of};
 
-use crate::RareTable;
 use std::alloc::Global;
 use sw_syntax_tree::{Callable, Kind};
 use sw_text::{Memory, Shared};
+use sw_world::Table;
 
 /// A module's own functions and mixins by their names, each shared with the body that left it behind.
 #[derive(Drop)]
 pub struct Callables {
-    pub functions: RareTable<Shared<Callable>>,
-    pub mixins: RareTable<Shared<Callable>>,
+    pub functions: Table<Shared<Callable>>,
+    pub mixins: Table<Shared<Callable>>,
 }
 
 impl Callables {
@@ -30,8 +30,8 @@ impl Callables {
         ensures { result ≡ no_callables }
     {
         Callables {
-            functions: RareTable::new(alloc),
-            mixins: RareTable::new(alloc),
+            functions: Table::new(alloc),
+            mixins: Table::new(alloc),
         }
     }
 

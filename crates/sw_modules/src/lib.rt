@@ -16,8 +16,6 @@ mod meaning;
 mod members;
 mod module;
 mod names;
-mod no_items;
-mod rare;
 mod uses;
 mod variables;
 
@@ -28,6 +26,5 @@ pub use live::{Begin, Enter, Finished, Live};
 pub use loaded::Loaded;
 pub use members::{Counts, Entry, Members, Origin};
 pub use module::{Module, Opened};
-pub use rare::RareTable;
 pub use uses::{Used, Uses, UsesCounts};
 pub use variables::Variables;
