@@ -11,4 +11,4 @@ mod told;
 
 pub use broken::Broken;
 pub use module::{Module, read_module};
-pub use rows::rows;
+pub use rows::body_rows;

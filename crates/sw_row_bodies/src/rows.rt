@@ -23,7 +23,11 @@ struct Run {
 
 /// Runs a module's body by an engine: with memory lacking at each question in turn, with memory for all, and with its
 /// first load refused.
-pub fn rows<E: Engine>(rt: &HostRuntime, engine: &mut E, module: &Module) -> Result<(), Broken> {
+pub fn body_rows<E: Engine>(
+    rt: &HostRuntime,
+    engine: &mut E,
+    module: &Module,
+) -> Result<(), Broken> {
     let path = module.path.as_str();
     let answer = loaded(rt.alloc())?;
     for at in 0..MOST_QUESTIONS {

@@ -3,20 +3,20 @@
 #![tactic(auto)]
 
 mod archive;
-mod case_rows;
+mod cases;
 mod difference;
 mod disks;
 mod ending;
 mod listeners;
 mod replies;
 mod row;
-mod session_rows;
+mod sessions;
 
 pub use archive::{Section, sections};
-pub use case_rows::case_rows;
+pub use cases::case_rows;
 pub use disks::disk_of;
 pub use ending::{Ending, told};
 pub use listeners::{Heard, Listener, heard_by, hub_of};
 pub use replies::looked_at;
 pub use row::{File, Look, Row};
-pub use session_rows::session_rows;
+pub use sessions::session_rows;
