@@ -138,7 +138,7 @@ fn run_body<R: Reader, E: Engine, H: Hosts>(
             let ended = end.share()?;
             let named = opening.path.share()?;
             let run = run_ended(within.alloc, opening, start.sheet, seen, end)?;
-            moment.results.add(named, run, start.cause)?;
+            moment.results.add(within.alloc, named, run, start.cause)?;
             return Ok(ended);
         }
     }
@@ -242,7 +242,8 @@ pub(crate) fn evaluate<R: Reader, E: Engine, H: Hosts>(
         (moment_of moment.old.live (H.state hosts.old) moment.old.results (E.ran engine.old))
         (moment_of moment.new.live (H.state hosts.new) moment.new.results (E.ran engine.new))) }
 {
-    let Some(same) = same_run(within.kept, opening) else {
+    let near = moment.results.len();
+    let Some(same) = same_run(within.kept, opening, near) else {
         return match read_sheet(within.alloc, within.reader, within.kept, opening)? {
             Ok(sheet) => {
                 let cause = cause_anew(within.kept, opening);

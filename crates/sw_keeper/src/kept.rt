@@ -7,13 +7,13 @@ use crate::Reader;
 use std::alloc::Global;
 use std::marker::{Model, PhantomData};
 use sw_record::Run;
-use sw_text::{Memory, Name};
+use sw_text::{Memory, Name, Shared};
 use sw_world::{End, Engine, Share, Table};
 
 /// A run whose sheet is what its path and text read to. Contracts see the run.
 #[derive(Drop)]
 pub(crate) struct KeptRun<R: Reader, E: Engine> {
-    run: Run<E>,
+    run: Shared<Run<E>>,
     read_by: PhantomData<R>,
 }
 
@@ -35,21 +35,21 @@ impl<R: Reader, E: Engine> Model for KeptRun<R, E> {
 }
 
 impl<R: Reader, E: Engine> KeptRun<R, E> {
-    pub(crate) fn new(run: Run<E>) -> KeptRun<R, E>
+    pub(crate) fn new(alloc: Global, run: Run<E>) -> Result<KeptRun<R, E>, Memory>
         requires { R.reads run.run.path run.run.text ≡ Ok run.sheet }
-        ensures { result ≡ run.run }
+        ensures { IfOk result (λ kept. kept ≡ run.run) }
     {
-        KeptRun {
-            run,
+        Ok(KeptRun {
+            run: Shared::new(alloc, run)?,
             read_by: PhantomData,
-        }
+        })
     }
 
     pub(crate) fn run(&self) -> &Run<E>
         ensures run { result.now.run ≡ self.now }
         ensures reads { R.reads self.now.path self.now.text ≡ Ok result.now.sheet }
     {
-        &self.run
+        self.run.get()
     }
 }
 
@@ -91,6 +91,23 @@ impl<R: Reader, E: Engine> KeptRuns<R, E> {
     {
         KeptRuns {
             table: Table::new(alloc),
+        }
+    }
+
+    /// How many are kept.
+    pub(crate) fn len(&self) -> usize {
+        self.table.len()
+    }
+
+    /// The kept run of a module. The place `near` and the one behind it are looked at first; what is found is the same
+    /// for every guess.
+    pub(crate) fn find(&self, path: &Name, near: usize) -> Option<&KeptRun<R, E>>
+        ensures value { option_copied result ≡ kept_at self.now path.now }
+        ensures path { IfSome result (λ kept. kept.now.path ≡ path.now) }
+    {
+        match self.table.find(path, near) {
+            Some((_, kept)) => Some(kept),
+            None => None,
         }
     }
 

@@ -13,15 +13,16 @@ use sw_text::{Fault, Memory, Name, Shared};
 use sw_values::Value;
 use sw_world::{Config, Engine};
 
-/// The kept run of a module, where it is of the same text and configuration.
+/// The kept run of a module, where it is of the same text and configuration. It is looked for near a place first.
 pub(crate) fn same_run<'k, R: Reader, E: Engine>(
     kept: &'k KeptRuns<R, E>,
     opening: &Opening,
+    near: usize,
 ) -> Option<&'k KeptRun<R, E>>
     ensures { MatchOption result (NoneSame kept.now opening.now.path opening.now.text opening.now.config)
         (λ one. IsSame kept.now opening.now.path opening.now.text opening.now.config one.now) }
 {
-    let Some(one) = kept.get(&opening.path) else {
+    let Some(one) = kept.find(&opening.path, near) else {
         return None;
     };
     let run = one.run();

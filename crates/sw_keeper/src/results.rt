@@ -70,6 +70,11 @@ impl<R: Reader, E: Engine> Results<R, E> {
         }
     }
 
+    /// How many runs ended.
+    pub(crate) fn len(&self) -> usize {
+        self.runs.len()
+    }
+
     /// The runs, and the modules whose bodies ran.
     pub(crate) fn into_parts(self) -> (List<KeptRun<R, E>>, List<(Name, Cause)>)
         ensures { result ≡ (self.runs, self.ran) }
@@ -79,12 +84,18 @@ impl<R: Reader, E: Engine> Results<R, E> {
     }
 
     /// Adds the run of the body of the module at this path, which ran for this cause.
-    pub(crate) fn add(&mut self, path: Name, run: Run<E>, cause: Cause) -> Result<(), Memory>
+    pub(crate) fn add(
+        &mut self,
+        alloc: Global,
+        path: Name,
+        run: Run<E>,
+        cause: Cause,
+    ) -> Result<(), Memory>
         requires { R.reads run.run.path run.run.text ≡ Ok run.sheet }
         ensures runs { OnOk result (self.new.runs ≡ self.old.runs ++ run.run ∷ []) }
         ensures ran { OnOk result (self.new.ran ≡ self.old.ran ++ (path, cause) ∷ []) }
     {
-        self.runs.push(KeptRun::new(run))?;
+        self.runs.push(KeptRun::new(alloc, run)?)?;
         self.ran.push((path, cause))?;
         Ok(())
     }

@@ -2,16 +2,16 @@
 ghost use Rattle.std.specs.Prelude.{◌≡◌, IfOk, OnOk};
 ghost use Rattle.sw_modules.specs.Callables.{no_callables, with_callable, callables_of};
 
+use crate::RareTable;
 use std::alloc::Global;
 use sw_syntax_tree::{Callable, Kind};
 use sw_text::{Memory, Shared};
-use sw_world::Table;
 
 /// A module's own functions and mixins by their names, each shared with the body that left it behind.
 #[derive(Drop)]
 pub struct Callables {
-    pub functions: Table<Shared<Callable>>,
-    pub mixins: Table<Shared<Callable>>,
+    pub functions: RareTable<Shared<Callable>>,
+    pub mixins: RareTable<Shared<Callable>>,
 }
 
 impl Callables {
@@ -30,8 +30,8 @@ impl Callables {
         ensures { result ≡ no_callables }
     {
         Callables {
-            functions: Table::new(alloc),
-            mixins: Table::new(alloc),
+            functions: RareTable::new(alloc),
+            mixins: RareTable::new(alloc),
         }
     }
 

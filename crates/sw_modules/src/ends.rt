@@ -2,7 +2,7 @@
 ghost use Rattle.std.specs.Prelude.{◌≡◌, ◌<◌, ◌+◌, ◌-◌, ◌++◌, ◌∷◌, [], false, length, take, bytes_eq, IfOk, OnOk, OnErr};
 ghost use Rattle.indexmap.specs.IndexMap.{insert_entry};
 ghost use Rattle.sw_world.specs.Questions.{IsLoad};
-ghost use Rattle.sw_world.specs.declared.answer.Answer.TheVariants.{Loaded as Loaded_answer};
+ghost use Rattle.sw_world.specs.declared.answer.Answer.TheVariants.{Refused};
 ghost use Rattle.sw_modules.specs.Interfaces.{brought};
 ghost use Rattle.sw_modules.specs.Uses.{is_taken, no_uses, with_one, first_uses};
 ghost use Rattle.sw_modules.specs.State.{below, changed_below, closed, module_of, used_by, loaded_now, path_in, uses_in, with_use};
@@ -14,7 +14,7 @@ use crate::loads::{
 };
 use crate::uses::Source;
 use crate::{Entry, Live, Module, Opened, UsesCounts};
-use sw_text::{FaultCode, List, Memory, Name, Shared, Span};
+use sw_text::{Fault, FaultCode, List, Memory, Name, Shared, Span};
 use sw_world::{Answer, End, Finish, Given, How, Op};
 
 impl<'a> Live<'a> {
@@ -41,12 +41,22 @@ impl<'a> Live<'a> {
         };
         match end {
             End::Done(finish) => self.end_done(how, config.get().as_slice(), finish, span),
-            End::Fault(fault) => {
-                let fault = fault.share()?;
-                self.close();
-                Ok(Answer::Refused(fault))
-            }
+            End::Fault(fault) => self.end_faulted(fault),
         }
+    }
+
+    /// Closes the innermost open load, which this fault ended.
+    #[inline(never)]
+    fn end_faulted(&mut self, fault: &Fault) -> Result<Answer, Memory>
+        requires { 0 < length self.old.opened }
+        ensures answer { IfOk result (λ answer. answer ≡ Refused fault.now) }
+        ensures after { OnOk result (self.new ≡ closed self.old) }
+        ensures closes { OnOk result (length self.new.opened + 1 ≡ length self.old.opened) }
+        ensures err { OnErr result (self.new ≡ self.old) }
+    {
+        let fault = fault.share()?;
+        self.close();
+        Ok(Answer::Refused(fault))
     }
 
     fn end_done(
@@ -69,10 +79,10 @@ impl<'a> Live<'a> {
             None => {
                 let brought = self.brought_at_end(how, finish)?;
                 if takes(below(&self.opened), how, brought.as_slice()) {
-                    self.end_refused(FaultCode::MemberConflict, span, finish)
-                } else {
-                    self.end_used(how, brought, finish)
+                    return self.end_refused(FaultCode::MemberConflict, span, finish);
                 }
+                let (path, taken) = self.end_used(how, brought, finish)?;
+                Ok(Answer::Loaded { path, taken })
             }
         }
     }
@@ -94,6 +104,7 @@ impl<'a> Live<'a> {
     }
 
     /// Records the module of the innermost open load, which is refused.
+    #[inline(never)]
     fn end_refused(
         &mut self,
         code: FaultCode,
@@ -111,16 +122,17 @@ impl<'a> Live<'a> {
         Ok(answer)
     }
 
-    /// Records the module of the innermost open load, and that the one below uses it.
+    /// Records the module of the innermost open load, and that the one below uses it: its path, and the names that it
+    /// took.
     fn end_used(
         &mut self,
         how: &How,
         brought: List<Entry>,
         finish: &Shared<Finish>,
-    ) -> Result<Answer, Memory>
+    ) -> Result<(Name, Shared<List<Name>>), Memory>
         requires is_open { 0 < length self.old.opened }
         requires free { is_taken how.now brought (uses_in (below self.old.opened)) ≡ false }
-        ensures answer { IfOk result (λ answer. answer ≡ Loaded_answer (path_in self.old.opened) finish.now.taken) }
+        ensures answer { IfOk result (λ used. used ≡ (path_in self.old.opened, finish.now.taken)) }
         ensures state { OnOk result (self.new ≡ record (loaded_now finish.now self.old) {
           opened = with_use how.now (path_in self.old.opened) brought (below self.old.opened);
         }) }
@@ -132,7 +144,7 @@ impl<'a> Live<'a> {
         let counts = counts(below(&self.opened));
         self.use_below(how, &path, brought)?;
         match self.record(finish) {
-            Ok(()) => Ok(Answer::Loaded { path, taken }),
+            Ok(()) => Ok((path, taken)),
             Err(memory) => {
                 self.drop_use_below(counts);
                 Err(memory)

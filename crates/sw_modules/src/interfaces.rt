@@ -4,9 +4,9 @@ ghost use Rattle.std.specs.List.{list_any};
 ghost use Rattle.std.specs.Map.{keys_of};
 ghost use Rattle.sw_modules.specs.Interfaces.{has_own, own_entries, entry_of, unhidden, interface, built_in_interface, is_variable, is_named, lets_through, passed, brought};
 
-use crate::Module;
 use crate::members::{Entry, Members, Origin};
 use crate::names::has_own;
+use crate::{Module, RareTable};
 use std::alloc::Global;
 use sw_builtins::member;
 use sw_syntax_tree::Kind;
@@ -140,6 +140,22 @@ impl<'p> Passing<'p> {
         Ok(())
     }
 
+    fn pass_some<V>(
+        &self,
+        brought: &mut List<Entry>,
+        kind: Kind,
+        path: &Name,
+        table: &RareTable<V>,
+    ) -> Result<(), Memory>
+        ensures { OnOk result (brought.new ≡ brought.old
+            ++ passed self.now.prefix.now self.now.which.now (own_entries kind path.now (keys_of table.now))) }
+    {
+        match table.table() {
+            Some(table) => self.pass_owns(brought, kind, path, table),
+            None => Ok(()),
+        }
+    }
+
     // Passes a member on that the forwards of a module brought, unless the module has an own one.
     fn pass_unhidden(
         &self,
@@ -190,13 +206,13 @@ impl<'p> Passing<'p> {
     {
         let mut brought = List::new(self.alloc);
         self.pass_owns(&mut brought, Kind::Variable, path, held.variables.table())?;
-        self.pass_owns(
+        self.pass_some(
             &mut brought,
             Kind::Function,
             path,
             &held.callables.functions,
         )?;
-        self.pass_owns(&mut brought, Kind::Mixin, path, &held.callables.mixins)?;
+        self.pass_some(&mut brought, Kind::Mixin, path, &held.callables.mixins)?;
         self.pass_forwarded(&mut brought, Kind::Variable, held, forwarded)?;
         self.pass_forwarded(&mut brought, Kind::Function, held, forwarded)?;
         self.pass_forwarded(&mut brought, Kind::Mixin, held, forwarded)?;

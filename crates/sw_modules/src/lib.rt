@@ -16,6 +16,7 @@ mod meaning;
 mod members;
 mod module;
 mod names;
+mod rare;
 mod uses;
 mod variables;
 
@@ -26,5 +27,6 @@ pub use live::{Begin, Enter, Finished, Live};
 pub use loaded::Loaded;
 pub use members::{Counts, Entry, Members, Origin};
 pub use module::{Module, Opened};
+pub use rare::RareTable;
 pub use uses::{Used, Uses, UsesCounts};
 pub use variables::Variables;

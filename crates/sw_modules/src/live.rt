@@ -7,6 +7,7 @@ ghost use Rattle.std.specs.FinMap.{get};
 ghost use Rattle.sw_folder.specs.Files.{most_bytes};
 ghost use Rattle.sw_world.specs.declared.op.How.{How};
 ghost use Rattle.sw_modules.specs.Loads.{entry_fault, is_explicit, refused, first_untaken};
+ghost use Rattle.sw_modules.specs.declared.live.Begin.TheVariants.{Answered};
 
 use crate::built_ins::is_sass;
 use crate::interfaces::brought_of;
@@ -96,7 +97,7 @@ impl<'a> Model for Live<'a> {
 
 impl<'a> Live<'a> {
     ghost use Rattle.sw_modules.specs.State.{nothing_loaded, closed, loaded_now, path_in, with_variable};
-    ghost use Rattle.sw_modules.specs.Loads.{begun, begin_path, begin_module, used_with, used_unless, ended_by, left_by, entry_text, entered, AnswersLoad, IsBegun, IsEntered};
+    ghost use Rattle.sw_modules.specs.Loads.{at_once, begun, begin_path, begin_module, built_in_used, used_with, used_unless, ended_by, left_by, entry_text, entered, AnswersLoad, IsBegun, IsEntered};
 
     /// Nothing is loaded or open. Takes no memory.
     pub fn new(alloc: Global, folder: &'a Folder, paths: &'a [Name]) -> Live<'a>
@@ -192,17 +193,31 @@ impl<'a> Live<'a> {
         };
         let config = config.get().as_slice();
         if is_sass(url.as_str()) {
-            let answer = self.use_built_in(url, span, how, config)?;
-            return Ok(Begin::Answered(answer));
+            return self.begin_built_in(url, span, how, config);
         }
         match self.folder.resolve(site.as_str(), url.as_str(), self.paths) {
             Ok(path) => self.begin_path(path, span, how, config),
-            Err(ResolveFault::NotFound) => Ok(Begin::Answered(refused(FaultCode::NotFound, span)?)),
-            Err(ResolveFault::Ambiguous) => {
-                Ok(Begin::Answered(refused(FaultCode::Ambiguous, span)?))
-            }
+            Err(ResolveFault::NotFound) => begin_refused(FaultCode::NotFound, span),
+            Err(ResolveFault::Ambiguous) => begin_refused(FaultCode::Ambiguous, span),
             Err(ResolveFault::Memory) => Err(Memory),
         }
+    }
+
+    #[inline(never)]
+    fn begin_built_in(
+        &mut self,
+        url: &Name,
+        span: &Span,
+        how: &How,
+        config: &[Given],
+    ) -> Result<Begin, Memory>
+        ensures ok { IfOk result (λ begin. at_once (built_in_used url.now span.now how.now config.now self.old)
+            ≡ (begin, self.new)) }
+        ensures opens { IfOk result (λ begin. IsBegun begin self.old self.new) }
+        ensures err { OnErr result (self.new ≡ self.old) }
+    {
+        let answer = self.use_built_in(url, span, how, config)?;
+        Ok(Begin::Answered(answer))
     }
 
     fn begin_path(
@@ -217,15 +232,15 @@ impl<'a> Live<'a> {
         ensures err { OnErr result (self.new ≡ self.old) }
     {
         if is_open(&self.opened, &path) {
-            return Ok(Begin::Answered(refused(FaultCode::Loop, span)?));
+            return begin_refused(FaultCode::Loop, span);
         }
         if self.opened.len() >= MOST_OPEN {
-            return Ok(Begin::Answered(refused(FaultCode::Depth, span)?));
+            return begin_refused(FaultCode::Depth, span);
         }
         match self.loaded.find(&path, self.recent.module) {
             Some((near, held)) => {
                 if is_explicit(config) {
-                    return Ok(Begin::Answered(refused(FaultCode::AlreadyLoaded, span)?));
+                    return begin_refused(FaultCode::AlreadyLoaded, span);
                 }
                 let brought = brought_of(self.alloc, how, &path, held, &held.uses.forwarded)?;
                 let source = Source {
@@ -233,11 +248,21 @@ impl<'a> Live<'a> {
                     near,
                     brought,
                 };
-                let answer = self.used_at_once(how, source, span)?;
-                Ok(Begin::Answered(answer))
+                self.begin_used(how, source, span)
             }
             None => self.begin_new(path, span, config),
         }
+    }
+
+    #[inline(never)]
+    fn begin_used(&mut self, how: &How, source: Source, span: &Span) -> Result<Begin, Memory>
+        ensures ok { IfOk result (λ begin. at_once (used_with how.now source.path source.brought [] span.now self.old)
+            ≡ (begin, self.new)) }
+        ensures opens { IfOk result (λ begin. IsBegun begin self.old self.new) }
+        ensures err { OnErr result (self.new ≡ self.old) }
+    {
+        let answer = self.used_at_once(how, source, span)?;
+        Ok(Begin::Answered(answer))
     }
 
     /// Uses a module that takes nothing.
@@ -256,12 +281,10 @@ impl<'a> Live<'a> {
         if takes(&self.opened, how, source.brought.as_slice()) {
             return refused(FaultCode::MemberConflict, span);
         }
-        let answer = Answer::Loaded {
-            path: source.path.share()?,
-            taken: Shared::new(self.alloc, List::new(self.alloc))?,
-        };
+        let path = source.path.share()?;
+        let taken = Shared::new(self.alloc, List::new(self.alloc))?;
         add_use(&mut self.opened, how, source)?;
-        Ok(answer)
+        Ok(Answer::Loaded { path, taken })
     }
 
     fn begin_new(&mut self, path: Name, span: &Span, config: &[Given]) -> Result<Begin, Memory>
@@ -272,7 +295,7 @@ impl<'a> Live<'a> {
         ensures err { OnErr result (self.new ≡ self.old) }
     {
         match self.folder.text(path.as_str()) {
-            None => Ok(Begin::Answered(refused(FaultCode::NotFound, span)?)),
+            None => begin_refused(FaultCode::NotFound, span),
             Some(text) => {
                 let text = text.share()?;
                 let config = config_of(self.alloc, config)?;
@@ -327,6 +350,14 @@ impl<'a> Live<'a> {
             text: text.share()?,
         })
     }
+}
+
+/// What a load begins with that is refused at a place. It is large to move, so it has a function of its own.
+#[inline(never)]
+fn begin_refused(code: FaultCode, span: &Span) -> Result<Begin, Memory>
+    ensures { IfOk result (λ begin. begin ≡ Answered (refused code span.now)) }
+{
+    Ok(Begin::Answered(refused(code, span)?))
 }
 
 fn entry_fault(entry: &Name) -> Result<Fault, Memory>

@@ -90,8 +90,9 @@ impl Loaded {
     pub(crate) fn set_uses(&mut self, path: &Name, uses: Uses)
         ensures { self.new ≡ used_by self.old path.now uses }
     {
-        if let Some(held) = self.entries.get_mut(path) {
-            held.set_uses(uses);
+        match self.entries.get_mut(path) {
+            Some(held) => held.set_uses(uses),
+            None => drop(uses),
         }
     }
 

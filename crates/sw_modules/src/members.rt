@@ -4,10 +4,10 @@ ghost use Rattle.std.specs.Option.{option_copied};
 ghost use Rattle.sw_modules.specs.Interfaces.{no_members, of_kind, origin_in, same_origin, is_other, conflicts, with_name, with_entry, joined};
 ghost use Rattle.sw_modules.specs.Uses.{counts_of, first_members};
 
+use crate::RareTable;
 use std::alloc::Global;
 use sw_syntax_tree::Kind;
 use sw_text::{Memory, Name};
-use sw_world::Table;
 
 /// Where a member is from: the path of the module that declares it, or the URL of the built-in module that has it, and
 /// its name there.
@@ -28,9 +28,9 @@ pub struct Entry {
 /// The members that the forwards of a module brought, by their names in its interface.
 #[derive(Drop)]
 pub struct Members {
-    pub variables: Table<Origin>,
-    pub functions: Table<Origin>,
-    pub mixins: Table<Origin>,
+    pub variables: RareTable<Origin>,
+    pub functions: RareTable<Origin>,
+    pub mixins: RareTable<Origin>,
 }
 
 /// How many members there are of each kind.
@@ -59,7 +59,7 @@ impl Origin {
 }
 
 /// Gives a name that isn't in a table an origin. After `Memory` the table is as before.
-fn add_name(table: &mut Table<Origin>, name: &Name, origin: &Origin) -> Result<(), Memory>
+fn add_name(table: &mut RareTable<Origin>, name: &Name, origin: &Origin) -> Result<(), Memory>
     ensures ok { OnOk result (table.new ≡ with_name table.old name.now origin.now) }
     ensures err { OnErr result (table.new ≡ table.old) }
 {
@@ -77,13 +77,13 @@ impl Members {
         ensures { result ≡ no_members }
     {
         Members {
-            variables: Table::new(alloc),
-            functions: Table::new(alloc),
-            mixins: Table::new(alloc),
+            variables: RareTable::new(alloc),
+            functions: RareTable::new(alloc),
+            mixins: RareTable::new(alloc),
         }
     }
 
-    pub(crate) fn of_kind(&self, kind: Kind) -> &Table<Origin>
+    pub(crate) fn of_kind(&self, kind: Kind) -> &RareTable<Origin>
         ensures { result.now ≡ of_kind kind self.now }
     {
         match kind {

@@ -2,11 +2,11 @@
 ghost use Rattle.std.specs.Prelude.{◌≡◌, OnOk, OnErr};
 ghost use Rattle.sw_modules.specs.Uses.{no_uses, is_taken, with_one, uses_counts, first_uses};
 
-use crate::{Counts, Entry, Members};
+use crate::{Counts, Entry, Members, RareTable};
 use std::alloc::Global;
 use std::marker::Model;
 use sw_text::{List, Memory, Name};
-use sw_world::{How, Table};
+use sw_world::How;
 
 /// The path of a module that is used, or the URL of a built-in one, with a guess of its place among the loaded ones.
 /// Contracts see the path.
@@ -51,7 +51,7 @@ pub(crate) struct Source {
 /// written as its own, and the members that its forwards brought.
 #[derive(Drop)]
 pub struct Uses {
-    pub named: Table<Used>,
+    pub named: RareTable<Used>,
     pub stars: List<Name>,
     pub forwarded: Members,
 }
@@ -70,7 +70,7 @@ impl Uses {
         ensures { result ≡ no_uses }
     {
         Uses {
-            named: Table::new(alloc),
+            named: RareTable::new(alloc),
             stars: List::new(alloc),
             forwarded: Members::new(alloc),
         }

@@ -14,7 +14,7 @@ use sw_world::{Finish, Table};
 #[derive(Drop)]
 pub struct Variables {
     finish: Shared<Finish>,
-    own: Option<Table<Value>>,
+    own: Option<Box<Table<Value>>>,
 }
 
 impl Model for Variables {
@@ -28,7 +28,7 @@ impl Model for Variables {
 
     ghost coded = { Prim.hlevel (codes, plain.the_row.coded) };
 
-    ghost view = { λ variables. option_map_or (λ own. own) variables.own variables.finish.variables };
+    ghost view = { λ variables. option_map_or (λ own. own.value) variables.own variables.finish.variables };
 }
 
 impl Variables {
@@ -47,7 +47,7 @@ impl Variables {
         ensures { result.now ≡ self.now }
     {
         match &self.own {
-            Some(own) => own,
+            Some(own) => own.as_ref(),
             None => &self.finish.get().variables,
         }
     }
@@ -57,7 +57,7 @@ impl Variables {
         ensures { result ≡ is_some (lookup (bytes_eq name.now) self.now) }
     {
         match &self.own {
-            Some(own) => own.has(name),
+            Some(own) => own.as_ref().has(name),
             None => self.finish.get().variables.has(name),
         }
     }
@@ -69,7 +69,7 @@ impl Variables {
         ensures { option_map (λ found. found.1.now) result ≡ lookup (bytes_eq name.now) self.now }
     {
         match &self.own {
-            Some(own) => own.find(name, near),
+            Some(own) => own.as_ref().find(name, near),
             None => self.finish.get().variables.find(name, near),
         }
     }
@@ -85,7 +85,7 @@ impl Variables {
             None => {
                 let mut own = self.finish.get().variables.share(alloc)?;
                 own.set(name, value);
-                self.own = Some(own);
+                self.own = Some(Box::new(alloc, own)?);
             }
         }
         Ok(())

@@ -22,8 +22,8 @@ returns c =
     let h : List Entry = unhidden Mixin held forwarded in
     let one : c.pass_owns.new.brought ≡ give a =
     c.in_ok-pass_owns.ensures ∙ ap (λ l. l ++ give (variables c.table.result.now)) c.new-brought.ensures ∙ ap (λ t. give (variables t)) c.table.ensures in
-    let two : c.pass_owns-2.new.brought ≡ give (a ++ b) = both give splits a b c.pass_owns.new.brought c.pass_owns-2.new.brought one c.in_ok-pass_owns-2.ensures in
-    let three : c.pass_owns-3.new.brought ≡ give (a ++ b ++ d) = both give splits (a ++ b) d c.pass_owns-2.new.brought c.pass_owns-3.new.brought two c.in_ok-pass_owns-3.ensures in
-    let four : c.pass_forwarded.new.brought ≡ give (a ++ b ++ d ++ e) = both give splits (a ++ b ++ d) e c.pass_owns-3.new.brought c.pass_forwarded.new.brought three c.in_ok-pass_forwarded.ensures in
+    let two : c.pass_some.new.brought ≡ give (a ++ b) = both give splits a b c.pass_owns.new.brought c.pass_some.new.brought one c.in_ok-pass_some.ensures in
+    let three : c.pass_some-2.new.brought ≡ give (a ++ b ++ d) = both give splits (a ++ b) d c.pass_some.new.brought c.pass_some-2.new.brought two c.in_ok-pass_some-2.ensures in
+    let four : c.pass_forwarded.new.brought ≡ give (a ++ b ++ d ++ e) = both give splits (a ++ b ++ d) e c.pass_some-2.new.brought c.pass_forwarded.new.brought three c.in_ok-pass_forwarded.ensures in
     let five : c.pass_forwarded-2.new.brought ≡ give (a ++ b ++ d ++ e ++ f) = both give splits (a ++ b ++ d ++ e) f c.pass_forwarded.new.brought c.pass_forwarded-2.new.brought four c.in_ok-pass_forwarded-2.ensures in
     both give splits (a ++ b ++ d ++ e ++ f) h c.pass_forwarded-2.new.brought c.pass_forwarded-3.new.brought five c.in_ok-pass_forwarded-3.ensures
