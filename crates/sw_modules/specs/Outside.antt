@@ -1,5 +1,7 @@
 -- What answers the questions of bodies: the live state and the host's functions (this project's own rule).
-use Rattle.std.specs.Prelude.{◌≡◌, ℕ, List, [], ◌∷◌, ◌++◌, Option}
+use Rattle.std.specs.Prelude.{◌≡◌, ℕ, List, [], ◌∷◌, ◌++◌, false, bytes_eq, Option, Some}
+use Rattle.std.specs.Map.{lookup}
+use Rattle.sw_text.specs.Names.{is_private}
 use Rattle.sw_values.specs.declared.plain.Plain.{Plain}
 use Rattle.sw_world.specs.Hosts.{HostState}
 use Rattle.sw_world.specs.declared.op.Op.{Op}
@@ -44,3 +46,8 @@ IsAnswer s (Put owner name value) answer = ⊥
 IsAnswer s (Say kind span text) answer = ⊥
 IsAnswer s (Call name args) answer = ⊥
 IsAnswer s (Load site url span how config) answer = ⊥
+
+-- it is public, and one of these variables with its value
+abbrev pub IsPublic : List (List ℕ × Plain) → List ℕ × Plain → Type 0
+IsPublic variables variable =
+    (is_private variable.0 ≡ false) × (lookup (bytes_eq variable.0) variables ≡ Some variable.1)

@@ -9,6 +9,7 @@ ghost use Rattle.sw_modules.specs.State.{with_variable};
 
 use crate::Live;
 use std::alloc::Global;
+use sw_named::{ConfirmsNamed, NamedVariables};
 use sw_text::{Memory, Name, Span};
 use sw_values::Value;
 use sw_world::{Answer, Confirms, Hosts, Op, SayKind, World};
@@ -86,5 +87,17 @@ impl<'b, 'a, H: Hosts> World for Asked<'b, 'a, H> {
 impl<'b, 'a, H: Hosts> Confirms for Asked<'b, 'a, H> {
     fn confirms(&mut self, op: &Op, kept: &Answer) -> bool {
         self.live.confirms(op, kept)
+    }
+}
+
+impl<'b, 'a, H: Hosts> ConfirmsNamed for Asked<'b, 'a, H> {
+    #[tactic(auto, using(crate::proofs::Confirming::answer_stays))]
+    fn confirms_alone(&mut self, op: &Op, kept: &Answer) -> bool {
+        self.live.confirms(op, kept)
+    }
+
+    #[tactic(auto, using(crate::proofs::Confirming::answer_stays))]
+    fn confirms_named(&mut self, named: &NamedVariables) -> bool {
+        self.live.confirms_named(named)
     }
 }

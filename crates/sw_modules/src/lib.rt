@@ -15,6 +15,7 @@ mod loads;
 mod meaning;
 mod members;
 mod module;
+mod named;
 mod names;
 mod rare;
 mod uses;

@@ -1,3 +1,4 @@
 pub mod Kept
 pub mod Replay
 pub mod Ran
+pub mod Tails

@@ -1,12 +1,15 @@
 // The replay of a kept run's questions.
 ghost use Rattle.std.specs.Prelude.{◌≡◌, ℕ, ◌≤◌, IfOk, OnErr, length};
 ghost use Rattle.sw_world.specs.Questions.{IsLoad};
+ghost use Rattle.std.specs.Bool.{OnTrue};
 ghost use Rattle.sw_record.specs.Replay.{IsReplay, AskedAgain, IsOther};
+ghost use Rattle.sw_record.specs.Tails.{IsTail, AreGiven, AreGivenAt, IsGivenAt};
 
-use crate::Run;
+use crate::{Run, Tail};
 use std::alloc::Global;
+use sw_named::{ConfirmsNamed, NamedVariables};
 use sw_text::Memory;
-use sw_world::{Answer, Confirms, Engine, Op, World};
+use sw_world::{Answer, Engine, Op, World};
 
 /// What asking the questions of a kept run again comes to.
 #[derive(Drop)]
@@ -21,7 +24,7 @@ pub enum Replayed {
 
 /// Asks the kept questions from a place on, in order, up to the first load or the first answer that isn't the kept one.
 /// Takes no memory of its own. After `Memory` some first questions of these were asked, and answered as before.
-pub fn replay<E: Engine, W: Confirms>(
+pub fn replay<E: Engine, W: ConfirmsNamed>(
     alloc: Global,
     run: &Run<E>,
     from: usize,
@@ -32,7 +35,8 @@ pub fn replay<E: Engine, W: Confirms>(
     ensures err { OnErr result ((to : ℕ) × AskedAgain W.gives run.now.run.seen from to world.old world.new) }
 {
     let seen = run.seen();
-    for at in from..seen.len() {
+    let begin = begin_of(run, from, world);
+    for at in begin..seen.len() {
         let (op, kept) = &seen[at];
         if op.is_load() {
             return Ok(Replayed::Load(at));
@@ -46,6 +50,72 @@ pub fn replay<E: Engine, W: Confirms>(
         }
     }
     Ok(Replayed::Same)
+}
+
+/// The place from which on questions are asked one by one: behind the tail, where that begins at this place and is
+/// answered as before.
+fn begin_of<E: Engine, W: ConfirmsNamed>(run: &Run<E>, from: usize, world: &mut W) -> usize
+    requires { from ≤ length run.now.run.seen }
+    ensures asked { AskedAgain W.gives run.now.run.seen from result world.old world.old }
+    ensures same { world.new ≡ world.old }
+{
+    let tail = run.tail();
+    if tail.from == from && is_confirmed(run.seen(), tail, world) {
+        tail.to
+    } else {
+        from
+    }
+}
+
+/// True only where the questions of a tail are answered as before, which changes nothing. Takes no memory.
+fn is_confirmed<W: ConfirmsNamed>(seen: &[(Op, Answer)], tail: &Tail, world: &mut W) -> bool
+    requires { IsTail seen.now tail.now }
+    ensures asked { OnTrue result (AskedAgain W.gives seen.now tail.now.from tail.now.to world.old world.old) }
+    ensures same { world.new ≡ world.old }
+{
+    are_confirmed(tail.named.as_slice(), world)
+        && are_confirmed_at(seen, tail.alone.as_slice(), world)
+}
+
+/// True only where all these variables are named and valued so.
+fn are_confirmed<W: ConfirmsNamed>(named: &[NamedVariables], world: &mut W) -> bool
+    ensures given { OnTrue result (AreGiven W.gives world.old named.now) }
+    ensures same { world.new ≡ world.old }
+{
+    for at in 0..named.len() {
+        if !world.confirms_named(&named[at]) {
+            return false;
+        }
+    }
+    true
+}
+
+/// True only where the questions at these places are answered as before.
+fn are_confirmed_at<W: ConfirmsNamed>(
+    seen: &[(Op, Answer)],
+    places: &[usize],
+    world: &mut W,
+) -> bool
+    ensures given { OnTrue result (AreGivenAt W.gives world.old seen.now places.now) }
+    ensures same { world.new ≡ world.old }
+{
+    for at in 0..places.len() {
+        if !is_confirmed_at(seen, places[at], world) {
+            return false;
+        }
+    }
+    true
+}
+
+/// True only where the question at a place is answered as before.
+fn is_confirmed_at<W: ConfirmsNamed>(seen: &[(Op, Answer)], place: usize, world: &mut W) -> bool
+    ensures given { OnTrue result (IsGivenAt W.gives world.old seen.now place) }
+    ensures same { world.new ≡ world.old }
+{
+    match seen.get(place) {
+        None => false,
+        Some((op, kept)) => !op.is_load() && world.confirms_alone(op, kept),
+    }
 }
 
 // The answer to a question that is answered otherwise than it was kept. It is large to move, so it has a function of its

@@ -6,10 +6,12 @@ mod again;
 mod laws;
 mod reply;
 mod run;
+mod tail;
 mod trace;
 
 pub use again::{Replayed, replay};
 pub use laws::ran_is_one;
 pub use reply::{Cause, Outcome, Reply};
 pub use run::Run;
+pub use tail::Tail;
 pub use trace::Trace;

@@ -3,8 +3,10 @@ ghost use Rattle.std.specs.Prelude.{◌≡◌, [], IfOk};
 ghost use Rattle.std.specs.Option.{option_copied};
 ghost use Rattle.sw_world.specs.Body.{Goes, Ends, answers};
 ghost use Rattle.sw_record.specs.Kept.{IsKept, kept_of, job_of, printed_of};
+ghost use Rattle.sw_record.specs.Tails.{IsTail};
 
-use crate::Trace;
+use crate::tail::tail_of;
+use crate::{Tail, Trace};
 use std::alloc::Global;
 use std::marker::{Model, PhantomData};
 use sw_css_print::{Printed, print_one};
@@ -18,6 +20,7 @@ use sw_world::{Answer, Config, End, Engine, Op};
 pub struct Run<E: Engine> {
     trace: Trace,
     printed: Option<Shared<Printed>>,
+    tail: Shared<Tail>,
     of: PhantomData<E>,
 }
 
@@ -28,6 +31,7 @@ impl<E: Engine> Model for Run<E> {
     ghost use Rattle.sw_values.specs.contracts.plain.Plain as plain;
     ghost use Rattle.std.specs.Prelude.{◌≡◌};
     ghost use Rattle.sw_record.specs.Kept.{Kept, IsKept, kept_of, printed_of};
+    ghost use Rattle.sw_record.specs.Tails.{IsTail};
 
     ghost Value = { Kept };
 
@@ -35,7 +39,8 @@ impl<E: Engine> Model for Run<E> {
 
     ghost view = { λ run. kept_of run.trace };
 
-    ghost invariant = { λ run. IsKept E.body (kept_of run.trace) × (run.printed ≡ printed_of run.trace.end) };
+    ghost invariant = { λ run. IsKept E.body (kept_of run.trace) × (run.printed ≡ printed_of run.trace.end)
+        × IsTail run.trace.seen run.tail };
 }
 
 impl<E: Engine> Run<E> {
@@ -46,9 +51,11 @@ impl<E: Engine> Run<E> {
         ensures { IfOk result (λ run. run ≡ kept_of trace) }
     {
         let printed = printed_of(alloc, &trace.end)?;
+        let tail = Shared::new(alloc, tail_of(alloc, trace.seen.get().as_slice())?)?;
         Ok(Run {
             trace,
             printed,
+            tail,
             of: PhantomData,
         })
     }
@@ -86,6 +93,13 @@ impl<E: Engine> Run<E> {
         self.trace.seen.get().as_slice()
     }
 
+    /// The questions behind its last load, as they are asked again at once.
+    pub(crate) fn tail(&self) -> &Tail
+        ensures { IsTail self.now.run.seen result.now }
+    {
+        self.tail.get()
+    }
+
     pub fn end(&self) -> &End
         ensures end { result.now ≡ self.now.run.end }
         ensures is_kept { IsKept E.body self.now }
@@ -107,6 +121,7 @@ impl<E: Engine> Run<E> {
         Ok(Run {
             trace: self.trace.share()?,
             printed: share_printed(&self.printed)?,
+            tail: self.tail.share()?,
             of: PhantomData,
         })
     }
