@@ -1,5 +1,5 @@
 // The bytes of a name, in one piece of memory where they are few.
-ghost use Rattle.std.specs.Prelude.{◌≡◌, IfOk, string_bytes};
+ghost use Rattle.std.specs.Prelude.{◌≡◌, IfOk};
 ghost use Rattle.sw_text.specs.Names.{letters_of};
 
 use crate::Memory;
