@@ -3,7 +3,7 @@ use Rattle.std.proofs.Common.{◌≡◌, ℕ, ◌+◌, ◌-◌, ◌<◌, Bool, t
 use Rattle.std.specs.Prelude.{◌==◌, if◌then◌else◌}
 use Rattle.std.proofs.lemmas.Bool.Decides.{nat_tests}
 use Rattle.sw_scan.specs.declared.runs.Class.TheVariants as classes
-use Rattle.sw_scan.specs.Bytes.{sign, byte, is_white, is_quote, is_digit, is_letter, is_hex_digit, starts_plainly, opens_at, begins_silent, begins_loud}
+use Rattle.sw_scan.specs.Bytes.{sign, byte, is_white, is_quote, is_digit, is_letter, is_hex_digit, starts_plainly, is_name_byte, opens_at, begins_silent, begins_loud}
 use Rattle.sw_scan.specs.Runs.{next, run_end, escape_end, begins_name}
 use Rattle.sw_scan.specs.Words.{is_u, begins_number, begins_range, begins_url}
 use Rattle.sw_scan.proofs.Bounds.{if_true, if_false, run_stop, and_left, and_right}
@@ -17,7 +17,7 @@ use Rattle.sw_tokens.specs.declared.pieces.Before.TheVariants as befores
 use Rattle.sw_tokens.specs.declared.pieces.Change.TheVariants as changes
 use Rattle.sw_tokens.specs.declared.scan.Opened.{Opened}
 use Rattle.sw_tokens.specs.Pieces.{made, sign_of, sign_piece, letter_kind, name_piece, has_hex_length, is_hex_form, is_open_ended, opens_url, after_dollar, after_hash, word_piece, in_interpolation, code_piece, css_piece, piece}
-use Rattle.sw_tokens.specs.Tokens.{top, is_code, is_lone_in, is_lone, is_named_in, is_named, before_of, kept_by, behind, rest}
+use Rattle.sw_tokens.specs.Tokens.{top, is_code, is_lone_in, is_lone, ends_name, is_named_in, is_named, before_of, kept_by, behind, rest}
 use Rattle.sw_tokens.proofs.Walks.{loop_step}
 
 and_no : (a b : Bool) → a ≡ false → (a && b) ≡ false
@@ -162,6 +162,34 @@ calm_lone inside before b =
     (record { white = refl; quote = refl; hash = refl; brace = refl; slash = refl; hex = no_and (after_hash before) false refl; digit = refl; dot = refl; u = refl })
     (record { white = refl; quote = refl; hash = refl; brace = refl; slash = refl; hex = no_and (after_hash before) false refl; digit = refl; dot = refl; u = refl })
     (λ opened. record { white = refl; quote = refl; hash = refl; brace = opened; slash = refl; hex = no_and (after_hash before) false refl; digit = refl; dot = refl; u = refl })
+
+-- what stands behind many names: neither a name character nor what begins an escape
+record Over (b : ℕ) : Type 0 where
+  name : is_name_byte b ≡ false
+  escape : (b == sign "\\") ≡ false
+
+or_either : (t : Bool) (u : Bool) (P : Type 0) → (t ≡ true → P) → (u ≡ true → P) → (t || u) ≡ true → P
+or_either true u P f g e = f refl
+or_either false u P f g e = g e
+
+over : (b c : ℕ) → Over c → (b == c) ≡ true → Over b
+over b c p e = rw (same_number b c e) p
+
+ends_over : (b : ℕ) → ends_name b ≡ true → Over b
+ends_over b =
+    or_either (b == 32) _ (Over b) (over b 32 (record { name = refl; escape = refl })) (or_either (b == 10) _ (Over b) (over b 10 (record { name = refl; escape = refl }))
+    (or_either (b == 123) _ (Over b) (over b 123 (record { name = refl; escape = refl })) (or_either (b == 125) _ (Over b) (over b 125 (record { name = refl; escape = refl }))
+    (or_either (b == 40) _ (Over b) (over b 40 (record { name = refl; escape = refl })) (or_either (b == 41) _ (Over b) (over b 41 (record { name = refl; escape = refl }))
+    (or_either (b == 58) _ (Over b) (over b 58 (record { name = refl; escape = refl })) (or_either (b == 59) _ (Over b) (over b 59 (record { name = refl; escape = refl }))
+    (or_either (b == 44) _ (Over b) (over b 44 (record { name = refl; escape = refl })) (over b 46 (record { name = refl; escape = refl }))))))))))
+
+-- such a sign ends a name
+pub name_over : (bs : List ℕ) (at : ℕ) → ends_name (byte bs at) ≡ true → run_end classes.Name bs at ≡ at
+unfolding escape_end
+name_over bs at e =
+    let f : Over (byte bs at) = ends_over (byte bs at) e in
+    let stays : next classes.Name bs at ≡ at = if_false (is_name_byte (byte bs at)) (at + 1) (escape_end bs at) f.name ∙ if_true (not (byte bs at == sign "\\")) at _ (rw f.escape refl) in
+    run_stop bs classes.Name at (omega (arith, stays))
 
 module _ (bs : List ℕ) (at : ℕ) where
   no_name : Single (byte bs at) → begins_name bs at ≡ false
