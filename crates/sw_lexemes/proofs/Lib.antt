@@ -5,3 +5,4 @@ pub mod Listed
 pub mod Lies
 mod Examples
 pub mod Firsts
+pub mod Passing

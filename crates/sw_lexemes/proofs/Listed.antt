@@ -60,6 +60,11 @@ pub end_boundary : (bytes : List ℕ) (token : Token) (next : Option Token) → 
 end_boundary bytes token None s n = s.to
 end_boundary bytes token (Some t) s n = choose bytes (opens token.kind) t.from token.to (n t refl).from s.to
 
+-- a token in which no others stand
+pub end_plainly : (token : Token) (next : Option Token) → opens token.kind ≡ false → end_by token next ≡ token.to
+end_plainly token None e = refl
+end_plainly token (Some t) e = ap (λ (b : Bool). if b then t.from else token.to) e
+
 pub plains_long : (bytes : List ℕ) (gap : ℕ) (tokens : List Token) → length (plains_from bytes gap tokens) ≡ length tokens
 plains_long bytes gap [] = refl
 plains_long bytes gap (token ∷ rest) = ap suc (plains_long bytes (end_by token (slice_get rest 0)) rest)

@@ -14,9 +14,12 @@ abbrev pub end_by : Token → Option Token → ℕ
 end_by token None = token.to
 end_by token (Some next) = if opens token.kind then next.from else token.to
 
+abbrev pub holds_slash : List ℕ → Bool
+holds_slash bytes = list_any (λ b. b == sign "/") bytes
+
 -- between two tokens stand white space and silent comments alone, so a `/` there begins a comment
 unfoldable pub has_slash : List ℕ → ℕ → ℕ → Bool
-has_slash bytes from to = list_any (λ b. b == sign "/") (slice_range bytes from to)
+has_slash bytes from to = holds_slash (slice_range bytes from to)
 
 -- a token whose own text ends at an offset, and that of the one before it at another
 unfoldable pub plain_of : List ℕ → ℕ → Token → ℕ → Plain

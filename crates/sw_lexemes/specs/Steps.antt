@@ -147,6 +147,43 @@ after_opening state terminal None =
     else (if closes terminal then popped state terminal
     else stepped state (further_mode state.mode terminal) (in_word terminal) terminal)
 
+-- a terminal neither opens nor closes anything
+abbrev pub passes : Terminal → Bool
+passes terminals.Open = false
+passes terminals.Close = false
+passes terminals.RawParen = false
+passes terminals.RawBracket = false
+passes terminals.RawBrace = false
+passes terminals.Insert = false
+passes terminals.RawParenEnd = false
+passes terminals.RawBracketEnd = false
+passes terminals.RawBraceEnd = false
+passes terminals.InsertEnd = false
+passes terminals.TemplateEnd = false
+passes terminals.UrlEnd = false
+passes terminals.CommentEnd = false
+passes terminals.Template = false
+passes terminals.UrlTemplate = false
+passes terminals.WordInsert = false
+passes terminals.Paren = false
+passes terminals.ConditionParen = false
+passes terminals.Bracket = false
+passes terminals.PartInsert = false
+passes terminals.CallParen = false
+passes terminals.ParenEnd = false
+passes terminals.BracketEnd = false
+passes terminals.CommentTemplate = false
+passes terminals.HeadParen = false
+passes _ = true
+
+-- tokens are read in the same mode behind each of these
+abbrev pub stays : Mode → Bool
+stays modes.Each = false
+stays modes.For = false
+stays modes.Else = false
+stays modes.CustomName = false
+stays _ = true
+
 -- the state behind a token of a terminal
 unfoldable pub after : State → Terminal → State
 after state terminal = after_opening state terminal (opened_by terminal)

@@ -55,6 +55,7 @@ pub(crate) fn number_direct(plains: &[Plain], at: usize) -> bool
     !spaced_at(plains, at) && is_number(sort_at(plains, at))
 }
 
+#[inline(always)]
 fn over_comment(sort: Sort, count: usize) -> Option<usize>
     requires { count + 1 < 2 ^ 64 }
     ensures value { result ≡ over_comment sort count }
@@ -68,6 +69,7 @@ fn over_comment(sort: Sort, count: usize) -> Option<usize>
     }
 }
 
+#[inline(always)]
 fn in_insert(sort: Sort, count: usize) -> usize
     requires { count + 1 < 2 ^ 64 }
     ensures value { result ≡ in_insert sort count }
@@ -80,6 +82,7 @@ fn in_insert(sort: Sort, count: usize) -> usize
     }
 }
 
+#[inline(always)]
 fn over_word(sort: Sort, spaced: bool, count: usize) -> Option<usize>
     requires { count + 1 < 2 ^ 64 }
     ensures value { result ≡ over_word sort spaced count }
@@ -94,6 +97,7 @@ fn over_word(sort: Sort, spaced: bool, count: usize) -> Option<usize>
     }
 }
 
+#[inline(always)]
 fn to_sign(sort: Sort, count: usize) -> Option<usize>
     requires { count + 1 < 2 ^ 64 }
     ensures value { result ≡ to_sign sort count }
@@ -109,6 +113,7 @@ fn to_sign(sort: Sort, count: usize) -> Option<usize>
     }
 }
 
+#[inline(always)]
 fn walk_step(walk: Walk, sort: Sort, spaced: bool, count: usize) -> Option<usize>
     requires { count + 1 < 2 ^ 64 }
     ensures value { result ≡ walk_step walk sort spaced count }
@@ -121,9 +126,10 @@ fn walk_step(walk: Walk, sort: Sort, spaced: bool, count: usize) -> Option<usize
     }
 }
 
-/// Where a walk from a place on ends.
+// The loop of a walk.
 #[tactic(auto, using(crate::proofs::Walks::walk_stops, crate::proofs::Walks::walk_ends), unfolding(crate::specs::Ahead::walk_from))]
-pub(crate) fn walk_from(walk: Walk, plains: &[Plain], count: usize, at: usize) -> usize
+#[inline(never)]
+fn walk_on(walk: Walk, plains: &[Plain], count: usize, at: usize) -> usize
     requires one { count ≤ 1 }
     requires near { at ≤ length plains.now + 4 }
     ensures value { result ≡ walk_from walk plains.now count at }
@@ -141,6 +147,21 @@ pub(crate) fn walk_from(walk: Walk, plains: &[Plain], count: usize, at: usize) -
         place += 1;
     }
     place
+}
+
+/// Where a walk from a place on ends. Most end where they begin, which needs no loop.
+#[tactic(auto, using(crate::proofs::Walks::walk_none))]
+#[inline(always)]
+pub(crate) fn walk_from(walk: Walk, plains: &[Plain], count: usize, at: usize) -> usize
+    requires one { count ≤ 1 }
+    requires near { at ≤ length plains.now + 4 }
+    ensures value { result ≡ walk_from walk plains.now count at }
+    ensures near { at ≤ length plains.now → result ≤ length plains.now }
+{
+    match walk_step(walk, sort_at(plains, at), spaced_at(plains, at), count) {
+        None => at,
+        Some(_) => walk_on(walk, plains, count, at),
+    }
 }
 
 /// The first place from one on that is no comment.

@@ -76,6 +76,7 @@ fn behind_bang(sort: Sort) -> Terminal
     }
 }
 
+#[inline(always)]
 fn constant_or_word(sort: Sort) -> Terminal
     ensures { result ≡ constant_or_word sort }
 {

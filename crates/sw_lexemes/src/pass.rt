@@ -130,6 +130,7 @@ fn read(
 }
 
 /// What the grammar sees of tokens by themselves, from a place on, where this is known.
+#[inline(never)]
 pub(crate) fn lexemes_by(
     alloc: Global,
     plains: &[Plain],

@@ -2,25 +2,25 @@
 ghost use Rattle.std.specs.Prelude.{◌≡◌, ◌+◌, ◌^◌, ◌<◌, ◌≤◌, IfOk, All, length, slice_get};
 ghost use Rattle.std.specs.Option.{option_copied};
 ghost use Rattle.std.specs.Str.{IsCharBoundary};
+ghost use Rattle.sw_text.specs.Places.{pos_at};
 ghost use Rattle.sw_tokens.specs.Ends.{opens};
 ghost use Rattle.sw_tokens.specs.Order.{StandsIn};
-ghost use Rattle.sw_lexemes.specs.Cursors.{Stands, EndsStand};
-ghost use Rattle.sw_lexemes.specs.Plains.{PlainLies, end_by, has_slash, plain_of, plains_of};
+ghost use Rattle.sw_lexemes.specs.Cursors.{Stands};
+ghost use Rattle.sw_lexemes.specs.Plains.{PlainLies, end_by, holds_slash, has_slash, plain_of, plains_of};
 
-use crate::cursor::{Cursor, MarkedText, START, cursor_at, marked, pos_of};
+use crate::cursor::{Cursor, MarkedText, START, marked, pos_of, walk_to};
 use crate::plain::Plain;
 use crate::sort::sort_of;
 use std::alloc::Global;
-use sw_text::Memory;
+use sw_text::{Memory, Pos};
 use sw_tokens::{Token, TokenKind, Tokens};
 
-/// The ends of a token's own text, by cursors that stand there.
+/// Where a token's own text ends, and the places of both its ends.
 #[derive(Clone, Copy, Debug)]
 pub(crate) struct Ends {
-    pub from: u32,
     pub to: u32,
-    pub start: Cursor,
-    pub end: Cursor,
+    pub start: Pos,
+    pub end: Pos,
 }
 
 fn opens(kind: &TokenKind) -> bool
@@ -48,13 +48,30 @@ fn end_by(token: &Token, next: Option<&Token>) -> u32
 }
 
 // Where the own text of the token at a place ends.
+#[tactic(auto, using(crate::proofs::Listed::end_plainly))]
 fn end_at(tokens: &Tokens, at: usize, token: &Token) -> u32
     requires fits { at + 1 < 2 ^ 64 }
     requires stands { StandsIn tokens.now.sheet.bytes token.now }
     ensures value { result ≡ end_by token.now (slice_get tokens.now.list (at + 1)) }
     ensures boundary { IsCharBoundary tokens.now.sheet.bytes result }
 {
-    end_by(token, tokens.get(at + 1))
+    if opens(&token.kind) {
+        end_by(token, tokens.get(at + 1))
+    } else {
+        token.to
+    }
+}
+
+// Most texts between two tokens are of one byte, so this is a loop of its own.
+fn holds_slash(bytes: &[u8]) -> bool
+    ensures { result ≡ holds_slash bytes.now }
+{
+    'bytes: for byte in bytes {
+        if *byte == b'/' {
+            return true;
+        }
+    }
+    false
 }
 
 #[tactic(auto, unfolding(crate::specs::Plains::has_slash))]
@@ -63,38 +80,28 @@ fn has_slash(bytes: &[u8], from: usize, to: usize) -> bool
     ensures { result ≡ has_slash bytes.now from to }
 {
     if from < to {
-        bytes[from..to].contains(&b'/')
+        holds_slash(&bytes[from..to])
     } else {
         false
     }
 }
 
-// The ends of a token's own text, by a walk from where that of the one before ends. These texts don't overlap, so each
-// byte of the sheet is walked over once.
-fn ends_of(text: &MarkedText, near: Cursor, from: u32, to: u32) -> Ends
-    requires from { from ≤ length text.now.sheet.now.bytes }
-    requires to { to ≤ length text.now.sheet.now.bytes }
-    requires near { Stands text.now.bytes.now near }
-    ensures from { result.from ≡ from }
+// Where a token's own text ends, and the places of both its ends, by a walk from where that of the one before ends. These
+// texts don't overlap, so each byte of the sheet is walked over once.
+fn ends_of(text: &MarkedText, cursor: &mut Cursor, gap: u32, from: u32, to: u32) -> Ends
+    requires from { IsCharBoundary text.now.sheet.now.bytes from }
+    requires to { IsCharBoundary text.now.sheet.now.bytes to }
+    requires near { Stands text.now.bytes.now gap cursor.old }
     ensures to { result.to ≡ to }
-    ensures stand { EndsStand text.now.bytes.now text.now.skipped result }
+    ensures start { result.start ≡ pos_at text.now.sheet.now.bytes from }
+    ensures end { result.end ≡ pos_at text.now.sheet.now.bytes to }
+    ensures stands { Stands text.now.bytes.now to cursor.new }
 {
-    let start = cursor_at(
-        text.bytes,
-        near,
-        (from as usize).saturating_sub(text.skipped),
-    );
-    let end = cursor_at(
-        text.bytes,
-        start,
-        (to as usize).saturating_sub(text.skipped),
-    );
-    Ends {
-        from,
-        to,
-        start,
-        end,
-    }
+    walk_to(text, cursor, gap as usize, from as usize);
+    let start = pos_of(text, cursor, from);
+    walk_to(text, cursor, from as usize, to as usize);
+    let end = pos_of(text, cursor, to);
+    Ends { to, start, end }
 }
 
 // A token whose text has these ends, and that of the one before it ends at an offset.
@@ -102,8 +109,8 @@ fn ends_of(text: &MarkedText, near: Cursor, from: u32, to: u32) -> Ends
 fn plain_of(text: &MarkedText, gap: u32, token: &Token, ends: Ends) -> Plain
     requires stands { StandsIn text.now.sheet.now.bytes token.now }
     requires to { IsCharBoundary text.now.sheet.now.bytes ends.to }
-    requires from { ends.from ≡ token.now.from }
-    requires ends { EndsStand text.now.bytes.now text.now.skipped ends }
+    requires start { ends.start ≡ pos_at text.now.sheet.now.bytes token.now.from }
+    requires end { ends.end ≡ pos_at text.now.sheet.now.bytes ends.to }
     ensures plain { result ≡ plain_of text.now.sheet.now.bytes gap token.now ends.to }
     ensures lies { PlainLies text.now.sheet.now.bytes result }
 {
@@ -111,15 +118,16 @@ fn plain_of(text: &MarkedText, gap: u32, token: &Token, ends: Ends) -> Plain
     Plain {
         sort: sort_of(&token.kind, &all[token.from as usize..token.to as usize]),
         spaced: token.spaced,
-        silent: has_slash(all.as_bytes(), gap as usize, token.from as usize),
+        silent: has_slash(text.bytes, gap as usize, token.from as usize),
         from: token.from,
         to: ends.to,
-        start: pos_of(text, ends.start, token.from),
-        end: pos_of(text, ends.end, ends.to),
+        start: ends.start,
+        end: ends.end,
     }
 }
 
 /// The tokens by themselves, in one walk through the text.
+#[inline(never)]
 pub(crate) fn plains_of(alloc: Global, tokens: &Tokens) -> Result<Vec<Plain>, Memory>
     ensures plains { IfOk result (λ plains. plains.items ≡ plains_of tokens.now.sheet.bytes tokens.now.list) }
     ensures lie { IfOk result (λ plains. All (PlainLies tokens.now.sheet.bytes) plains.items) }
@@ -131,10 +139,9 @@ pub(crate) fn plains_of(alloc: Global, tokens: &Tokens) -> Result<Vec<Plain>, Me
     let mut at = 0;
     'tokens: while let Some(token) = tokens.get(at) {
         let to = end_at(tokens, at, token);
-        let ends = ends_of(&text, near, token.from, to);
+        let ends = ends_of(&text, &mut near, gap, token.from, to);
         plains.push(plain_of(&text, gap, token, ends))?;
         gap = to;
-        near = ends.end;
         at += 1;
     }
     Ok(plains)

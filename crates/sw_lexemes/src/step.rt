@@ -1,6 +1,6 @@
 // What comes of a token.
 ghost use Rattle.std.specs.Prelude.{◌≡◌, ◌+◌, ◌^◌, ◌<◌, ◌≤◌, length, OnOk, None};
-ghost use Rattle.sw_lexemes.specs.Steps.{opened_by, closes, inner_mode, further_mode, is_inserting, below_insert, begins_statement, in_word, from_word, mode_of, stepped, opened, popped, inserted, after_opening, after, judged, comments_by, comments_at, placed, are_white, is_white, ignored_after, past_white};
+ghost use Rattle.sw_lexemes.specs.Steps.{opened_by, closes, inner_mode, further_mode, is_inserting, below_insert, begins_statement, in_word, from_word, mode_of, stepped, passes, stays, opened, popped, inserted, after_opening, after, judged, comments_by, comments_at, placed, are_white, is_white, ignored_after, past_white};
 
 use crate::ahead::{code_from, sort_at};
 use crate::bracket::innermost;
@@ -105,6 +105,7 @@ fn below_insert(frames: &mut List<Frame>)
     }
 }
 
+#[inline(always)]
 fn begins_statement(terminal: Terminal) -> bool
     ensures { result ≡ begins_statement terminal }
 {
@@ -118,6 +119,7 @@ fn begins_statement(terminal: Terminal) -> bool
     }
 }
 
+#[inline(always)]
 fn in_word(terminal: Terminal) -> bool
     ensures { result ≡ in_word terminal }
 {
@@ -211,10 +213,58 @@ fn closed(state: &mut State, terminal: Terminal)
     }
 }
 
-/// Goes behind a token of a terminal.
-#[tactic(auto, unfolding(crate::specs::Steps::after))]
+// Whether a terminal neither opens nor closes anything.
 #[inline(always)]
-pub(crate) fn after(state: &mut State, terminal: Terminal) -> Result<(), Memory>
+fn passes(terminal: Terminal) -> bool
+    ensures { result ≡ passes terminal }
+{
+    match terminal {
+        Terminal::Open => false,
+        Terminal::Close => false,
+        Terminal::RawParen => false,
+        Terminal::RawBracket => false,
+        Terminal::RawBrace => false,
+        Terminal::Insert => false,
+        Terminal::RawParenEnd => false,
+        Terminal::RawBracketEnd => false,
+        Terminal::RawBraceEnd => false,
+        Terminal::InsertEnd => false,
+        Terminal::TemplateEnd => false,
+        Terminal::UrlEnd => false,
+        Terminal::CommentEnd => false,
+        Terminal::Template => false,
+        Terminal::UrlTemplate => false,
+        Terminal::WordInsert => false,
+        Terminal::Paren => false,
+        Terminal::ConditionParen => false,
+        Terminal::Bracket => false,
+        Terminal::PartInsert => false,
+        Terminal::CallParen => false,
+        Terminal::ParenEnd => false,
+        Terminal::BracketEnd => false,
+        Terminal::CommentTemplate => false,
+        Terminal::HeadParen => false,
+        _ => true,
+    }
+}
+
+// Whether tokens are read in the same mode behind each terminal that passes.
+#[inline(always)]
+fn stays(mode: Mode) -> bool
+    ensures { result ≡ stays mode }
+{
+    match mode {
+        Mode::Each => false,
+        Mode::For => false,
+        Mode::Else => false,
+        Mode::CustomName => false,
+        _ => true,
+    }
+}
+
+#[tactic(auto, unfolding(crate::specs::Steps::after))]
+#[inline(never)]
+fn turned(state: &mut State, terminal: Terminal) -> Result<(), Memory>
     ensures value { OnOk result (state.new ≡ after state.old terminal) }
     ensures none { OnOk result (state.new.ignored ≡ 0) }
 {
@@ -227,6 +277,22 @@ pub(crate) fn after(state: &mut State, terminal: Terminal) -> Result<(), Memory>
         None => closed(state, terminal),
     }
     Ok(())
+}
+
+/// Goes behind a token of a terminal. Most neither open nor close anything and change no mode.
+#[tactic(auto, using(crate::proofs::Passing::passing_after))]
+#[inline(always)]
+pub(crate) fn after(state: &mut State, terminal: Terminal) -> Result<(), Memory>
+    ensures value { OnOk result (state.new ≡ after state.old terminal) }
+    ensures none { OnOk result (state.new.ignored ≡ 0) }
+{
+    if passes(terminal) && stays(state.mode) {
+        let mode = state.mode;
+        stepped(state, mode, in_word(terminal), terminal);
+        Ok(())
+    } else {
+        turned(state, terminal)
+    }
 }
 
 fn judged(plains: &[Plain], at: usize) -> Comments

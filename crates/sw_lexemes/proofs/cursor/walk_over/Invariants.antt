@@ -5,7 +5,7 @@ use Rattle.sw_lexemes.proofs.cursor.walk_over.Given as goal
 
 abbrev pub invariant-bytes : goal.invariant-bytes
 invariant-bytes l = record {
-  place : place_after (place_of l.walk) (drop l.byte-index l.bytes) ≡ place_after (place_of l.fn.from) l.bytes;
-  line : l.walk.line ≤ l.fn.from.line + l.byte-index;
-  column : l.walk.column ≤ l.fn.from.column + l.byte-index;
+  place : place_after (place_of l.cursor) (drop l.byte-index l.bytes) ≡ place_after (place_of l.fn.cursor) l.bytes;
+  line : l.cursor.line ≤ l.fn.cursor.line + l.byte-index;
+  column : l.cursor.column ≤ l.fn.cursor.column + l.byte-index;
 }

@@ -8,7 +8,7 @@ invariant-tokens l = record {
   plains : l.plains.items ++ plains_from l.tokens.sheet.bytes l.gap (drop l.at l.tokens.list) ≡ plains_of l.tokens.sheet.bytes l.tokens.list;
   lie : All (PlainLies l.tokens.sheet.bytes) l.plains.items;
   text : l.text.sheet.now ≡ l.tokens.sheet;
-  near : Stands l.text.bytes.now l.near;
+  near : Stands l.text.bytes.now l.gap l.near;
 }
 
 abbrev pub decreases-tokens : goal.decreases-tokens

@@ -1,6 +1,6 @@
 use Rattle.std.proofs.Common.{◌≡◌, ◌+◌, ◌-◌, ◌≤◌, length}
 use Rattle.sw_lexemes.specs.Ahead.{walk_by, walk_from}
-use Rattle.sw_lexemes.proofs.ahead.walk_from.Given as goal
+use Rattle.sw_lexemes.proofs.ahead.walk_on.Given as goal
 
 abbrev pub invariant-items : goal.invariant-items
 invariant-items l = record {

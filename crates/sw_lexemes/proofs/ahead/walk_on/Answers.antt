@@ -2,7 +2,7 @@ use Rattle.std.proofs.Common.{◌≡◌, ◌<◌, Bool, Some, length, sym, ◌�
 use Rattle.sw_lexemes.specs.declared.sort.Sort.{Sort}
 use Rattle.sw_lexemes.specs.Ahead.{sort_at, spaced_at, walk_step}
 use Rattle.sw_lexemes.proofs.Walks.{walk_more}
-use Rattle.sw_lexemes.proofs.ahead.walk_from.Goals as goal
+use Rattle.sw_lexemes.proofs.ahead.walk_on.Goals as goal
 
 pub items-preserved : goal.items-preserved
 items-preserved c =
