@@ -1,6 +1,7 @@
 -- What a reader of a block needs of the one that reads statements where fewer levels may be opened, and what that gives.
 use Rattle.std.specs.Prelude.{ℕ, ◌<◌, Result, List, map}
-use Rattle.sw_grammar.specs.Grammar.{Grammar, Answer, many}
+use Rattle.sw_grammar.specs.Grammar.{Grammar, Answer, many, prepend}
+use Rattle.sw_grammar.specs.Readers.{Answers}
 use Rattle.sw_grammar.specs.declared.ReadError.{ReadError}
 use Rattle.sw_syntax_tree.specs.declared.statement.Statement.{Statement}
 use Rattle.sw_syntax.specs.declared.source.Source.{Source}
@@ -24,3 +25,8 @@ ReadingInnerAt post source levels =
 -- the same with any lower number of levels
 abbrev pub ReadingInner : (ℕ × (ℕ × Unit {0}) → Result (List Statement × ℕ) ReadError → Type 0) → Source → ℕ → Type 0
 ReadingInner post source levels = (lower : ℕ) → lower < levels → ReadingInnerAt post source lower
+
+-- what was returned is the place behind what the reader answers, whose statements were put behind those before
+abbrev pub ReadsBehind : List Statement → List Statement → Result ℕ ReadError → Answer Part → Type 0
+ReadsBehind before after result answer =
+    Answers (λ _. map States after) (λ next. next) result (prepend (map States before) answer)

@@ -3,11 +3,11 @@ use Rattle.std.specs.Prelude.{ℕ, List, [], ◌∷◌, ◌++◌, map, Option, S
 use Rattle.sw_grammar.specs.Grammar.{Grammar, skip, seq, many, build}
 use Rattle.sw_terminals.specs.declared.terminal.Terminal.TheVariants as terminals
 use Rattle.sw_terminals.specs.Numbers.{these, just}
+use Rattle.sw_syntax_tree.specs.declared.expr.Expr.{Expr}
 use Rattle.sw_syntax_tree.specs.declared.statement.Statement.{Statement}
-use Rattle.sw_blocks.specs.declared.declaration.Held.{Held}
-use Rattle.sw_blocks.specs.declared.declaration.Held.TheVariants as helds
+use Rattle.sw_blocks.specs.declared.declaration.Opening.{Opening}
 use Rattle.sw_syntax.specs.declared.source.Source.{Source}
-use Rattle.sw_syntax.specs.Parts.{Part, Form, Values, Behind, Branches, Blocks}
+use Rattle.sw_syntax.specs.Parts.{Part, Form, Texts, Values, Behind, Branches, Blocks}
 use Rattle.sw_syntax.specs.Queries.{queries}
 use Rattle.sw_syntax.specs.Statements.{else_if, else_}
 use Rattle.sw_syntax.specs.Actions.{to_behind}
@@ -33,10 +33,20 @@ tail_parts tail = map Branches tail.branches ++ block_in tail.otherwise
 abbrev pub chosen_parts : Chosen → List Part
 chosen_parts chosen = Blocks chosen.first.block ∷ tail_parts chosen.tail
 
--- what stands behind the `:` of a declaration
-abbrev pub held_parts : Held → List Part
-held_parts (helds.Block block) = Blocks block ∷ []
-held_parts (helds.Value value end block) = Values value ∷ Behind end ∷ block_in block
+-- what stands before the block of nested properties, and where that block opens
+abbrev pub valued_parts : Option (Expr × ℕ) → List Part
+valued_parts None = []
+valued_parts (Some read) = Values read.0 ∷ Behind read.1 ∷ []
+
+abbrev pub opening_parts : Opening → List Part
+opening_parts opening = Texts opening.property ∷ Behind opening.place ∷ valued_parts opening.value
+
+abbrev pub place_behind : ℕ → Option (Expr × ℕ) → ℕ
+place_behind place None = place
+place_behind place (Some read) = read.1
+
+abbrev pub block_place : Opening → ℕ
+block_place opening = place_behind opening.place opening.value
 
 -- the head of `@media`
 abbrev pub media_head : Source → Grammar Part Form

@@ -1,82 +1,55 @@
 // Declarations, with nested properties and without.
-ghost use Rattle.std.specs.Prelude.{◌≡◌, ◌∷◌, [], IfOk};
-ghost use Rattle.sw_grammar.specs.Grammar.{alt};
-ghost use Rattle.sw_syntax.specs.Parts.{Texts, Values, Behind, States};
-ghost use Rattle.sw_syntax.specs.Actions.{properties, to_declaration};
-ghost use Rattle.sw_syntax.specs.Statements.{block as block_row, property_value, declaration};
-ghost use Rattle.sw_syntax.specs.Reads.{reader, reads, Reads};
+ghost use Rattle.std.specs.Prelude.{◌≡◌, ◌∷◌, [], ◌++◌, ℕ, map, IfOk, IfErr, OnOk};
+ghost use Rattle.sw_grammar.specs.Grammar.{acted, prepend};
+ghost use Rattle.sw_syntax.specs.Parts.{Texts, Values, Behind, Blocks, States};
+ghost use Rattle.sw_syntax.specs.Actions.{to_declaration};
+ghost use Rattle.sw_syntax.specs.Statements.{block as block_row, declaration};
+ghost use Rattle.sw_syntax.specs.Reads.{reads};
 ghost use Rattle.sw_expr_inner.specs.Deeper.{Callable};
-ghost use Rattle.sw_blocks.specs.Inner.{ReadingInner};
-ghost use Rattle.sw_blocks.specs.Rows.{held_parts};
+ghost use Rattle.sw_blocks.specs.Inner.{ReadingInner, ReadsBehind};
+ghost use Rattle.sw_blocks.specs.Rows.{opening_parts, block_place};
 
-use crate::block::{block_at, headed_or_end_at};
+use crate::behind::put;
+use crate::block::block_at;
 use std::alloc::Global;
 use sw_expr_nodes::given_up;
 use sw_grammar::ReadError;
 use sw_statement_heads::{property_at, value_head_at};
+use sw_statement_parts::finish_at;
 use sw_syntax::{Source, found, is_at, span_between};
 use sw_syntax_tree::{Declaration, Expr, Properties, Statement, Text};
 use sw_terminals::Terminal;
 use sw_text::{List, Memory};
 
-/// What stands behind the `:` of a declaration.
+/// What stands before the block of nested properties.
 #[derive(Drop)]
-pub(crate) enum Held {
-    Block(List<Statement>),
-    /// A value, the place behind it, and the block there.
-    Value(Expr, usize, Option<List<Statement>>),
-}
-
-/// A value, and the block behind it or the end of the declaration.
-#[tactic(auto, unfolding(sw_grammar::specs::Readers::parse, sw_syntax::specs::Statements::property_value))]
-fn valued_at<S: Fn(u8, usize) -> Result<(List<Statement>, usize), ReadError> + Copy>(
-    alloc: Global,
-    inner: S,
-    source: &Source,
-    levels: u8,
-    at: usize,
-) -> Result<(Held, usize), ReadError>
-    requires callable { Callable (S.Fn.pre inner) levels }
-    requires reading { ReadingInner (S.Fn.post inner) source.now levels }
-    ensures { Reads held_parts result (reads source.now levels property_value at) }
-{
-    let (value, end) = value_head_at(alloc, source, levels, at)?;
-    let ((value, block), place) = headed_or_end_at(inner, source, levels, end, value)?;
-    Ok((Held::Value(value, end, block), place))
-}
-
-/// A block, or a value with what stands behind it.
-#[tactic(auto, unfolding(sw_grammar::specs::Readers::parse, sw_syntax::specs::Statements::block))]
-fn held_at<S: Fn(u8, usize) -> Result<(List<Statement>, usize), ReadError> + Copy>(
-    alloc: Global,
-    inner: S,
-    source: &Source,
-    levels: u8,
-    at: usize,
-) -> Result<(Held, usize), ReadError>
-    requires callable { Callable (S.Fn.pre inner) levels }
-    requires reading { ReadingInner (S.Fn.post inner) source.now levels }
-    ensures { Reads held_parts result (reader source.now levels (alt (block_row source.now) (property_value source.now))
-        at) }
-{
-    if is_at(source, at, Terminal::Open) {
-        let (block, place) = block_at(inner, source, levels, at)?;
-        return Ok((Held::Block(block), place));
-    }
-    valued_at(alloc, inner, source, levels, at)
+pub(crate) struct Opening {
+    pub property: Text,
+    /// The place behind the `:`.
+    pub place: usize,
+    /// A value, and the place behind it.
+    pub value: Option<(Expr, usize)>,
 }
 
 fn properties_of(
     source: &Source,
-    places: (usize, usize),
-    property: Text,
-    value: Option<Expr>,
+    at: usize,
+    opening: Opening,
     block: List<Statement>,
 ) -> Result<Statement, Memory>
-    ensures { IfOk result (λ statement. properties source.now places.0 places.1 property value block ≡ States statement
+    ensures { IfOk result (λ statement. (behind : ℕ) → to_declaration source.now at behind (opening_parts opening ++ Blocks block ∷ []) ≡ States statement
         ∷ []) }
 {
-    match span_between(source, places.0, places.1) {
+    let Opening {
+        property,
+        place,
+        value,
+    } = opening;
+    let (value, end) = match value {
+        None => (None, place),
+        Some((value, end)) => (Some(value), end),
+    };
+    match span_between(source, at, end) {
         Ok(span) => Ok(Statement::Properties(Properties {
             property,
             value,
@@ -87,63 +60,107 @@ fn properties_of(
     }
 }
 
-fn plain_of(
+/// The block of nested properties behind what stands before it.
+#[inline(never)]
+fn properties_behind<S: Fn(u8, usize) -> Result<(List<Statement>, usize), ReadError> + Copy>(
+    list: &mut Vec<Statement>,
+    inner: S,
+    source: &Source,
+    levels: u8,
+    at: usize,
+    opening: Opening,
+) -> Result<usize, ReadError>
+    requires callable { Callable (S.Fn.pre inner) levels }
+    requires reading { ReadingInner (S.Fn.post inner) source.now levels }
+    ensures { ReadsBehind list.old.items list.new.items result (acted (to_declaration source.now at) (prepend
+        (opening_parts opening) (reads source.now levels block_row (block_place opening)))) }
+{
+    let place = block_place(&opening);
+    match block_at(inner, source, levels, place) {
+        Ok((block, next)) => {
+            let statement = found(properties_of(source, at, opening, block))?;
+            put(list, statement)?;
+            Ok(next)
+        }
+        Err(error) => Err(given_up(opening, error)),
+    }
+}
+
+fn block_place(opening: &Opening) -> usize
+    ensures { result ≡ block_place opening.now }
+{
+    match &opening.value {
+        None => opening.place,
+        Some((_, end)) => *end,
+    }
+}
+
+/// Puts a declaration without a block behind the others.
+#[inline(always)]
+fn put_plain(
+    list: &mut Vec<Statement>,
     source: &Source,
     places: (usize, usize),
     property: Text,
     value: Expr,
-) -> Result<Statement, Memory>
-    ensures { IfOk result (λ statement. to_declaration source.now places.0 places.1 (Texts property ∷ Behind places.1
-        ∷ Values value ∷ Behind places.1 ∷ []) ≡ States statement ∷ []) }
+) -> Result<(), ReadError>
+    ensures more { OnOk result (map States list.new.items ≡ map States list.old.items ++ to_declaration source.now places.0 places.1 (Texts property ∷ Behind places.1
+        ∷ Values value ∷ Behind places.1 ∷ [])) }
+    ensures memory { IfErr result (λ error. error ≡ ReadError.Memory) }
 {
     match span_between(source, places.0, places.1) {
-        Ok(span) => Ok(Statement::Declaration(Declaration {
-            property,
-            value,
-            span,
-        })),
-        Err(error) => Err(given_up((property, value), error)),
+        Ok(span) => put(
+            list,
+            Statement::Declaration(Declaration {
+                property,
+                value,
+                span,
+            }),
+        ),
+        Err(_) => Err(given_up((property, value), ReadError::Memory)),
     }
 }
 
-fn declaration_of(
-    source: &Source,
-    at: usize,
-    head: usize,
-    property: Text,
-    held: Held,
-) -> Result<Statement, Memory>
-    ensures { IfOk result (λ statement. to_declaration source.now at head (Texts property ∷ Behind head ∷ held_parts
-        held) ≡ States statement ∷ []) }
-{
-    match held {
-        Held::Block(block) => properties_of(source, (at, head), property, None, block),
-        Held::Value(value, end, block) => match block {
-            None => plain_of(source, (at, end), property, value),
-            Some(block) => properties_of(source, (at, end), property, Some(value), block),
-        },
-    }
-}
-
-/// A declaration with its value, its nested properties, or both.
+/// A declaration with its value, its nested properties, or both, put behind the statements before it.
 #[tactic(auto, unfolding(sw_grammar::specs::Readers::parse, sw_syntax::specs::Statements::declaration))]
-pub fn declaration_at<S: Fn(u8, usize) -> Result<(List<Statement>, usize), ReadError> + Copy>(
+pub fn declaration_behind<S: Fn(u8, usize) -> Result<(List<Statement>, usize), ReadError> + Copy>(
+    list: &mut Vec<Statement>,
     alloc: Global,
     inner: S,
     source: &Source,
     levels: u8,
     at: usize,
-) -> Result<(Statement, usize), ReadError>
+) -> Result<usize, ReadError>
     requires callable { Callable (S.Fn.pre inner) levels }
     requires reading { ReadingInner (S.Fn.post inner) source.now levels }
-    ensures { Reads (λ statement. States statement ∷ []) result (reads source.now levels declaration at) }
+    ensures { ReadsBehind list.old.items list.new.items result (reads source.now levels declaration at) }
 {
-    let (property, head) = property_at(alloc, source, levels, at)?;
-    match held_at(alloc, inner, source, levels, head) {
-        Ok((held, place)) => {
-            let statement = found(declaration_of(source, at, head, property, held))?;
-            Ok((statement, place))
+    let (property, place) = property_at(alloc, source, levels, at)?;
+    if is_at(source, place, Terminal::Open) {
+        let opening = Opening {
+            property,
+            place,
+            value: None,
+        };
+        return properties_behind(list, inner, source, levels, at, opening);
+    }
+    let (value, end) = match value_head_at(alloc, source, levels, place) {
+        Ok(read) => read,
+        Err(error) => return Err(given_up(property, error)),
+    };
+    if is_at(source, end, Terminal::Open) {
+        let opening = Opening {
+            property,
+            place,
+            value: Some((value, end)),
+        };
+        return properties_behind(list, inner, source, levels, at, opening);
+    }
+    match finish_at(source, levels, end) {
+        Ok(next) => {
+            put_plain(list, source, (at, end), property, value)?;
+            Ok(next)
         }
-        Err(error) => Err(given_up(property, error)),
+        Err(error) => Err(given_up((property, value), error)),
     }
 }

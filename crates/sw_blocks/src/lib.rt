@@ -4,6 +4,7 @@
 #![tactic(auto)]
 
 mod at_rule;
+mod behind;
 mod block;
 mod branch;
 mod callable;
@@ -15,11 +16,12 @@ mod name;
 mod rule;
 
 pub use at_rule::at_rule_at;
+pub use behind::put;
 pub use block::block_at;
 pub use branch::{if_at, while_at};
 pub use callable::{function_at, mixin_at};
 pub use counted::{each_at, for_at};
-pub use declaration::declaration_at;
+pub use declaration::declaration_behind;
 pub use include::include_at;
 pub use media::media_at;
-pub use rule::{at_root_at, rule_at, supports_at};
+pub use rule::{at_root_at, rule_behind, supports_at};

@@ -1,14 +1,15 @@
 // Rules, `@supports` and `@at-root`: a text and a block.
-ghost use Rattle.std.specs.Prelude.{◌≡◌, ◌∷◌, [], ◌++◌, IfOk};
+ghost use Rattle.std.specs.Prelude.{◌≡◌, ◌∷◌, [], ◌++◌, map, IfOk, IfErr, OnOk};
 ghost use Rattle.sw_syntax.specs.Parts.{Texts, Behind, Blocks, States};
 ghost use Rattle.sw_syntax.specs.Actions.{to_rule, to_supports, to_at_root};
 ghost use Rattle.sw_syntax.specs.Statements.{rule, supports, at_root};
 ghost use Rattle.sw_syntax.specs.Reads.{reads, Reads};
 ghost use Rattle.sw_expr_inner.specs.Deeper.{Callable};
 ghost use Rattle.sw_statement_parts.specs.Rows.{text_in};
-ghost use Rattle.sw_blocks.specs.Inner.{ReadingInner};
+ghost use Rattle.sw_blocks.specs.Inner.{ReadingInner, ReadsBehind};
 
-use crate::block::headed_at;
+use crate::behind::put;
+use crate::block::{block_at, headed_at};
 use std::alloc::Global;
 use sw_expr_nodes::given_up;
 use sw_grammar::ReadError;
@@ -17,43 +18,54 @@ use sw_syntax::{Source, found, span_between};
 use sw_syntax_tree::{AtRoot, Rule, Statement, Supports, Text};
 use sw_text::{List, Memory};
 
-fn rule_of(
+/// Puts a rule behind the others.
+#[inline(always)]
+fn put_rule(
+    list: &mut Vec<Statement>,
     source: &Source,
-    at: usize,
-    head: usize,
+    places: (usize, usize),
     selector: Text,
     block: List<Statement>,
-) -> Result<Statement, Memory>
-    ensures { IfOk result (λ statement. to_rule source.now at head (Texts selector ∷ Behind head ∷ Blocks block ∷ [])
-        ≡ States statement ∷ []) }
+) -> Result<(), ReadError>
+    ensures more { OnOk result (map States list.new.items ≡ map States list.old.items ++ to_rule source.now places.0
+        places.1 (Texts selector ∷ Behind places.1 ∷ Blocks block ∷ [])) }
+    ensures memory { IfErr result (λ error. error ≡ ReadError.Memory) }
 {
-    match span_between(source, at, head) {
-        Ok(span) => Ok(Statement::Rule(Rule {
-            selector,
-            block,
-            span,
-        })),
-        Err(error) => Err(given_up((selector, block), error)),
+    match span_between(source, places.0, places.1) {
+        Ok(span) => put(
+            list,
+            Statement::Rule(Rule {
+                selector,
+                block,
+                span,
+            }),
+        ),
+        Err(_) => Err(given_up((selector, block), ReadError::Memory)),
     }
 }
 
-/// A rule: a selector and its block.
+/// A rule, put behind the statements before it: a selector and its block.
 #[tactic(auto, unfolding(sw_grammar::specs::Readers::parse, sw_syntax::specs::Statements::rule))]
-pub fn rule_at<S: Fn(u8, usize) -> Result<(List<Statement>, usize), ReadError> + Copy>(
+pub fn rule_behind<S: Fn(u8, usize) -> Result<(List<Statement>, usize), ReadError> + Copy>(
+    list: &mut Vec<Statement>,
     alloc: Global,
     inner: S,
     source: &Source,
     levels: u8,
     at: usize,
-) -> Result<(Statement, usize), ReadError>
+) -> Result<usize, ReadError>
     requires callable { Callable (S.Fn.pre inner) levels }
     requires reading { ReadingInner (S.Fn.post inner) source.now levels }
-    ensures { Reads (λ statement. States statement ∷ []) result (reads source.now levels rule at) }
+    ensures { ReadsBehind list.old.items list.new.items result (reads source.now levels rule at) }
 {
     let (selector, head) = rule_head_at(alloc, source, levels, at)?;
-    let ((selector, block), place) = headed_at(inner, source, levels, head, selector)?;
-    let statement = found(rule_of(source, at, head, selector, block))?;
-    Ok((statement, place))
+    match block_at(inner, source, levels, head) {
+        Ok((block, place)) => {
+            put_rule(list, source, (at, head), selector, block)?;
+            Ok(place)
+        }
+        Err(error) => Err(given_up(selector, error)),
+    }
 }
 
 fn supports_of(

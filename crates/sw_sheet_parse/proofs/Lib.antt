@@ -4,3 +4,4 @@ pub mod LaidLemmas
 pub mod StatesOf
 pub mod Alike
 pub mod Sheets
+pub mod Behind

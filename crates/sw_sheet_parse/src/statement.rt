@@ -1,18 +1,18 @@
 // Which statement stands at a place.
 ghost use Rattle.std.specs.Prelude.{◌∷◌, []};
 ghost use Rattle.sw_syntax.specs.Parts.{States};
-ghost use Rattle.sw_syntax.specs.Statements.{plain_statement, load_statement, member_statement, flow_statement, css_statement, statement};
+ghost use Rattle.sw_syntax.specs.Statements.{set, assigned, custom, comment, plain_statement, load_statement, member_statement, flow_statement, css_statement, statement};
 ghost use Rattle.sw_syntax.specs.Reads.{reader, reads, Reads};
 ghost use Rattle.sw_expr_inner.specs.Deeper.{Callable};
-ghost use Rattle.sw_blocks.specs.Inner.{ReadingInner};
-ghost use Rattle.sw_sheet_parse.specs.Starts.{ruled, worded, statement_in};
+ghost use Rattle.sw_blocks.specs.Inner.{ReadingInner, ReadsBehind};
+ghost use Rattle.sw_sheet_parse.specs.Starts.{ruled, worded};
 
 use crate::begin::{is_comment, is_flow, is_load, is_member, is_plain};
 use crate::simple::{read_comment, read_custom, read_extend, read_import, read_use};
 use std::alloc::Global;
 use sw_blocks::{
-    at_root_at, at_rule_at, declaration_at, each_at, for_at, function_at, if_at, include_at,
-    media_at, mixin_at, rule_at, supports_at, while_at,
+    at_root_at, at_rule_at, declaration_behind, each_at, for_at, function_at, if_at, include_at,
+    media_at, mixin_at, put, rule_behind, supports_at, while_at,
 };
 use sw_callable_heads::content_at;
 use sw_expr_nodes::{begins_word, is_dollar};
@@ -24,50 +24,96 @@ use sw_syntax_tree::Statement;
 use sw_terminals::Terminal;
 use sw_text::List;
 
-/// A statement that begins with no `@` and is more than a `;`.
-fn ruled_at<S: Fn(u8, usize) -> Result<(List<Statement>, usize), ReadError> + Copy>(
+/// An assignment, put behind the statements before it.
+#[inline(never)]
+fn set_behind(
+    list: &mut Vec<Statement>,
     alloc: Global,
-    inner: S,
     source: &Source,
     levels: u8,
     at: usize,
-) -> Result<(Statement, usize), ReadError>
-    requires callable { Callable (S.Fn.pre inner) levels }
-    requires reading { ReadingInner (S.Fn.post inner) source.now levels }
-    ensures { Reads (λ statement. States statement ∷ []) result (reader source.now levels (ruled source.now) at) }
+) -> Result<usize, ReadError>
+    ensures { ReadsBehind list.old.items list.new.items result (reads source.now levels set at) }
 {
-    if is_dollar(source, at) {
-        set_at(alloc, source, levels, at)
-    } else if is_at(source, at, Terminal::Owner) {
-        assigned_at(alloc, source, levels, at)
-    } else if begins_word(source, at) {
-        declaration_at(alloc, inner, source, levels, at)
-    } else if is_at(source, at, Terminal::Custom) {
-        read_custom(alloc, source, levels, at)
-    } else if is_comment(source, at) {
-        read_comment(alloc, source, levels, at)
-    } else {
-        rule_at(alloc, inner, source, levels, at)
-    }
+    let (statement, place) = set_at(alloc, source, levels, at)?;
+    put(list, statement)?;
+    Ok(place)
 }
 
-/// The same, or a `;` alone, which is no statement.
-fn plain_at<S: Fn(u8, usize) -> Result<(List<Statement>, usize), ReadError> + Copy>(
+/// An assignment to a variable of another module, put behind the statements before it.
+#[inline(never)]
+fn assigned_behind(
+    list: &mut Vec<Statement>,
+    alloc: Global,
+    source: &Source,
+    levels: u8,
+    at: usize,
+) -> Result<usize, ReadError>
+    ensures { ReadsBehind list.old.items list.new.items result (reads source.now levels assigned at) }
+{
+    let (statement, place) = assigned_at(alloc, source, levels, at)?;
+    put(list, statement)?;
+    Ok(place)
+}
+
+/// A custom property, put behind the statements before it.
+#[inline(never)]
+fn custom_behind(
+    list: &mut Vec<Statement>,
+    alloc: Global,
+    source: &Source,
+    levels: u8,
+    at: usize,
+) -> Result<usize, ReadError>
+    ensures { ReadsBehind list.old.items list.new.items result (reads source.now levels custom at) }
+{
+    let (statement, place) = read_custom(alloc, source, levels, at)?;
+    put(list, statement)?;
+    Ok(place)
+}
+
+/// A comment, put behind the statements before it.
+#[inline(never)]
+fn comment_behind(
+    list: &mut Vec<Statement>,
+    alloc: Global,
+    source: &Source,
+    levels: u8,
+    at: usize,
+) -> Result<usize, ReadError>
+    ensures { ReadsBehind list.old.items list.new.items result (reads source.now levels comment at) }
+{
+    let (statement, place) = read_comment(alloc, source, levels, at)?;
+    put(list, statement)?;
+    Ok(place)
+}
+
+/// A statement that begins with no `@` and is more than a `;`.
+fn ruled_behind<S: Fn(u8, usize) -> Result<(List<Statement>, usize), ReadError> + Copy>(
+    list: &mut Vec<Statement>,
     alloc: Global,
     inner: S,
     source: &Source,
     levels: u8,
     at: usize,
-) -> Result<(Option<Statement>, usize), ReadError>
+) -> Result<usize, ReadError>
     requires callable { Callable (S.Fn.pre inner) levels }
     requires reading { ReadingInner (S.Fn.post inner) source.now levels }
-    ensures { Reads statement_in result (reads source.now levels plain_statement at) }
+    ensures { ReadsBehind list.old.items list.new.items result (reader source.now levels (ruled source.now) at) }
 {
-    if is_at(source, at, Terminal::Semicolon) {
-        return Ok((None, at + 1));
+    if is_dollar(source, at) {
+        set_behind(list, alloc, source, levels, at)
+    } else if is_at(source, at, Terminal::Owner) {
+        assigned_behind(list, alloc, source, levels, at)
+    } else if begins_word(source, at) {
+        declaration_behind(list, alloc, inner, source, levels, at)
+    } else if is_at(source, at, Terminal::Custom) {
+        custom_behind(list, alloc, source, levels, at)
+    } else if is_comment(source, at) {
+        comment_behind(list, alloc, source, levels, at)
+    } else {
+        rule_behind(list, alloc, inner, source, levels, at)
     }
-    let (statement, place) = ruled_at(alloc, inner, source, levels, at)?;
-    Ok((Some(statement), place))
 }
 
 /// A statement that loads a module.
@@ -192,21 +238,61 @@ fn worded_at<S: Fn(u8, usize) -> Result<(List<Statement>, usize), ReadError> + C
     }
 }
 
-/// A statement, or a `;` alone, which is none.
-pub(crate) fn statement_at<S: Fn(u8, usize) -> Result<(List<Statement>, usize), ReadError> + Copy>(
+/// The same, put behind the statements before it.
+#[inline(never)]
+fn worded_behind<S: Fn(u8, usize) -> Result<(List<Statement>, usize), ReadError> + Copy>(
+    list: &mut Vec<Statement>,
     alloc: Global,
     inner: S,
     source: &Source,
     levels: u8,
     at: usize,
-) -> Result<(Option<Statement>, usize), ReadError>
+) -> Result<usize, ReadError>
     requires callable { Callable (S.Fn.pre inner) levels }
     requires reading { ReadingInner (S.Fn.post inner) source.now levels }
-    ensures { Reads statement_in result (reads source.now levels statement at) }
+    ensures { ReadsBehind list.old.items list.new.items result (reader source.now levels (worded source.now) at) }
+{
+    let (statement, place) = worded_at(alloc, inner, source, levels, at)?;
+    put(list, statement)?;
+    Ok(place)
+}
+
+/// A statement that begins with no `@`, put behind those before it, or a `;` alone, which is none.
+fn plain_behind<S: Fn(u8, usize) -> Result<(List<Statement>, usize), ReadError> + Copy>(
+    list: &mut Vec<Statement>,
+    alloc: Global,
+    inner: S,
+    source: &Source,
+    levels: u8,
+    at: usize,
+) -> Result<usize, ReadError>
+    requires callable { Callable (S.Fn.pre inner) levels }
+    requires reading { ReadingInner (S.Fn.post inner) source.now levels }
+    ensures { ReadsBehind list.old.items list.new.items result (reads source.now levels plain_statement at) }
+{
+    if is_at(source, at, Terminal::Semicolon) {
+        return Ok(at + 1);
+    }
+    ruled_behind(list, alloc, inner, source, levels, at)
+}
+
+/// A statement, put behind those before it, or a `;` alone, which is none.
+pub(crate) fn statement_behind<
+    S: Fn(u8, usize) -> Result<(List<Statement>, usize), ReadError> + Copy,
+>(
+    list: &mut Vec<Statement>,
+    alloc: Global,
+    inner: S,
+    source: &Source,
+    levels: u8,
+    at: usize,
+) -> Result<usize, ReadError>
+    requires callable { Callable (S.Fn.pre inner) levels }
+    requires reading { ReadingInner (S.Fn.post inner) source.now levels }
+    ensures { ReadsBehind list.old.items list.new.items result (reads source.now levels statement at) }
 {
     if is_plain(source, at) {
-        return plain_at(alloc, inner, source, levels, at);
+        return plain_behind(list, alloc, inner, source, levels, at);
     }
-    let (statement, place) = worded_at(alloc, inner, source, levels, at)?;
-    Ok((Some(statement), place))
+    worded_behind(list, alloc, inner, source, levels, at)
 }

@@ -1,18 +1,16 @@
 // The readers of statements, one behind the other.
-ghost use Rattle.std.specs.Prelude.{◌≡◌, ◌<◌, ◌++◌, ◌∷◌, [], map, OnOk, IfErr};
-ghost use Rattle.sw_syntax.specs.Parts.{States};
+ghost use Rattle.std.specs.Prelude.{◌≡◌, ◌<◌, IfErr};
 ghost use Rattle.sw_syntax.specs.Reads.{reader};
 ghost use Rattle.sw_expr_inner.specs.Deeper.{Callable};
 ghost use Rattle.sw_blocks.specs.Inner.{statements, ReadsStatements, ReadingInner};
-ghost use Rattle.sw_sheet_parse.specs.Starts.{statement_in};
 
 use crate::begin::begins_statement;
-use crate::statement::statement_at;
+use crate::statement::statement_behind;
 use std::alloc::Global;
 use sw_grammar::ReadError;
-use sw_syntax::{Source, found};
+use sw_syntax::Source;
 use sw_syntax_tree::Statement;
-use sw_text::{List, Memory};
+use sw_text::List;
 
 // A statement of a whole sheet has about so many tokens, with those of its block.
 const TOKENS_OF_ONE: usize = 6;
@@ -27,35 +25,19 @@ fn room_at(source: &Source, at: usize) -> usize {
     }
 }
 
-/// Puts a statement behind the others, where there is room for so many before the first.
+/// Makes room for so many statements before the first.
 #[inline(always)]
-fn push_one(list: &mut Vec<Statement>, statement: Statement, room: usize) -> Result<(), Memory>
-    ensures { OnOk result (list.new.items ≡ list.old.items ++ statement ∷ []) }
-{
-    if list.is_empty() {
-        list.reserve_exact(room)?;
-    }
-    list.push(statement)?;
-    Ok(())
-}
-
-#[inline(always)]
-fn added(list: &mut Vec<Statement>, item: Option<Statement>, room: usize) -> Result<(), Memory>
-    ensures { OnOk result (map States list.new.items ≡ map States list.old.items ++ statement_in item) }
-{
-    match item {
-        None => Ok(()),
-        Some(statement) => push_one(list, statement, room),
-    }
-}
-
-/// Puts what was read behind the others.
-#[inline(always)]
-fn grown(list: &mut Vec<Statement>, item: Option<Statement>, room: usize) -> Result<(), ReadError>
-    ensures more { OnOk result (map States list.new.items ≡ map States list.old.items ++ statement_in item) }
+fn make_room(list: &mut Vec<Statement>, room: usize) -> Result<(), ReadError>
+    ensures same { list.new.items ≡ list.old.items }
     ensures memory { IfErr result (λ error. error ≡ ReadError.Memory) }
 {
-    found(added(list, item, room))
+    if !list.is_empty() {
+        return Ok(());
+    }
+    match list.reserve_exact(room) {
+        Ok(()) => Ok(()),
+        Err(_) => Err(ReadError::Memory),
+    }
 }
 
 /// Any number of statements, over a reader of those in blocks.
@@ -75,8 +57,8 @@ fn statements_by<S: Fn(u8, usize) -> Result<(List<Statement>, usize), ReadError>
     let room = room_at(source, at);
     let mut place = at;
     'items: while begins_statement(source, place) {
-        let (item, next) = statement_at(alloc, inner, source, levels, place)?;
-        grown(&mut list, item, room)?;
+        make_room(&mut list, room)?;
+        let next = statement_behind(&mut list, alloc, inner, source, levels, place)?;
         place = next;
     }
     list.shrink_to_fit();

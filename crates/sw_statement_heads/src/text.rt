@@ -1,8 +1,10 @@
 // Heads that are texts.
-ghost use Rattle.std.specs.Prelude.{◌≡◌, ◌∷◌, [], map, IfOk};
-ghost use Rattle.sw_grammar.specs.Grammar.{many};
+ghost use Rattle.std.specs.Prelude.{◌≡◌, ◌∷◌, [], ◌+◌, ◌<◌, length, map, IfOk, IsTrue};
+ghost use Rattle.sw_grammar.specs.Grammar.{member, many};
+ghost use Rattle.sw_terminals.specs.declared.terminal.Terminal.TheVariants.{Word, Colon};
+ghost use Rattle.sw_terminals.specs.Numbers.{just};
 ghost use Rattle.sw_syntax.specs.Parts.{Texts};
-ghost use Rattle.sw_syntax.specs.Sources.{text_between};
+ghost use Rattle.sw_syntax.specs.Sources.{terminal_at, text_between};
 ghost use Rattle.sw_syntax.specs.Expressions.{space, word, word_part, word_insert};
 ghost use Rattle.sw_syntax.specs.Statements.{raw, optional_raw, at_name, property};
 ghost use Rattle.sw_syntax.specs.Reads.{reader, reads, Reads, ReadsValue};
@@ -241,9 +243,10 @@ fn name_at(
     )
 }
 
-/// The property of a declaration, with its `:`.
+/// A property with its `:`, whatever is inserted in it.
+#[inline(never)]
 #[tactic(auto, unfolding(sw_grammar::specs::Readers::parse, sw_syntax::specs::Statements::property))]
-pub fn property_at(
+fn any_property_at(
     alloc: Global,
     source: &Source,
     levels: u8,
@@ -256,4 +259,37 @@ pub fn property_at(
         return Err(given_up(text, ReadError::Unexpected(place)));
     }
     Ok((text, place + 1))
+}
+
+/// The same where a word stands with a `:` behind it: nothing is inserted in most of them.
+#[inline(always)]
+fn plain_property_at(
+    alloc: Global,
+    source: &Source,
+    levels: u8,
+    at: usize,
+) -> Result<(Text, usize), ReadError>
+    requires word { IsTrue (member (terminal_at source.now at) (just Word)) }
+    requires colon { IsTrue (member (terminal_at source.now (at + 1)) (just Colon)) }
+    requires within { at + 1 < length source.now.lexemes.now }
+    ensures { ReadsHead (λ text. Texts text ∷ []) result (reads source.now levels property at) }
+{
+    let place = at + 1;
+    let word = found(text_of(alloc, source, at, place, List::new(alloc)))?;
+    Ok((word, place + 1))
+}
+
+/// The property of a declaration, with its `:`.
+pub fn property_at(
+    alloc: Global,
+    source: &Source,
+    levels: u8,
+    at: usize,
+) -> Result<(Text, usize), ReadError>
+    ensures { ReadsHead (λ text. Texts text ∷ []) result (reads source.now levels property at) }
+{
+    if is_at(source, at, Terminal::Word) && is_at(source, at + 1, Terminal::Colon) {
+        return plain_property_at(alloc, source, levels, at);
+    }
+    any_property_at(alloc, source, levels, at)
 }
