@@ -3,7 +3,17 @@ ghost use Rattle.std.specs.Prelude.{◌≡◌, ◌∷◌, [], ◌++◌, map, IfE
 ghost use Rattle.sw_syntax.specs.Parts.{States};
 
 use sw_grammar::ReadError;
+use sw_syntax::found;
 use sw_syntax_tree::Statement;
+use sw_text::Memory;
+
+#[inline(always)]
+fn pushed(list: &mut Vec<Statement>, statement: Statement) -> Result<(), Memory>
+    ensures { OnOk result (list.new.items ≡ list.old.items ++ statement ∷ []) }
+{
+    list.push(statement)?;
+    Ok(())
+}
 
 /// Puts a statement behind the others.
 #[inline(always)]
@@ -11,8 +21,5 @@ pub fn put(list: &mut Vec<Statement>, statement: Statement) -> Result<(), ReadEr
     ensures more { OnOk result (map States list.new.items ≡ map States list.old.items ++ States statement ∷ []) }
     ensures memory { IfErr result (λ error. error ≡ ReadError.Memory) }
 {
-    match list.push(statement) {
-        Ok(()) => Ok(()),
-        Err(_) => Err(ReadError::Memory),
-    }
+    found(pushed(list, statement))
 }

@@ -1,5 +1,5 @@
 // Declarations, with nested properties and without.
-ghost use Rattle.std.specs.Prelude.{◌≡◌, ◌∷◌, [], ◌++◌, ℕ, map, IfOk, IfErr, OnOk};
+ghost use Rattle.std.specs.Prelude.{◌≡◌, ◌∷◌, [], ◌++◌, map, IfOk, IfErr, OnOk};
 ghost use Rattle.sw_grammar.specs.Grammar.{acted, prepend};
 ghost use Rattle.sw_syntax.specs.Parts.{Texts, Values, Behind, Blocks, States};
 ghost use Rattle.sw_syntax.specs.Actions.{to_declaration};
@@ -33,12 +33,12 @@ pub(crate) struct Opening {
 
 fn properties_of(
     source: &Source,
-    at: usize,
+    places: (usize, usize),
     opening: Opening,
     block: List<Statement>,
 ) -> Result<Statement, Memory>
-    ensures { IfOk result (λ statement. (behind : ℕ) → to_declaration source.now at behind (opening_parts opening ++ Blocks block ∷ []) ≡ States statement
-        ∷ []) }
+    ensures { IfOk result (λ statement. to_declaration source.now places.0 places.1 (opening_parts opening ++ Blocks
+        block ∷ []) ≡ States statement ∷ []) }
 {
     let Opening {
         property,
@@ -49,7 +49,7 @@ fn properties_of(
         None => (None, place),
         Some((value, end)) => (Some(value), end),
     };
-    match span_between(source, at, end) {
+    match span_between(source, places.0, end) {
         Ok(span) => Ok(Statement::Properties(Properties {
             property,
             value,
@@ -78,7 +78,7 @@ fn properties_behind<S: Fn(u8, usize) -> Result<(List<Statement>, usize), ReadEr
     let place = block_place(&opening);
     match block_at(inner, source, levels, place) {
         Ok((block, next)) => {
-            let statement = found(properties_of(source, at, opening, block))?;
+            let statement = found(properties_of(source, (at, next), opening, block))?;
             put(list, statement)?;
             Ok(next)
         }
@@ -122,7 +122,6 @@ fn put_plain(
 }
 
 /// A declaration with its value, its nested properties, or both, put behind the statements before it.
-#[tactic(auto, unfolding(sw_grammar::specs::Readers::parse, sw_syntax::specs::Statements::declaration))]
 pub fn declaration_behind<S: Fn(u8, usize) -> Result<(List<Statement>, usize), ReadError> + Copy>(
     list: &mut Vec<Statement>,
     alloc: Global,

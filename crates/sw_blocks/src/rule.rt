@@ -45,7 +45,6 @@ fn put_rule(
 }
 
 /// A rule, put behind the statements before it: a selector and its block.
-#[tactic(auto, unfolding(sw_grammar::specs::Readers::parse, sw_syntax::specs::Statements::rule))]
 pub fn rule_behind<S: Fn(u8, usize) -> Result<(List<Statement>, usize), ReadError> + Copy>(
     list: &mut Vec<Statement>,
     alloc: Global,

@@ -19,4 +19,4 @@ pub use leaf::{
     variable_at,
 };
 pub use lined::comment_text_of;
-pub use text::{appended, grown, joined, parts_of, text_of};
+pub use text::{appended, grown, joined, parts_of, plain_text_of, text_of};

@@ -1,5 +1,5 @@
 // Texts with what is inserted in them.
-ghost use Rattle.std.specs.Prelude.{◌≡◌, ◌++◌, map, reverse, IfOk, IfErr, OnOk};
+ghost use Rattle.std.specs.Prelude.{◌≡◌, ◌++◌, [], map, reverse, IfOk, IfErr, OnOk};
 ghost use Rattle.sw_syntax.specs.Sources.{said, IsCut, pieces_from, parts_from, parts_between, text_piece, text_between};
 ghost use Rattle.sw_expr_nodes.specs.Views.{insert_of, inserts_in, inserted_piece};
 
@@ -108,6 +108,23 @@ pub fn text_of(
     let span = span_between(source, at, place)?;
     Ok(Text {
         parts: parts_of(alloc, source, at, place, list)?,
+        span,
+    })
+}
+
+/// The same where nothing is inserted in it.
+pub fn plain_text_of(
+    alloc: Global,
+    source: &Source,
+    at: usize,
+    place: usize,
+) -> Result<Text, Memory>
+    ensures { IfOk result (λ text. text_between source.now at place [] ≡ text) }
+{
+    let span = span_between(source, at, place)?;
+    let stretch = stretch_between(source, at, place);
+    Ok(Text {
+        parts: Parts::Plain(said(alloc, source, &stretch)?),
         span,
     })
 }

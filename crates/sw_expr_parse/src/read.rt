@@ -10,12 +10,11 @@ use crate::chain::chain_at;
 use crate::space::space_by;
 use std::alloc::Global;
 use sw_expr_inner::expr_at;
-use sw_expr_nodes::text_of;
+use sw_expr_nodes::plain_text_of;
 use sw_grammar::ReadError;
 use sw_syntax::{Source, found, is_at};
 use sw_syntax_tree::{Expr, ExprKind};
 use sw_terminals::Terminal;
-use sw_text::List;
 
 /// The expression without commas at a place, where so many levels of brackets may be opened, and the place behind it.
 pub fn read_space(
@@ -66,7 +65,7 @@ fn word_alone_at(
     requires within { at < length source.now.lexemes.now }
     ensures { ReadsValue result (reads source.now levels expr at) }
 {
-    let word = found(text_of(alloc, source, at, at + 1, List::new(alloc)))?;
+    let word = found(plain_text_of(alloc, source, at, at + 1))?;
     let value = Expr {
         kind: ExprKind::Word(word.parts),
         span: word.span,

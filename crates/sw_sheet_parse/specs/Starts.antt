@@ -1,11 +1,10 @@
 -- What statements begin with, and how the table's choice of a statement falls apart.
-use Rattle.std.specs.Prelude.{ℕ, List, [], ◌∷◌, ◌++◌, Option, Some, None}
+use Rattle.std.specs.Prelude.{ℕ, List, [], ◌∷◌, ◌++◌}
 use Rattle.sw_grammar.specs.Grammar.{Grammar, alt}
 use Rattle.sw_terminals.specs.declared.terminal.Terminal.TheVariants as terminals
 use Rattle.sw_terminals.specs.Numbers.{these, just}
-use Rattle.sw_syntax_tree.specs.declared.statement.Statement.{Statement}
 use Rattle.sw_syntax.specs.declared.source.Source.{Source}
-use Rattle.sw_syntax.specs.Parts.{Part, Form, States}
+use Rattle.sw_syntax.specs.Parts.{Part, Form}
 use Rattle.sw_syntax.specs.Sets.{dollars, words}
 use Rattle.sw_syntax.specs.Statements.{set, assigned, declaration, custom, comment, rule, load_statement, member_statement, flow_statement, css_statement}
 use Rattle.sw_statement_parts.specs.Rows.{raw_starts}
@@ -37,11 +36,6 @@ worded_starts = load_starts ++ member_starts ++ flow_starts ++ css_starts
 
 abbrev pub statement_starts : List ℕ
 statement_starts = plain_starts ++ worded_starts
-
--- a `;` alone is no statement
-abbrev pub statement_in : Option Statement → List Part
-statement_in None = []
-statement_in (Some statement) = States statement ∷ []
 
 module _ (source : Source) where
   abbrev pub ruled : Grammar Part Form

@@ -1,5 +1,5 @@
 -- A word with a `:` behind it is a whole property.
-use Rattle.std.proofs.Common.{◌≡◌, ℕ, ◌+◌, Bool, true, false, ◌||◌, List, [], ◌∷◌, refl, arith, eqb, length}
+use Rattle.std.proofs.Common.{◌≡◌, ℕ, ◌+◌, Bool, true, false, ◌||◌, [], ◌∷◌, refl, arith, eqb, length}
 use Rattle.sw_grammar.specs.Grammar.{skip, seq, member, Got}
 use Rattle.sw_grammar.proofs.Loops.{read_skip, read_act, read_both}
 use Rattle.sw_terminals.specs.declared.terminal.Terminal.TheVariants as T

@@ -15,7 +15,7 @@ ghost use Rattle.sw_statement_heads.specs.Rows.{inserted_name, at_name_row};
 
 use std::alloc::Global;
 use sw_expr_inner::{Pieces, inserted_at, pieces_at, word_at};
-use sw_expr_nodes::{Inserted, given_up, joined, skipped, text_of};
+use sw_expr_nodes::{Inserted, given_up, joined, plain_text_of, skipped, text_of};
 use sw_expr_parse::read_space;
 use sw_grammar::ReadError;
 use sw_statement_parts::{optional_raw_at, raw_at};
@@ -275,7 +275,7 @@ fn plain_property_at(
     ensures { ReadsHead (λ text. Texts text ∷ []) result (reads source.now levels property at) }
 {
     let place = at + 1;
-    let word = found(text_of(alloc, source, at, place, List::new(alloc)))?;
+    let word = found(plain_text_of(alloc, source, at, place))?;
     Ok((word, place + 1))
 }
 

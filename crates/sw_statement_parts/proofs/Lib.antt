@@ -1,3 +1,4 @@
 pub mod Choices
 pub mod Loads
 pub mod Uses
+pub mod PlainRaw

@@ -1,5 +1,5 @@
 // Raw text: what stands up to a `;`, `{` or `}` outside its brackets.
-ghost use Rattle.std.specs.Prelude.{◌≡◌, ◌∷◌, [], ◌++◌, map, IfOk, IfErr};
+ghost use Rattle.std.specs.Prelude.{ℕ, ◌≡◌, ◌∷◌, [], ◌++◌, map, IfOk, IfErr};
 ghost use Rattle.sw_grammar.specs.Grammar.{many};
 ghost use Rattle.sw_syntax.specs.Parts.{Texts};
 ghost use Rattle.sw_syntax.specs.Sources.{text_between};
@@ -13,7 +13,7 @@ ghost use Rattle.sw_statement_parts.specs.Rows.{raw_group, text_in};
 use crate::at::begins_raw;
 use std::alloc::Global;
 use sw_expr_inner::inserted_at;
-use sw_expr_nodes::{Inserted, appended, text_of};
+use sw_expr_nodes::{Inserted, appended, plain_text_of, text_of};
 use sw_grammar::ReadError;
 use sw_syntax::{Source, found, is_at};
 use sw_syntax_tree::{Expr, Text};
@@ -149,9 +149,10 @@ fn raw_of(
     text_of(alloc, source, places.0, places.1, appended(first, rest)?)
 }
 
-/// Raw text that isn't empty, with the `#{}` in it.
+/// Raw text that isn't empty, whatever stands in it.
+#[inline(never)]
 #[tactic(auto, unfolding(sw_grammar::specs::Readers::parse, sw_syntax::specs::Statements::raw))]
-pub fn raw_at<F: Fn(u8, usize) -> Result<(Expr, usize), ReadError> + Copy>(
+fn any_raw_at<F: Fn(u8, usize) -> Result<(Expr, usize), ReadError> + Copy>(
     alloc: Global,
     deeper: F,
     source: &Source,
@@ -165,6 +166,41 @@ pub fn raw_at<F: Fn(u8, usize) -> Result<(Expr, usize), ReadError> + Copy>(
     let (first, place) = raw_item_at(alloc, deeper, source, levels, at)?;
     let (rest, place) = raw_items_at(alloc, deeper, source, levels, place)?;
     let text = found(raw_of(alloc, source, (at, place), first, rest))?;
+    Ok((text, place))
+}
+
+/// The place behind the tokens of raw text that stand in a row, which are neither brackets nor `#{}`.
+fn behind_plain(source: &Source, at: usize) -> usize
+    ensures { (levels : ℕ) → reader source.now levels (many (raw_item source.now)) result ≡ reader source.now levels
+        (many (raw_item source.now)) at }
+{
+    let mut place = at;
+    'items: while is_at(source, place, Terminal::Raw) {
+        place = place + 1;
+    }
+    place
+}
+
+/// Raw text that isn't empty, with the `#{}` in it.
+pub fn raw_at<F: Fn(u8, usize) -> Result<(Expr, usize), ReadError> + Copy>(
+    alloc: Global,
+    deeper: F,
+    source: &Source,
+    levels: u8,
+    at: usize,
+) -> Result<(Text, usize), ReadError>
+    requires callable { Callable (F.Fn.pre deeper) levels }
+    requires reading { Reading (F.Fn.post deeper) source.now levels }
+    ensures { Reads (λ text. Texts text ∷ []) result (reads source.now levels raw at) }
+{
+    if !is_at(source, at, Terminal::Raw) {
+        return any_raw_at(alloc, deeper, source, levels, at);
+    }
+    let place = behind_plain(source, at + 1);
+    if begins_raw(source, place) {
+        return any_raw_at(alloc, deeper, source, levels, at);
+    }
+    let text = found(plain_text_of(alloc, source, at, place))?;
     Ok((text, place))
 }
 

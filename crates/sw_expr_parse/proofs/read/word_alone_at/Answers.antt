@@ -1,19 +1,14 @@
-use Rattle.std.proofs.Common.{◌≡◌, ◌+◌, List, [], ◌∷◌, map, ap, sym, ◌∙◌}
+use Rattle.std.proofs.Common.{◌+◌, [], ◌∷◌, ap, ◌∙◌}
 use Rattle.sw_grammar.specs.Grammar.{Got}
 use Rattle.sw_syntax_tree.specs.declared.expr.ExprKind.TheVariants as exprs
 use Rattle.sw_syntax_tree.specs.declared.text.Text.{Text}
 use Rattle.sw_syntax.specs.Parts.{Values}
-use Rattle.sw_syntax.specs.Sources.{text_between}
 use Rattle.sw_syntax.specs.Values.{expression}
-use Rattle.sw_expr_nodes.specs.declared.build.Inserted.{Inserted}
-use Rattle.sw_expr_nodes.specs.Views.{insert_of}
 use Rattle.sw_expr_parse.proofs.Alone.{value_alone}
 use Rattle.sw_expr_parse.proofs.read.word_alone_at.Goals as goal
 
 pub returns : goal.returns
 returns c =
-    let told = rw c.in_ok-word.ensures.made at c.text_of.ensures in
-    let word : text_between c.args.source.now c.args.at (c.args.at + 1) [] ≡ c.in_ok-word.word
-    = ap (λ (list : List Inserted). text_between c.args.source.now c.args.at (c.args.at + 1) (map insert_of list)) (sym c.new.ensures) ∙ told in
     value_alone c.args.source.now c.args.levels c.args.at c.requires.alone
-    ∙ ap (λ (text : Text). Got (Values (expression (exprs.Word text.parts) text.span) ∷ []) (c.args.at + 1)) word
+    ∙ ap (λ (text : Text). Got (Values (expression (exprs.Word text.parts) text.span) ∷ []) (c.args.at + 1))
+    (rw c.in_ok-word.ensures.made at c.plain_text_of.ensures)

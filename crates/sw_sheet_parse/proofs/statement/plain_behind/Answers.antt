@@ -1,10 +1,7 @@
-use Rattle.std.proofs.Common.{length, map, ap, sym, ◌∙◌, List}
-use Rattle.std.proofs.Common.{append-nil}
-use Rattle.sw_grammar.specs.Grammar.{Answer, Got, prepend}
+use Rattle.std.proofs.Common.{◌+◌, length, sym}
 use Rattle.sw_grammar.proofs.Loops.{read_skip}
 use Rattle.sw_terminals.specs.declared.terminal.Terminal.TheVariants as T
 use Rattle.sw_terminals.specs.Numbers.{just}
-use Rattle.sw_syntax.specs.Parts.{Part, States}
 use Rattle.sw_syntax.specs.Sources.{text_of}
 use Rattle.sw_syntax.specs.Table.{forms}
 use Rattle.sw_sheet_parse.proofs.Choices.{plain_statement_semicolon, plain_statement_ruled}
