@@ -3,18 +3,20 @@ use crate::Reader;
 use crate::kept::KeptRuns;
 use crate::results::Results;
 use std::alloc::Global;
-use sw_modules::Live;
+use sw_modules::{Live, Nothing};
 use sw_record::Cause;
 use sw_syntax_tree::Sheet;
 use sw_text::{Name, Shared};
 use sw_world::{Answer, Config, Engine, Op};
 
-/// What stays as it is during a compile: how texts are read, and the runs that are kept of its entry.
+/// What stays as it is during a compile: how texts are read, the runs that are kept of its entry, and what its loads
+/// share.
 #[derive(Drop)]
 pub(crate) struct Within<'c, R: Reader, E: Engine> {
     pub(crate) alloc: Global,
     pub(crate) reader: &'c R,
     pub(crate) kept: &'c KeptRuns<R, E>,
+    pub(crate) nothing: &'c Nothing,
 }
 
 /// What a compile changes: the state outside the bodies, and what it has come to so far.

@@ -16,9 +16,9 @@ use crate::{HasSetting, Reader};
 use std::alloc::Global;
 use std::marker::Model;
 use sw_folder::{EditFault, Folder};
-use sw_modules::{Enter, Finished, Live};
+use sw_modules::{Enter, Finished, Live, Nothing};
 use sw_record::{Cause, Outcome, Reply};
-use sw_text::{List, Memory, Name, Shared};
+use sw_text::{List, Memory, Name};
 use sw_world::{Engine, Hosts, Table};
 
 /// A folder that is compiled again and again, and the runs that are kept of its compiles. Contracts see both.
@@ -107,10 +107,12 @@ impl<R: Reader, E: Engine> Keeper<R, E> {
     {
         let none = KeptRuns::new(self.alloc);
         let kept = kept_of(&self.kept, &none, entry);
+        let nothing = Nothing::new(self.alloc)?;
         let within = Within {
             alloc: self.alloc,
             reader,
             kept,
+            nothing: &nothing,
         };
         let Compiled { reply, runs } = compile_folder(
             &within,
@@ -199,7 +201,7 @@ fn compile_folder<R: Reader, E: Engine, H: Hosts>(
         (H.state hosts.old) (H.state hosts.new) (E.ran engine.old) (E.ran engine.new)) }
 {
     let alloc = within.alloc;
-    let mut live = Live::new(alloc, folder, paths);
+    let mut live = Live::new(alloc, folder, paths, within.nothing);
     match live.enter(entry)? {
         Enter::Refused(fault) => Ok(Compiled {
             reply: Reply {
@@ -210,7 +212,7 @@ fn compile_folder<R: Reader, E: Engine, H: Hosts>(
             runs: List::new(alloc),
         }),
         Enter::Open { path, text } => {
-            let config = Shared::new(alloc, List::new(alloc))?;
+            let config = within.nothing.config()?;
             let opening = Opening { path, text, config };
             let results = Results::new(alloc);
             let mut moment = Moment { live, results };

@@ -31,7 +31,7 @@ pub(crate) fn run_ended<E: Engine>(
         text: opening.text.share()?,
         sheet: sheet.share()?,
         config: opening.config.share()?,
-        seen: Shared::new(alloc, seen)?,
+        seen,
         end,
     };
     Run::new(alloc, trace)

@@ -85,17 +85,13 @@ impl<'b, 'a, H: Hosts> World for Asked<'b, 'a, H> {
 }
 
 impl<'b, 'a, H: Hosts> Confirms for Asked<'b, 'a, H> {
+    #[tactic(auto, using(crate::proofs::Confirming::answer_stays))]
     fn confirms(&mut self, op: &Op, kept: &Answer) -> bool {
         self.live.confirms(op, kept)
     }
 }
 
 impl<'b, 'a, H: Hosts> ConfirmsNamed for Asked<'b, 'a, H> {
-    #[tactic(auto, using(crate::proofs::Confirming::answer_stays))]
-    fn confirms_alone(&mut self, op: &Op, kept: &Answer) -> bool {
-        self.live.confirms(op, kept)
-    }
-
     #[tactic(auto, using(crate::proofs::Confirming::answer_stays))]
     fn confirms_named(&mut self, named: &NamedVariables) -> bool {
         self.live.confirms_named(named)

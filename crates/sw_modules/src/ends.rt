@@ -9,9 +9,7 @@ ghost use Rattle.sw_modules.specs.State.{below, changed_below, closed, module_of
 ghost use Rattle.sw_modules.specs.Loads.{refused, first_untaken, used_unless, interface_at_end, ended_by, left_by, AnswersLoad};
 
 use crate::interfaces::brought_of;
-use crate::loads::{
-    below, counts, first_untaken, refused, share_names, takes, truncate_at, use_at,
-};
+use crate::loads::{below, counts, first_untaken, refused, takes, truncate_at, use_at};
 use crate::uses::Source;
 use crate::{Entry, Live, Module, Opened, UsesCounts};
 use sw_text::{Fault, FaultCode, List, Memory, Name, Shared, Span};
@@ -139,7 +137,7 @@ impl<'a> Live<'a> {
         ensures closes { OnOk result (length self.new.opened + 1 ≡ length self.old.opened) }
         ensures err { OnErr result (self.new ≡ self.old) }
     {
-        let taken = share_names(self.alloc, finish.get().taken.as_slice())?;
+        let taken = self.taken_by(finish)?;
         let path = self.path()?;
         let counts = counts(below(&self.opened));
         self.use_below(how, &path, brought)?;

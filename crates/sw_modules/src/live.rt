@@ -6,21 +6,21 @@ ghost use Rattle.sw_world.specs.Questions.{IsLoad, Fits};
 ghost use Rattle.std.specs.FinMap.{get};
 ghost use Rattle.sw_folder.specs.Files.{most_bytes};
 ghost use Rattle.sw_world.specs.declared.op.How.{How};
-ghost use Rattle.sw_modules.specs.Loads.{entry_fault, is_explicit, refused, first_untaken};
+ghost use Rattle.sw_modules.specs.Loads.{config_of, entry_fault, is_explicit, refused, first_untaken};
 ghost use Rattle.sw_modules.specs.declared.live.Begin.TheVariants.{Answered};
 
 use crate::built_ins::is_sass;
 use crate::interfaces::brought_of;
-use crate::loads::{add_use, config_of, is_explicit, is_open, refused, takes};
+use crate::loads::{add_use, config_of, is_explicit, is_open, refused, share_names, takes};
 use crate::uses::Source;
-use crate::{Loaded, Opened, Uses};
+use crate::{Loaded, Nothing, Opened, Uses};
 use std::alloc::Global;
 use std::marker::Model;
 use sw_css_tree::CssTree;
 use sw_folder::{Folder, ResolveFault, has_extension, is_path};
 use sw_text::{Fault, FaultCode, List, Memory, Name, Shared, Span};
 use sw_values::Value;
-use sw_world::{Answer, Config, Given, How, Op, SayKind, Saying};
+use sw_world::{Answer, Config, Finish, Given, How, Op, SayKind, Saying};
 
 pub(crate) const MOST_OPEN: usize = 64;
 
@@ -66,6 +66,7 @@ pub struct Live<'a> {
     pub(crate) alloc: Global,
     folder: &'a Folder,
     paths: &'a [Name],
+    nothing: &'a Nothing,
     pub(crate) loaded: Loaded,
     pub(crate) opened: Vec<Opened>,
     says: List<Saying>,
@@ -100,13 +101,19 @@ impl<'a> Live<'a> {
     ghost use Rattle.sw_modules.specs.Loads.{at_once, begun, begin_path, begin_module, built_in_used, used_with, used_unless, ended_by, left_by, entry_text, entered, AnswersLoad, IsBegun, IsEntered};
 
     /// Nothing is loaded or open. Takes no memory.
-    pub fn new(alloc: Global, folder: &'a Folder, paths: &'a [Name]) -> Live<'a>
+    pub fn new(
+        alloc: Global,
+        folder: &'a Folder,
+        paths: &'a [Name],
+        nothing: &'a Nothing,
+    ) -> Live<'a>
         ensures { result ≡ nothing_loaded folder.now paths.now }
     {
         Live {
             alloc,
             folder,
             paths,
+            nothing,
             loaded: Loaded::new(alloc),
             opened: Vec::new(alloc),
             says: List::new(alloc),
@@ -128,6 +135,7 @@ impl<'a> Live<'a> {
             alloc: _,
             folder: _,
             paths: _,
+            nothing: _,
             loaded: _,
             opened: _,
             says,
@@ -282,7 +290,7 @@ impl<'a> Live<'a> {
             return refused(FaultCode::MemberConflict, span);
         }
         let path = source.path.share()?;
-        let taken = Shared::new(self.alloc, List::new(self.alloc))?;
+        let taken = self.nothing.names()?;
         add_use(&mut self.opened, how, source)?;
         Ok(Answer::Loaded { path, taken })
     }
@@ -298,7 +306,7 @@ impl<'a> Live<'a> {
             None => begin_refused(FaultCode::NotFound, span),
             Some(text) => {
                 let text = text.share()?;
-                let config = config_of(self.alloc, config)?;
+                let config = self.config_of(config)?;
                 let opened = Opened {
                     path: path.share()?,
                     uses: Uses::new(self.alloc),
@@ -307,6 +315,27 @@ impl<'a> Live<'a> {
                 Ok(Begin::Open { path, text, config })
             }
         }
+    }
+
+    /// The names and values of a configuration.
+    fn config_of(&self, given: &[Given]) -> Result<Config, Memory>
+        ensures { IfOk result (λ config. config ≡ config_of given.now) }
+    {
+        if given.is_empty() {
+            return self.nothing.config();
+        }
+        config_of(self.alloc, given)
+    }
+
+    /// The names that a body took.
+    pub(crate) fn taken_by(&self, finish: &Shared<Finish>) -> Result<Shared<List<Name>>, Memory>
+        ensures { IfOk result (λ taken. taken ≡ finish.now.taken) }
+    {
+        let taken = finish.get().taken.as_slice();
+        if taken.is_empty() {
+            return self.nothing.names();
+        }
+        share_names(self.alloc, taken)
     }
 
     pub(crate) fn allocator(&self) -> Global {

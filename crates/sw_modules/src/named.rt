@@ -101,7 +101,8 @@ impl<'a> Live<'a> {
 fn holds_all(variables: &Variables, values: &Table<Value>) -> bool
     ensures { OnTrue result (All (IsPublic variables.now) values.now) }
 {
-    let mut near = 0;
+    // The first is looked for by its name, unless it is the first of all.
+    let mut near = usize::MAX;
     for place in 0..values.len() {
         match holds_at(variables, values, place, near) {
             None => return false,

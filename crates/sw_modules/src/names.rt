@@ -58,7 +58,7 @@ fn variable_of(
             };
             let answer = Answer::Owner {
                 path: path.share()?,
-                name: name.share()?,
+                name: variables.name_at(variable, name)?,
             };
             Ok(Found { answer, recent })
         }

@@ -74,6 +74,22 @@ impl Variables {
         }
     }
 
+    /// The name, as it stands at a place where it is the same: all who are told of a variable share its one name.
+    pub fn name_at(&self, place: usize, name: &Name) -> Result<Name, Memory>
+        ensures { IfOk result (λ own. own ≡ name.now) }
+    {
+        match self.table().at(place) {
+            None => name.share(),
+            Some((own, _)) => {
+                if own.same(name) {
+                    own.share()
+                } else {
+                    name.share()
+                }
+            }
+        }
+    }
+
     /// Gives a name that is there a value; no other changes the variables. The first time it takes a table of its own.
     /// After `Memory` the variables are as before.
     pub fn set(&mut self, alloc: Global, name: &Name, value: Value) -> Result<(), Memory>

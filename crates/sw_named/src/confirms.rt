@@ -1,22 +1,14 @@
 // What confirms variables that are named.
 ghost use Rattle.std.specs.Prelude.{◌≡◌};
 ghost use Rattle.std.specs.Bool.{OnTrue};
-ghost use Rattle.sw_world.specs.Questions.{IsLoad};
 ghost use Rattle.sw_world.specs.Body.{Pair};
 ghost use Rattle.sw_named.specs.Named.{IsNamed};
 
 use crate::NamedVariables;
-use sw_world::{Answer, Confirms, Op};
+use sw_world::Confirms;
 
-/// A world that tells of all variables of a module at once whether it answers the questions for them as before, and of
-/// any other question for a name or a value alone.
+/// A world that tells of all variables of a module at once whether it answers the questions for them as before.
 pub trait ConfirmsNamed: Confirms {
-    /// As `confirms`, for what changes nothing: the world is as before where it is true too.
-    fn confirms_alone(&mut self, op: &Op, kept: &Answer) -> bool
-        requires { IsLoad op.now → ⊥ }
-        ensures given { OnTrue result (Self.gives self.old op.now kept.now self.old) }
-        ensures same { self.new ≡ self.old };
-
     /// True only where all questions that these variables stand for are answered so and that changes nothing. False
     /// where one is answered otherwise, and where it would have to be asked to tell. Takes no memory.
     fn confirms_named(&mut self, named: &NamedVariables) -> bool

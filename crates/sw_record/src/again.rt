@@ -114,7 +114,7 @@ fn is_confirmed_at<W: ConfirmsNamed>(seen: &[(Op, Answer)], place: usize, world:
 {
     match seen.get(place) {
         None => false,
-        Some((op, kept)) => !op.is_load() && world.confirms_alone(op, kept),
+        Some((op, kept)) => !op.is_load() && world.confirms(op, kept),
     }
 }
 

@@ -20,7 +20,7 @@ use sw_world::{Answer, Config, End, Engine, Op};
 pub struct Run<E: Engine> {
     trace: Trace,
     printed: Option<Shared<Printed>>,
-    tail: Shared<Tail>,
+    tail: Tail,
     of: PhantomData<E>,
 }
 
@@ -51,7 +51,7 @@ impl<E: Engine> Run<E> {
         ensures { IfOk result (λ run. run ≡ kept_of trace) }
     {
         let printed = printed_of(alloc, &trace.end)?;
-        let tail = Shared::new(alloc, tail_of(alloc, trace.seen.get().as_slice())?)?;
+        let tail = tail_of(alloc, trace.seen.as_slice())?;
         Ok(Run {
             trace,
             printed,
@@ -90,14 +90,14 @@ impl<E: Engine> Run<E> {
         ensures seen { result.now ≡ self.now.run.seen }
         ensures is_kept { IsKept E.body self.now }
     {
-        self.trace.seen.get().as_slice()
+        self.trace.seen.as_slice()
     }
 
     /// The questions behind its last load, as they are asked again at once.
     pub(crate) fn tail(&self) -> &Tail
         ensures { IsTail self.now.run.seen result.now }
     {
-        self.tail.get()
+        &self.tail
     }
 
     pub fn end(&self) -> &End
@@ -113,18 +113,6 @@ impl<E: Engine> Run<E> {
     {
         self.printed.as_ref()
     }
-
-    /// One more owner of its parts, in constant time.
-    pub fn share(&self) -> Result<Run<E>, Memory>
-        ensures { IfOk result (λ run. run ≡ self.now) }
-    {
-        Ok(Run {
-            trace: self.trace.share()?,
-            printed: share_printed(&self.printed)?,
-            tail: self.tail.share()?,
-            of: PhantomData,
-        })
-    }
 }
 
 // The printed output of a body that ended so.
@@ -137,14 +125,5 @@ fn printed_of(alloc: Global, end: &End) -> Result<Option<Shared<Printed>>, Memor
             Ok(Some(Shared::new(alloc, printed)?))
         }
         End::Fault(_) => Ok(None),
-    }
-}
-
-fn share_printed(printed: &Option<Shared<Printed>>) -> Result<Option<Shared<Printed>>, Memory>
-    ensures { IfOk result (λ other. other ≡ printed.now) }
-{
-    match printed {
-        Some(printed) => Ok(Some(printed.share()?)),
-        None => Ok(None),
     }
 }

@@ -109,7 +109,7 @@ fn variable_at<'s>(seen: &'s [(Op, Answer)], at: usize) -> Option<ReadVariable<'
                     site,
                     space,
                     path,
-                    name,
+                    name: own,
                     value,
                 })
             } else {

@@ -16,7 +16,8 @@ loop-at-preserved-then-confirms g c =
     let p : Pair = c.index-seen-at.result in
     let here : slice_get xs c.loop-at.at ≡ Some p = slice_get-get_or xs c.loop-at.at p c.loop-at-test.true ∙ ap Some (sym c.index-seen-at.is) in
     let plain : IsLoad p.0 → ⊥ = λ l. not_true (c.if-is_load.ensures.1 l) in
-    asked_more g.W.World.gives xs c.args.from c.loop-at.at p c.args.world.now c.loop-at.world c.confirms.new.self c.loop-at.invariant here plain c.if-confirms.ensures.given
+    asked_more g.W.World.gives xs c.args.from c.loop-at.at p c.args.world.now c.loop-at.world c.confirms.new.self c.loop-at.invariant here plain
+    (subst (λ world. g.W.World.gives c.loop-at.world p.0 p.1 world) (sym c.if-confirms.ensures.same) c.if-confirms.ensures.given)
 
 pub loop-at-preserved : goal.loop-at-preserved
 loop-at-preserved g c =

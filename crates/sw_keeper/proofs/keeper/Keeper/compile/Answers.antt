@@ -2,7 +2,7 @@ use Rattle.std.proofs.Common.{refl, subst, rules}
 use Rattle.sw_modules.specs.Fresh.{setting_of}
 use Rattle.sw_keeper.specs.Compile.{compiled, CompilesTo, BreaksOff}
 use Rattle.sw_keeper.specs.Keeping.{Keeping}
-use Rattle.sw_keeper.proofs.Cuts.{breaks_off, compiled_cut, compiles_to}
+use Rattle.sw_keeper.proofs.Cuts.{breaks_off, compiled_cut, compiles_to, cut_none}
 use Rattle.sw_keeper.proofs.keeper.Keeper.compile.Goals as goal
 
 pub returns-clause-ok : goal.returns-clause-ok
@@ -14,6 +14,16 @@ returns-clause-ok g c =
     (g.H.Hosts.state c.compile_folder.new.hosts) (g.E.Engine.ran c.args.engine.now) (g.E.Engine.ran c.compile_folder.new.engine) c.in_ok-reply.ensures.did c.kept_of-kept.ensures c.in_ok-keep_runs.ensures.ok refl in
     subst (λ (k : Keeping). CompilesTo (compiled setting k.folder c.args.paths.now c.args.entry.now (g.H.Hosts.state c.args.hosts.now)) c.args.entry.now c.in_ok-reply.field-0.reply k new
     (g.H.Hosts.state c.compile_folder.new.hosts) (g.E.Engine.ran c.args.engine.now) (g.E.Engine.ran c.compile_folder.new.engine)) c.self.view_is there
+
+pub returns-in_err-nothing-clause-err : goal.returns-in_err-nothing-clause-err
+returns-in_err-nothing-clause-err g c =
+    let setting = setting_of g.H.Hosts.answer g.H.Hosts.after g.R.Reader.reads g.E.Engine.body in
+    let hosts = g.H.Hosts.state c.args.hosts.now in
+    let told = g.E.Engine.ran c.args.engine.now in
+    let cut = cut_none setting (compiled setting c.self.inside.folder c.args.paths.now c.args.entry.now hosts).calls hosts hosts told told refl refl in
+    let there = breaks_off setting c.self.inside.folder c.args.paths.now c.args.entry.now hosts hosts told told cut in
+    let breaks = subst (λ (k : Keeping). BreaksOff setting k.folder c.args.paths.now c.args.entry.now hosts hosts told told) c.self.view_is there in
+    search (rules, breaks)
 
 pub returns-in_err-reply-clause-err : goal.returns-in_err-reply-clause-err
 returns-in_err-reply-clause-err g c =
