@@ -1,5 +1,5 @@
 -- What the turns of a body do.
-use Rattle.std.proofs.Common.{◌≡◌, ℕ, ◌<◌, ◌≤◌, Option, List, [], ◌∷◌, ◌++◌, length, refl, sym, ◌∙◌, ap, subst, append-nil, arith}
+use Rattle.std.proofs.Common.{◌≡◌, ℕ, ◌<◌, ◌≤◌, Option, None, Some, List, [], ◌∷◌, ◌++◌, length, refl, sym, ◌∙◌, ap, subst, append-nil, arith}
 use Rattle.sw_text.specs.declared.place.Span.{Span}
 use Rattle.sw_text.specs.declared.fault.Fault.{Fault}
 use Rattle.sw_text.specs.declared.fault.FaultCode.TheVariants.{UnknownVariable}
@@ -10,14 +10,26 @@ use Rattle.sw_world.specs.declared.end.End.{End}
 use Rattle.sw_world.specs.declared.end.End.TheVariants.{Fault as Fault_end, Done as Done_end}
 use Rattle.sw_world.specs.declared.end.Finish.{Finish}
 use Rattle.sw_world.specs.declared.end.Turn.{Turn}
-use Rattle.sw_world.specs.declared.end.Turn.TheVariants.{Ended as Turn_Ended}
+use Rattle.sw_world.specs.declared.end.Turn.TheVariants.{Load as Turn_Load, Ended as Turn_Ended}
 use Rattle.sw_world.specs.Questions.{IsLoad, Fits}
 use Rattle.sw_world.specs.Body.{Pair, Next, Asks, Ends, answers}
 use Rattle.sw_announcer.specs.Turns.{TurnDid, IsStep}
-use Rattle.sw_announcer.specs.Announcing.{begin_of, leaves_nothing, end_by, does_at, asks_at, loaded_at, message_of, IsLoaded}
+use Rattle.sw_announcer.specs.Announcing.{begin_of, leaves_nothing, end_by, does_at, asks_at, loaded_at, load_of, message_of, first_refusal, IsLoaded}
 
-pub did_none : {W : Type 0} (gives : W → Op → Answer → W → Type 0) (next : List Answer → Next) (ps : List Pair) (w : W) → TurnDid gives next ps w ps w
-did_none gives next ps w = record { asked = []; grew = sym (append-nil ps); led = refl; goes = tt }
+pub did_none : {W : Type 0} (gives : W → Op → Answer → W → Type 0) (next : List Answer → Next) (ps qs : List Pair) (w x : W) → qs ≡ ps → x ≡ w → TurnDid gives next ps w qs x
+did_none gives next ps qs w x same stays = record { asked = []; grew = same ∙ sym (append-nil ps); led = stays; goes = tt }
+
+pub waits : (own : End) (path : List ℕ) (qs : List Pair) (op : Op) → qs ≡ [] → op ≡ load_of path → IsStep (asks_at own path) qs (Turn_Load op)
+waits own path [] op none is = (ap Asks (sym is), subst (λ (o : Op). IsLoad o) (sym is) tt)
+waits own path (q ∷ qs) op none is = absurd cc
+
+pub is_loaded : (ps : List Pair) → (ps ≡ [] → ⊥) → first_refusal ps ≡ None → IsLoaded ps
+is_loaded [] some none = absurd (some refl)
+is_loaded (p ∷ ps) some none = none
+
+pub is_refused : (own : End) (path : List ℕ) (ps : List Pair) (fault : Fault) → (ps ≡ [] → ⊥) → first_refusal ps ≡ Some fault → IsStep (asks_at own path) ps (Turn_Ended (Fault_end fault))
+is_refused own path [] fault some is = absurd (some refl)
+is_refused own path (p ∷ ps) fault some is = ap (λ (r : Option Fault). loaded_at own path r (answers ps)) is
 
 one_loaded : (own : End) (path : List ℕ) (ps : List Pair) → IsLoaded ps → length ps ≤ 1 → asks_at own path (answers ps) ≡ Asks (message_of path)
 one_loaded own path [] loaded few = absurd loaded

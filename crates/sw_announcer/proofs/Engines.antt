@@ -1,12 +1,12 @@
 -- What the calls of the engine owe, over the fields of a body.
-use Rattle.std.proofs.Common.{◌≡◌, Bool, true, false, if◌then◌else◌, List, [], ◌∷◌, ◌++◌, refl, sym, ◌∙◌, ap, subst, append-nil, append_assoc, inr}
+use Rattle.std.proofs.Common.{◌≡◌, ℕ, Bool, true, false, if◌then◌else◌, List, [], ◌∷◌, ◌++◌, refl, sym, ◌∙◌, ap, subst, append-nil, append_assoc, inr}
 use Rattle.sw_world.specs.declared.op.Op.{Op}
 use Rattle.sw_world.specs.declared.answer.Answer.{Answer}
 use Rattle.sw_world.specs.declared.end.Turn.{Turn}
 use Rattle.sw_world.specs.declared.end.Turn.TheVariants.{Load, Ended}
 use Rattle.sw_world.specs.Body.{Pair, Job, Next, BodyOf, answers, Goes}
 use Rattle.sw_world.specs.Progress.{Status, Running, Waiting, Progress, IsAt, IsBody, Went, stops}
-use Rattle.sw_announcer.specs.Turns.{TurnDid, IsStep, status_of}
+use Rattle.sw_announcer.specs.Turns.{TurnDid, IsStep, HasRoom, place_of, status_of}
 use Rattle.sw_announcer.specs.declared.place.Place.{Place}
 use Rattle.sw_announcer.specs.declared.place.Place.TheVariants.{Running as At_Running, Waiting as At_Waiting, Ended as At_Ended}
 
@@ -51,3 +51,12 @@ pub waiting_at : (p : Place) (op : Op) → status_of p ≡ Waiting op → p ≡ 
 waiting_at At_Running op e = absurd cc
 waiting_at (At_Waiting other) op e = let k : other ≡ op = cc in ap At_Waiting k
 waiting_at (At_Ended end) op e = absurd cc
+
+pub room_running : (p : Place) (len capacity : ℕ) → status_of p ≡ Running → HasRoom p len capacity
+room_running At_Running len capacity e = tt
+room_running (At_Waiting op) len capacity e = absurd cc
+room_running (At_Ended end) len capacity e = tt
+
+pub status_stops : (t : Turn) → status_of (place_of t) ≡ stops t
+status_stops (Load op) = refl
+status_stops (Ended end) = refl

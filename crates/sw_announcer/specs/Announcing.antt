@@ -68,6 +68,11 @@ announces_at sheet path = does_at sheet.statements (end_of sheet path) path
 abbrev pub announces : BodyOf
 announces job = announces_at job.sheet job.path
 
+-- why the first of these answers refuses the load
+abbrev pub first_refusal : List Pair → Option Fault
+first_refusal [] = None
+first_refusal (pair ∷ pairs) = refusal pair.1
+
 -- the load was answered, and not refused
 abbrev pub IsLoaded : List Pair → Type 0
 IsLoaded [] = ⊥

@@ -26,9 +26,13 @@ abbrev pub IsStep : (List Answer → Next) → List Pair → Turn → Type 0
 IsStep b qs (Turn_Load op) = (b (answers qs) ≡ Asks op) × IsLoad op
 IsStep b qs (Turn_Ended end) = b (answers qs) ≡ Ends end
 
+-- where a body is once a turn stopped
+abbrev pub place_of : Turn → Place
+place_of (Turn_Load op) = At_Waiting op
+place_of (Turn_Ended end) = At_Ended end
+
 abbrev pub HasRoomAt : Turn → ℕ → ℕ → Type 0
-HasRoomAt (Turn_Load op) len capacity = len < capacity
-HasRoomAt (Turn_Ended end) len capacity = Unit {0}
+HasRoomAt turn len capacity = HasRoom (place_of turn) len capacity
 
 -- what contracts see of a body
 pub record Shown : Type 0 where

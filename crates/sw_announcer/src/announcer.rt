@@ -7,6 +7,7 @@ ghost use Rattle.sw_announcer.specs.declared.place.Place.TheVariants.{Running as
 ghost use Rattle.sw_announcer.specs.Announcing.{announces};
 
 use crate::place::Place;
+use crate::stop::{note, stop_at};
 use crate::turn::{push_pair, turn};
 use std::alloc::Global;
 use std::marker::Model;
@@ -49,6 +50,7 @@ impl Model for Announcement {
 }
 
 // A turn, with what it adds to what ran. Room for the path is taken first.
+#[tactic(auto, using(crate::proofs::Engines::room_running, crate::proofs::Engines::status_stops))]
 fn go_on<W: World>(
     alloc: Global,
     b: &mut Announcement,
@@ -67,19 +69,10 @@ fn go_on<W: World>(
     b.started = true;
     let path = b.path.share()?;
     ran.reserve(1)?;
-    match turn(alloc, b.sheet.get(), &b.path, &mut b.pairs, world)? {
-        Turn::Load(op) => {
-            let shown = op.share()?;
-            b.place = Place::Waiting(op);
-            Ok(Turn::Load(shown))
-        }
-        Turn::Ended(end) => {
-            let shown = end.share()?;
-            let _ = ran.push(path);
-            b.place = Place::Ended(end);
-            Ok(Turn::Ended(shown))
-        }
-    }
+    let reached = turn(alloc, b.sheet.get(), &b.path, &mut b.pairs, world)?;
+    let back = stop_at(&mut b.place, reached)?;
+    note(ran, path, &back);
+    Ok(back)
 }
 
 // Hands a waiting body its answer.

@@ -5,6 +5,7 @@
 mod announcer;
 mod parts;
 mod place;
+mod stop;
 mod turn;
 
 pub use announcer::{Announcement, Announcer};

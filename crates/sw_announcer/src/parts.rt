@@ -1,6 +1,6 @@
 // What a body asks, and its end.
 ghost use Rattle.std.specs.Prelude.{◌≡◌, IfOk};
-ghost use Rattle.sw_announcer.specs.Announcing.{begin_of, load_of, message_of, end_by, end_of, refusal, leaves_nothing};
+ghost use Rattle.sw_announcer.specs.Announcing.{begin_of, load_of, message_of, end_by, end_of, refusal, first_refusal, leaves_nothing};
 
 use std::alloc::Global;
 use sw_css_tree::CssTree;
@@ -50,13 +50,23 @@ pub(crate) fn message_of(path: &Name) -> Result<Op, Memory>
     })
 }
 
-/// Why the load is refused.
-pub(crate) fn refusal(answer: &Answer) -> Result<Option<Fault>, Memory>
+// Why the load is refused.
+fn refusal(answer: &Answer) -> Result<Option<Fault>, Memory>
     ensures { IfOk result (λ fault. fault ≡ refusal answer.now) }
 {
     match answer {
         Answer::Refused(fault) => Ok(Some(fault.share()?)),
         _ => Ok(None),
+    }
+}
+
+/// Why the first of these answers refuses the load.
+pub(crate) fn first_refusal(pairs: &[(Op, Answer)]) -> Result<Option<Fault>, Memory>
+    ensures { IfOk result (λ fault. fault ≡ first_refusal pairs.now) }
+{
+    match pairs {
+        [] => Ok(None),
+        [pair, ..] => refusal(&pair.1),
     }
 }
 

@@ -5,13 +5,14 @@ ghost use Rattle.sw_world.specs.Body.{Ends, answers};
 ghost use Rattle.sw_announcer.specs.Turns.{TurnDid, IsStep, HasRoomAt};
 ghost use Rattle.sw_announcer.specs.Announcing.{announces_at, asks_at, end_of, IsLoaded};
 
-use crate::parts::{end_of, load_of, message_of, refusal};
+use crate::parts::{end_of, first_refusal, load_of, message_of};
 use std::alloc::Global;
 use sw_syntax_tree::Sheet;
 use sw_text::{Memory, Name};
 use sw_world::{Answer, End, Op, Turn, World};
 
 // The load that a body begins with. Room for its answer is taken.
+#[tactic(auto, using(crate::proofs::Announced::waits))]
 fn wait(alloc: Global, path: &Name, pairs: &mut Vec<(Op, Answer)>) -> Result<Turn, Memory>
     requires { pairs.old.items ≡ [] }
     ensures pairs { pairs.new.items ≡ pairs.old.items }
@@ -45,8 +46,8 @@ fn say<W: World>(
     if pairs.len() > 1 {
         return Ok(());
     }
-    let op = message_of(path)?;
     pairs.reserve(1)?;
+    let op = message_of(path)?;
     let answer = world.ask(alloc, &op)?;
     push_pair(pairs, op, answer);
     Ok(())
@@ -71,7 +72,7 @@ fn end<W: World>(
 }
 
 // A body whose sheet has statements.
-#[tactic(auto, using(crate::proofs::Announced::did_none))]
+#[tactic(auto, using(crate::proofs::Announced::did_none, crate::proofs::Announced::is_loaded, crate::proofs::Announced::is_refused))]
 fn ask_on<W: World>(
     alloc: Global,
     sheet: &Sheet,
@@ -87,7 +88,7 @@ fn ask_on<W: World>(
     if pairs.is_empty() {
         return wait(alloc, path, pairs);
     }
-    match refusal(&pairs[0].1)? {
+    match first_refusal(pairs.as_slice())? {
         Some(fault) => Ok(Turn::Ended(End::Fault(fault))),
         None => end(alloc, sheet, path, pairs, world),
     }
@@ -109,6 +110,6 @@ pub(crate) fn turn<W: World>(
     if sheet.statements.as_slice().is_empty() {
         return Ok(Turn::Ended(end_of(alloc, sheet, path)?));
     }
-    let turn = ask_on(alloc, sheet, path, pairs, world)?;
-    Ok(turn)
+    let reached = ask_on(alloc, sheet, path, pairs, world)?;
+    Ok(reached)
 }
