@@ -1,5 +1,5 @@
 -- The five laws of the bodies of the announcer.
-use Rattle.std.proofs.Common.{◌≡◌, ℕ, bytes_eq, Option, None, Some, List, [], ◌∷◌, ◌++◌, length, map, refl, sym, ◌∙◌, subst, arith}
+use Rattle.std.proofs.Common.{◌≡◌, ℕ, Option, None, Some, List, [], ◌∷◌, ◌++◌, length, map, refl, subst, arith}
 use Rattle.sw_text.specs.declared.fault.Fault.{Fault}
 use Rattle.sw_syntax_tree.specs.declared.statement.Statement.{Statement}
 use Rattle.sw_syntax_tree.specs.Globals.{globals}
