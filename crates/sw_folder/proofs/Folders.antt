@@ -1,12 +1,15 @@
 -- That an edit which isn't refused leaves a folder a folder.
-use Rattle.std.proofs.Common.{◌≡◌, ℕ, ◌+◌, ◌-◌, ◌<◌, ◌≤◌, Bool, true, false, not, ◌&&◌, cond, List, [], length, None, Some, refl, sym, ap, subst, ◌∙◌, ◌⊎◌, inl, inr, arith, nat_lt, nat_le, if◌then◌else◌, IsTrue}
+use Rattle.std.proofs.Common.{◌≡◌, ℕ, ◌+◌, ◌-◌, ◌<◌, ◌≤◌, Bool, Bor, true, false, not, ◌&&◌, cond, List, [], length, Option, None, Some, IfSome, refl, sym, ap, subst, ◌∙◌, ◌⊎◌, inl, inr, arith, nat_lt, nat_le, if◌then◌else◌, IsTrue}
 use Rattle.std.proofs.lemmas.Bool.{ltb-false, leb-false, lt-ltb}
 use Rattle.std.specs.Str.{is_utf8, bytes_eq}
 use Rattle.std.specs.Ordering.{is_eq, nat_cmp}
 use Rattle.std.specs.Cmp.Lexicographic.{slice_cmp, nat_list_cmp_total}
 use Rattle.std.specs.FinMap.{get, contains_key, insert, remove, len, get-empty, get-insert, get-remove, len-empty, len-insert, len-remove}
 use Rattle.sw_folder.specs.declared.folder.Marks.{Marks}
-use Rattle.sw_folder.specs.Table.{files_of, IsTable}
+use Rattle.sw_folder.specs.Table.{Entry, files_of, IsTable}
+use Rattle.sw_folder.proofs.Tables.{get-files_of}
+use Rattle.std.specs.Map.{lookup}
+use Rattle.std.specs.Option.{option_copied}
 use Rattle.sw_folder.proofs.Marks.{Tells-empty}
 use Rattle.std.proofs.lemmas.Map.Text.{is_eq-slice_cmp}
 use Rattle.std.proofs.lemmas.Slice.Eq.{bytes_eq-Decides}
@@ -84,7 +87,7 @@ IsFolder-remove files path old = record {
 }
 
 pub IsTable-empty : (marks : Marks) → IsTable marks []
-IsTable-empty marks = record { one_each = sym none; named = λ q file e. cc; tells = Tells-empty marks; folder = record { few = few; paths = λ q found e. nothing q found e; short = λ q found e. nothing q found e } }
+IsTable-empty marks = record { one_each = sym none; tells = Tells-empty marks; folder = record { few = few; paths = λ q found e. nothing q found e; short = λ q found e. nothing q found e } }
   where
     none : len (files_of []) ≡ 0
     none = len-empty (slice_cmp nat_cmp) (List ℕ)
@@ -94,6 +97,15 @@ IsTable-empty marks = record { one_each = sym none; named = λ q file e. cc; tel
 
     nothing : {P : Type 0} (q found : List ℕ) → get (files_of []) q ≡ Some found → P
     nothing q found e = let none : None ≡ Some found = sym (get-empty (slice_cmp nat_cmp) q) ∙ e in cc
+
+-- what is found is short, and under a path
+pub found_short : (path : List ℕ) (entries : List Entry) (found : Option (Bor (List ℕ))) → option_copied found ≡ lookup (bytes_eq path) entries → IsFolder (files_of entries) → IfSome found (λ text. length text.now ≤ most_bytes)
+found_short path entries None e folder = tt
+found_short path entries (Some text) e folder = folder.short path text.now (get-files_of path entries ∙ sym e)
+
+pub found_path : (path : List ℕ) (entries : List Entry) (found : Option (Bor (List ℕ))) → option_copied found ≡ lookup (bytes_eq path) entries → IsFolder (files_of entries) → IfSome found (λ text. IsTrue (is_path path))
+found_path path entries None e folder = tt
+found_path path entries (Some text) e folder = folder.paths path text.now (get-files_of path entries ∙ sym e)
 
 -- a fault that is found by the path and the length alone is the put's
 pub unread_first : (files : Files) (path bytes : List ℕ) (count : ℕ) (fault : EditFault) → length bytes ≡ count → unread_fault path count ≡ Some fault → put_fault files path bytes ≡ Some fault

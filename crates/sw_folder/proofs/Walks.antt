@@ -1,8 +1,8 @@
 -- Walking from a place by segments, one segment at a time.
 use Rattle.std.proofs.Common.{◌≡◌, Bool, true, false, List, [], ◌∷◌, ◌++◌, Option, None, Some, ℕ, codes, refl, ap, ◌∙◌, if◌then◌else◌}
 use Rattle.std.specs.Option.{option_and_then}
-use Rattle.sw_folder.specs.Paths.{segments, rest_segments}
-use Rattle.sw_folder.specs.Resolution.{step, up, walk}
+use Rattle.sw_folder.specs.Paths.{segments, rest_segments, is_dot, is_dot_dot}
+use Rattle.sw_folder.specs.Resolution.{step, up, walk, IsLone}
 
 pub walk-none : (place : List (List ℕ)) → walk place [] ≡ Some place
 unfolding walk
@@ -62,3 +62,19 @@ module _ (next above : List (List ℕ)) (from : List (List ℕ)) (within higher 
 pub walk-lost_before : (place : List (List ℕ)) (way on further : List (List ℕ)) → walk place way ≡ None → walk place ((way ++ on) ++ further) ≡ None
 walk-lost_before place way on further lost =
     walk-append place (way ++ on) further ∙ ap (option_and_then (λ p. walk p further)) (walk-append place way on ∙ ap (option_and_then (λ p. walk p on)) lost)
+
+-- a segment that is no dot and no pair of dots leads on
+step-on : (place : List (List ℕ)) (segment : List ℕ) → is_dot segment ≡ false → is_dot_dot segment ≡ false → step place segment ≡ Some (place ++ segment ∷ [])
+step-on place segment dot dot_dot =
+    ap (λ b. if b then Some place else if is_dot_dot segment then up place else Some (place ++ segment ∷ [])) dot
+    ∙ ap (λ b. if b then up place else Some (place ++ segment ∷ [])) dot_dot
+
+-- a URL of one segment in a sheet of the top folder leads to that segment
+pub walk-lone : (from url sheet name : List ℕ) → IsLone from sheet → IsLone url name → walk [] ((segments from ++ codes ".." ∷ []) ++ segments url) ≡ Some (name ∷ [])
+walk-lone from url sheet name of_sheet of_name =
+    ap (λ s. walk [] ((s ++ codes ".." ∷ []) ++ segments url)) of_sheet.one
+    ∙ ap (λ s. walk [] (sheet ∷ codes ".." ∷ s)) of_name.one
+    ∙ walk-step [] (sheet ∷ []) sheet (codes ".." ∷ name ∷ []) (step-on [] sheet of_sheet.dot of_sheet.dot_dot)
+    ∙ walk-step (sheet ∷ []) [] (codes "..") (name ∷ []) refl
+    ∙ walk-step [] (name ∷ []) name [] (step-on [] name of_name.dot of_name.dot_dot)
+    ∙ walk-none (name ∷ [])

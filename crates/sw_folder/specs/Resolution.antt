@@ -1,5 +1,5 @@
 -- Which file of a folder a URL means. This project's own rule, modelled on Sass's load of partials and index files.
-use Rattle.std.specs.Prelude.{◌≡◌, ℕ, Bool, ◌||◌, nat_eq, if◌then◌else◌, List, [], ◌∷◌, ◌++◌, map, filter, codes, length, take, slice_index_or, Option, None, Some, Result, Ok, Err, option_and_then}
+use Rattle.std.specs.Prelude.{◌≡◌, ℕ, Bool, false, ◌||◌, nat_eq, if◌then◌else◌, List, [], ◌∷◌, ◌++◌, map, filter, codes, length, take, slice_index_or, Option, None, Some, Result, Ok, Err, option_and_then}
 use Rattle.std.specs.List.{flat_map, ends_with}
 use Rattle.std.specs.FinMap.{contains_key}
 use Rattle.sw_folder.specs.declared.resolve.ResolveFault.{ResolveFault}
@@ -18,6 +18,12 @@ step place segment =
     if is_dot segment then Some place
     else if is_dot_dot segment then up place
     else Some (place ++ segment ∷ [])
+
+-- a text is this one segment, which leads on from a place
+pub record IsLone (text name : List ℕ) : Type 0 where
+  pub one : segments text ≡ name ∷ []
+  pub dot : is_dot name ≡ false
+  pub dot_dot : is_dot_dot name ≡ false
 
 -- where these segments lead, unless they leave the folder
 unfoldable pub walk : List (List ℕ) → List (List ℕ) → Option (List (List ℕ))

@@ -12,21 +12,14 @@ ghost use Rattle.sw_folder.specs.Table.{marked};
 
 use crate::edit::{EditFault, unread_fault};
 use crate::path::{ends_with, has_underscore, is_path};
+use crate::sought::Sought;
 use indexmap::IndexMap;
 use std::alloc::Global;
 use std::marker::Model;
-use std::rc::RcStr;
 use std::str;
-use sw_text::{Memory, Name};
+use sw_text::Name;
 
 const MOST_FILES: usize = 4_096;
-
-/// A file: its path, shared with whom it is resolved for, and its text.
-#[derive(Drop)]
-struct File {
-    path: Name,
-    text: Name,
-}
 
 /// What a path of the folder may have: false only where none has it, and then it isn't looked for.
 #[derive(Clone, Copy, Drop)]
@@ -37,10 +30,11 @@ struct Marks {
     underscored: bool,
 }
 
-/// The files of a folder, each a text in UTF-8 under its path, which contracts see in byte order of the paths.
+/// The files of a folder, each a text in UTF-8 under its path, which contracts see in byte order of the paths. Both are
+/// shared with those who ask for them.
 #[derive(Drop)]
 pub struct Folder {
-    table: IndexMap<RcStr, File>,
+    table: IndexMap<Name, Name>,
     marks: Marks,
     alloc: Global,
 }
@@ -110,10 +104,7 @@ impl Folder {
         ensures short { IfSome result (λ text. length text.now ≤ most_bytes) }
         ensures path { IfSome result (λ _. IsTrue (is_path path.now)) }
     {
-        match self.table.get(path) {
-            Some(file) => Some(&file.text),
-            None => None,
-        }
+        self.table.get(&Sought::new(path))
     }
 
     /// What every folder keeps: at most 4,096 files, each under a path, with at most 1,048,576 bytes.
@@ -127,7 +118,7 @@ impl Folder {
     pub(crate) fn holds(&self, path: &str) -> bool
         ensures { result ≡ files.contains_key self.now path.now }
     {
-        self.table.contains_key(path)
+        self.table.contains_key(&Sought::new(path))
     }
 
     /// The path of the file with this path, where there is one.
@@ -135,8 +126,8 @@ impl Folder {
         ensures { option_copied result
             ≡ (if files.contains_key self.now path.now then Some path.now else None) }
     {
-        match self.table.get(path) {
-            Some(file) => Some(&file.path),
+        match self.table.get_key_value(&Sought::new(path)) {
+            Some((own, _)) => Some(own),
             None => None,
         }
     }
@@ -194,7 +185,7 @@ impl Folder {
         ensures after { self.new ≡ files.remove self.old path.now }
         ensures absent { OnFalse result (self.new ≡ self.old) }
     {
-        self.table.swap_remove(path).is_some()
+        self.table.swap_remove(&Sought::new(path)).is_some()
     }
 
     fn insert(&mut self, path: &str, text: &str) -> Result<(), EditFault>
@@ -204,9 +195,9 @@ impl Folder {
         ensures unchanged { OnErr result (self.new ≡ self.old) }
     {
         let marks = self.marks.with(path);
-        let key = RcStr::from_str(self.alloc, path)?;
-        let file = file_of(self.alloc, path, text)?;
-        self.table.insert(key, file)?;
+        let path = Name::new(self.alloc, path)?;
+        let text = Name::new(self.alloc, text)?;
+        self.table.insert(path, text)?;
         self.marks = marks;
         Ok(())
     }
@@ -222,16 +213,6 @@ impl Marks {
             underscored: self.underscored || has_underscore(path),
         }
     }
-}
-
-fn file_of(alloc: Global, path: &str, text: &str) -> Result<File, Memory>
-    ensures path { IfOk result (λ file. file.path ≡ path.now) }
-    ensures text { IfOk result (λ file. file.text ≡ text.now) }
-{
-    Ok(File {
-        path: Name::new(alloc, path)?,
-        text: Name::new(alloc, text)?,
-    })
 }
 
 fn text_of(bytes: &[u8]) -> Result<&str, EditFault>

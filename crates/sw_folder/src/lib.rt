@@ -6,6 +6,7 @@ mod edit;
 mod folder;
 mod path;
 mod resolve;
+mod sought;
 
 pub use edit::{EditFault, unread_fault};
 pub use folder::Folder;

@@ -1,8 +1,8 @@
 // Which file a URL means.
-ghost use Rattle.std.specs.Prelude.{◌≡◌, ◌∷◌, ◌++◌, [], None, Some, Ok, nat_eq, if◌then◌else◌, IfOk, IfErr, map, codes, string_bytes};
+ghost use Rattle.std.specs.Prelude.{◌≡◌, ◌∷◌, ◌++◌, [], None, Some, Ok, nat_eq, if◌then◌else◌, IfOk, IfErr, IfSome, map, codes, string_bytes};
 ghost use Rattle.std.specs.List.{ends_with};
 ghost use Rattle.sw_folder.specs.Paths.{segments};
-ghost use Rattle.sw_folder.specs.Resolution.{IsResolution, bases, both, both_choices, choice, first_choice, folder_text, groups, groups_at, groups_from, has_extension, name_groups, or_not_found, present, resolved, sheets, step, up, walk};
+ghost use Rattle.sw_folder.specs.Resolution.{IsResolution, bases, both, both_choices, choice, first_choice, folder_text, groups, groups_at, groups_from, has_extension, name_groups, or_not_found, present, resolved, sheets, step, up, walk, IsLone};
 
 use crate::folder::Folder;
 use crate::path::{ends_with, first_segment, is_dot, is_dot_dot};
@@ -85,6 +85,16 @@ impl Folder {
     }
 
     fn beside(&self, from: &str, url: &str) -> Result<Option<Name>, ResolveFault>
+        ensures { IsResolution result (first_choice self.now
+            (groups_at (walk [] ((segments from.now ++ codes ".." ∷ []) ++ segments url.now)))) }
+    {
+        if let (Some(_), Some(name)) = (lone(from), lone(url)) {
+            return self.named(String::new(self.allocator()), name);
+        }
+        self.beside_walked(from, url)
+    }
+
+    fn beside_walked(&self, from: &str, url: &str) -> Result<Option<Name>, ResolveFault>
         ensures { IsResolution result (first_choice self.now
             (groups_at (walk [] ((segments from.now ++ codes ".." ∷ []) ++ segments url.now)))) }
     {
@@ -298,6 +308,23 @@ pub fn has_extension(name: &str) -> bool
     ensures { result ≡ has_extension name.now }
 {
     ends_with(name, ".sass") || (ends_with(name, ".scss") || ends_with(name, ".css"))
+}
+
+// The one segment of a text, where that leads on from a place. Most sheets and URLs are such, and then there is no way to
+// walk.
+fn lone(text: &str) -> Option<&str>
+    ensures { IfSome result (λ name. IsLone text.now name.now) }
+{
+    match first_segment(text) {
+        (name, None) => {
+            if is_dot(name) || is_dot_dot(name) {
+                None
+            } else {
+                Some(name)
+            }
+        }
+        _ => None,
+    }
 }
 
 /// Goes on from a place by the segments of a text. False where that leaves the folder, and then the place isn't used
