@@ -16,7 +16,7 @@ use crate::{HasSetting, Reader};
 use std::alloc::Global;
 use std::marker::Model;
 use sw_folder::{EditFault, Folder};
-use sw_modules::{Enter, Finished, Live, Nothing};
+use sw_modules::{Enter, Live, Nothing};
 use sw_record::{Cause, Outcome, Reply};
 use sw_text::{List, Memory, Name};
 use sw_world::{Engine, Hosts, Table};
@@ -201,7 +201,7 @@ fn compile_folder<R: Reader, E: Engine, H: Hosts>(
         (H.state hosts.old) (H.state hosts.new) (E.ran engine.old) (E.ran engine.new)) }
 {
     let alloc = within.alloc;
-    let mut live = Live::new(alloc, folder, paths, within.nothing);
+    let mut live = Live::new(alloc, folder, paths, within.nothing, within.kept.len())?;
     match live.enter(entry)? {
         Enter::Refused(fault) => Ok(Compiled {
             reply: Reply {
@@ -219,7 +219,7 @@ fn compile_folder<R: Reader, E: Engine, H: Hosts>(
             let end = evaluate(within, &mut moment, hosts, engine, &opening)?;
             let Moment { mut live, results } = moment;
             live.leave(&end)?;
-            let Finished { says, outputs: _ } = live.finish();
+            let says = live.finish();
             let (runs, ran) = results.into_parts();
             let outcome = outcome_of(alloc, end, runs.as_slice())?;
             Ok(Compiled {

@@ -94,6 +94,11 @@ impl<R: Reader, E: Engine> KeptRuns<R, E> {
         }
     }
 
+    /// Of how many modules a run is kept.
+    pub(crate) fn len(&self) -> usize {
+        self.table.len()
+    }
+
     /// The kept run of a module. The place `near` and the one behind it are looked at first; what is found is the same
     /// for every guess.
     pub(crate) fn find(&self, path: &Name, near: usize) -> Option<&KeptRun<R, E>>

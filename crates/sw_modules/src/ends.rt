@@ -241,8 +241,7 @@ impl<'a> Live<'a> {
             ≡ record self.old { outputs = self.old.outputs ++ finish.now.css ∷ [] }) }
         ensures err { OnErr result (self.new ≡ self.old) }
     {
-        self.outputs.push(finish.get().css.share()?)?;
-        Ok(())
+        self.outputs.add(finish)
     }
 
     /// Takes the last output back.
@@ -250,7 +249,7 @@ impl<'a> Live<'a> {
         ensures { self.new
             ≡ record self.old { outputs = take (length self.old.outputs - 1) self.old.outputs } }
     {
-        self.outputs.truncate(self.outputs.len().saturating_sub(1));
+        self.outputs.take_back();
     }
 
     /// Adds the module at a path that this body left behind, as yet without its uses.

@@ -12,11 +12,11 @@ ghost use Rattle.sw_modules.specs.declared.live.Begin.TheVariants.{Answered};
 use crate::built_ins::is_sass;
 use crate::interfaces::brought_of;
 use crate::loads::{add_use, config_of, is_explicit, is_open, refused, share_names, takes};
+use crate::outputs::Outputs;
 use crate::uses::Source;
 use crate::{Loaded, Nothing, Opened, Uses};
 use std::alloc::Global;
 use std::marker::Model;
-use sw_css_tree::CssTree;
 use sw_folder::{Folder, ResolveFault, has_extension, is_path};
 use sw_text::{Fault, FaultCode, List, Memory, Name, Shared, Span};
 use sw_values::Value;
@@ -44,14 +44,6 @@ pub enum Enter {
     Open { path: Name, text: Name },
 }
 
-/// What a compile leaves behind: its messages in order, and the outputs of its modules in the order in which their
-/// bodies ended.
-#[derive(Drop)]
-pub struct Finished {
-    pub says: List<Saying>,
-    pub outputs: List<Shared<CssTree>>,
-}
-
 /// The places at which the latest question found a namespace, a module and a variable: where the next one looks first.
 #[derive(Clone, Copy, Drop)]
 pub(crate) struct Recent {
@@ -70,7 +62,7 @@ pub struct Live<'a> {
     pub(crate) loaded: Loaded,
     pub(crate) opened: Vec<Opened>,
     says: List<Saying>,
-    pub(crate) outputs: List<Shared<CssTree>>,
+    pub(crate) outputs: Outputs,
     pub(crate) recent: Recent,
 }
 
@@ -100,36 +92,37 @@ impl<'a> Live<'a> {
     ghost use Rattle.sw_modules.specs.State.{nothing_loaded, closed, loaded_now, path_in, with_variable};
     ghost use Rattle.sw_modules.specs.Loads.{at_once, begun, begin_path, begin_module, built_in_used, used_with, used_unless, ended_by, left_by, entry_text, entered, AnswersLoad, IsBegun, IsEntered};
 
-    /// Nothing is loaded or open. Takes no memory.
+    /// Nothing is loaded or open. There is room for so many modules, and for others later.
     pub fn new(
         alloc: Global,
         folder: &'a Folder,
         paths: &'a [Name],
         nothing: &'a Nothing,
-    ) -> Live<'a>
-        ensures { result ≡ nothing_loaded folder.now paths.now }
+        modules: usize,
+    ) -> Result<Live<'a>, Memory>
+        ensures { IfOk result (λ live. live ≡ nothing_loaded folder.now paths.now) }
     {
-        Live {
+        let loaded = Loaded::with_room(alloc, modules)?;
+        Ok(Live {
             alloc,
             folder,
             paths,
             nothing,
-            loaded: Loaded::new(alloc),
+            loaded,
             opened: Vec::new(alloc),
             says: List::new(alloc),
-            outputs: List::new(alloc),
+            outputs: Outputs::new(alloc),
             recent: Recent {
                 space: 0,
                 module: 0,
                 variable: 0,
             },
-        }
+        })
     }
 
-    /// The messages and the outputs. Takes no memory.
-    pub fn finish(self) -> Finished
-        ensures says { result.says ≡ self.entry.says }
-        ensures outputs { result.outputs ≡ self.entry.outputs }
+    /// The messages of the compile, in order. Takes no memory.
+    pub fn finish(self) -> List<Saying>
+        ensures { result ≡ self.entry.says }
     {
         let Live {
             alloc: _,
@@ -139,10 +132,10 @@ impl<'a> Live<'a> {
             loaded: _,
             opened: _,
             says,
-            outputs,
+            outputs: _,
             recent: _,
         } = self;
-        Finished { says, outputs }
+        says
     }
 
     /// Opens the entry, or refuses it at its begin where it is no sheet of the folder. After `Memory` the state is as

@@ -1,5 +1,5 @@
 // The loaded modules.
-ghost use Rattle.std.specs.Prelude.{◌≡◌, [], bytes_eq, length, OnOk, OnErr};
+ghost use Rattle.std.specs.Prelude.{◌≡◌, [], bytes_eq, length, IfOk, OnOk, OnErr};
 ghost use Rattle.std.specs.Map.{lookup};
 ghost use Rattle.std.specs.Option.{option_copied, option_map};
 ghost use Rattle.indexmap.specs.IndexMap.{insert_entry};
@@ -36,13 +36,13 @@ impl Model for Loaded {
 }
 
 impl Loaded {
-    /// None is loaded. Takes no memory.
-    pub fn new(alloc: Global) -> Loaded
-        ensures { result ≡ [] }
+    /// None is loaded, and there is room for so many.
+    pub fn with_room(alloc: Global, modules: usize) -> Result<Loaded, Memory>
+        ensures { IfOk result (λ loaded. loaded ≡ []) }
     {
-        Loaded {
-            entries: IndexMap::new(alloc),
-        }
+        Ok(Loaded {
+            entries: IndexMap::with_capacity(alloc, modules)?,
+        })
     }
 
     /// The module at a path.

@@ -48,11 +48,12 @@ impl<'a> Live<'a> {
         let Some((module, held)) = self.loaded().find(&named.path, near.module) else {
             return None;
         };
-        if holds_all(&held.variables, &named.values) {
+        let first = first_place(&held.variables, &named.values, near.variable);
+        if holds_all(&held.variables, &named.values, first) {
             Some(Recent {
                 space: near.space,
                 module,
-                variable: near.variable,
+                variable: first,
             })
         } else {
             None
@@ -97,12 +98,22 @@ impl<'a> Live<'a> {
     }
 }
 
-// Whether all of these are public variables with these values.
-fn holds_all(variables: &Variables, values: &Table<Value>) -> bool
+// The place of the first of these variables, which is a guess: where that of the module before it was.
+fn first_place(variables: &Variables, values: &Table<Value>, near: usize) -> usize {
+    match values.at(0) {
+        None => near,
+        Some((name, _)) => match variables.find(name, near) {
+            None => near,
+            Some((place, _)) => place,
+        },
+    }
+}
+
+// Whether all of these are public variables with these values. The first is looked for near a place.
+fn holds_all(variables: &Variables, values: &Table<Value>, first: usize) -> bool
     ensures { OnTrue result (All (IsPublic variables.now) values.now) }
 {
-    // The first is looked for by its name, unless it is the first of all.
-    let mut near = usize::MAX;
+    let mut near = first;
     for place in 0..values.len() {
         match holds_at(variables, values, place, near) {
             None => return false,

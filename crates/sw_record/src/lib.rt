@@ -3,6 +3,7 @@
 #![tactic(auto)]
 
 mod again;
+mod configs;
 mod laws;
 mod reply;
 mod run;

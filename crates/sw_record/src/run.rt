@@ -5,6 +5,7 @@ ghost use Rattle.sw_world.specs.Body.{Goes, Ends, answers};
 ghost use Rattle.sw_record.specs.Kept.{IsKept, kept_of, job_of, printed_of};
 ghost use Rattle.sw_record.specs.Tails.{IsTail};
 
+use crate::configs::share_configs;
 use crate::tail::tail_of;
 use crate::{Tail, Trace};
 use std::alloc::Global;
@@ -50,10 +51,26 @@ impl<E: Engine> Run<E> {
         requires ends { E.body (job_of (kept_of trace)) (answers trace.seen) ≡ Ends trace.end }
         ensures { IfOk result (λ run. run ≡ kept_of trace) }
     {
-        let printed = printed_of(alloc, &trace.end)?;
-        let tail = tail_of(alloc, trace.seen.as_slice())?;
+        let Trace {
+            path,
+            text,
+            sheet,
+            config,
+            seen,
+            end,
+        } = trace;
+        let printed = printed_of(alloc, &end)?;
+        let seen = share_configs(seen)?;
+        let tail = tail_of(alloc, seen.as_slice())?;
         Ok(Run {
-            trace,
+            trace: Trace {
+                path,
+                text,
+                sheet,
+                config,
+                seen,
+                end,
+            },
             printed,
             tail,
             of: PhantomData,
