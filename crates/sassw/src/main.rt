@@ -8,6 +8,7 @@ mod words;
 
 use crate::reporter::MessageReporter;
 use crate::words::words;
+use std::alloc::{AllocError, Global};
 use std::process::ExitCode;
 use sw_commands::run;
 use sw_eval::Evaluator;
@@ -18,8 +19,19 @@ use sw_protocol::Output;
 // No memory was found for the words or for who reports.
 const NO_MEMORY: u8 = 6;
 
+// A block of this many bytes has those up to it kept where they are freed.
+const LARGE_BLOCK: usize = 4_194_304;
+
+// Has the memory of large blocks, as that of a reply's CSS, be used again. The C library gives a block back to the system
+// where it is larger than all that were freed before, and the pages of the next one are new.
+fn keep_large_blocks(alloc: Global) {
+    let block: Result<Vec<u8>, AllocError> = Vec::with_capacity(alloc, LARGE_BLOCK);
+    drop(block);
+}
+
 fn main(rt: HostRuntime) -> ExitCode {
     let alloc = rt.alloc();
+    keep_large_blocks(alloc);
     let words = match words(&rt) {
         Ok(words) => words,
         Err(fault) => return ExitCode::from(fault.status()),

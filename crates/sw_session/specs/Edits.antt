@@ -29,14 +29,18 @@ LineStops Memory said = ⊤
 LineStops OutsideFailed said = ⊥
 LineStops Over said = ⊥
 
+-- only a front of a reply was sent
+abbrev pub IsCutShort : List ℕ → Option (List ℕ) → Option (List ℕ) → Type 0
+IsCutShort reply written now =
+    (front : List ℕ) × (back : List ℕ) × (reply ≡ front ++ back) × Appends written now front
+
 -- how the sending of a reply ends that isn't written whole
 abbrev pub SendEnds : Stop → List ℕ → Option (List ℕ) → Option (List ℕ) → Type 0
 SendEnds Ended reply written now = ⊥
 SendEnds Wrong reply written now = ⊥
 SendEnds CutOff reply written now = ⊥
 SendEnds SourceFailed reply written now = ⊥
-SendEnds SinkFailed reply written now =
-    (front : List ℕ) × (back : List ℕ) × (reply ≡ front ++ back) × Appends written now front
+SendEnds SinkFailed reply written now = IsCutShort reply written now
 SendEnds Memory reply written now = Appends written now []
 SendEnds OutsideFailed reply written now = ⊥
 SendEnds Over reply written now = ⊥

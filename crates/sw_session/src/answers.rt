@@ -1,15 +1,16 @@
 // A request is carried out: its reply is made, and sent.
-ghost use Rattle.std.specs.Prelude.{◌≡◌, ◌≤◌, List, ℕ, length, None, Some, IfOk, IfErr, OnOk, OnErr};
+ghost use Rattle.std.specs.Prelude.{◌≡◌, ◌≤◌, ◌++◌, List, ℕ, length, None, Some, IfOk, IfErr, OnOk, OnErr};
 ghost use Rattle.std.specs.Io.KnownBytes.{Appends};
+ghost use Rattle.std.specs.Option.{option_copied};
 ghost use Rattle.sw_io.specs.Causes.{HasCause};
 ghost use Rattle.sw_world.specs.Hosts.{HostState};
 ghost use Rattle.sw_modules.specs.Fresh.{Setting};
-ghost use Rattle.sw_wire.specs.Replies.{reply_text};
+ghost use Rattle.sw_wire.specs.Replies.{css_behind, reply_text};
 ghost use Rattle.sw_protocol.specs.Heard.{told_of};
 ghost use Rattle.sw_protocol.specs.Turns.{place, standing, Says, SaysSome, SayStops, Cause};
 ghost use Rattle.sw_session.specs.Script.{Compile, Remove};
 ghost use Rattle.sw_session.specs.Transcript.{holding, session};
-ghost use Rattle.sw_session.specs.Edits.{PutAnswers, PutStops, SendEnds};
+ghost use Rattle.sw_session.specs.Edits.{PutAnswers, PutStops, IsCutShort, SendEnds};
 
 use crate::edits;
 use crate::reading::SheetReader;
@@ -20,7 +21,7 @@ use sw_keeper::HasSetting;
 use sw_protocol::{Stop, send};
 use sw_record::Reply;
 use sw_text::{List, Memory, Name};
-use sw_wire::{memory_reply, write_reply};
+use sw_wire::{memory_reply, write_front};
 use sw_world::{Engine, Hosts};
 
 impl<E: Engine> Session<E> {
@@ -115,11 +116,27 @@ pub fn send_reply<K: Sink>(alloc: Global, reply: Reply, sink: &mut K) -> Result<
     ensures cause { Cause Stop.SinkFailed (K.faults sink.old) (K.faults sink.new) result }
 {
     let mut text = Vec::new(alloc);
-    match write_reply(alloc, &reply, &mut text) {
+    match write_front(alloc, &reply, &mut text) {
         Err(Memory) => Err(Stop::Memory),
-        Ok(()) => match send(sink, &text) {
+        Ok(css) => match send_front(sink, &text, css) {
             Ok(()) => Ok(Some(reply)),
             Err(Failed) => Err(Stop::SinkFailed),
         },
     }
+}
+
+// Sends the front of a reply, and behind it the CSS that isn't in it.
+fn send_front<K: Sink>(sink: &mut K, front: &[u8], css: Option<&[u8]>) -> Result<(), Failed>
+    ensures ok { OnOk result (Appends (K.written sink.old) (K.written sink.new)
+        (front.now ++ css_behind (option_copied css.entry))) }
+    ensures err { OnErr result (IsCutShort (front.now ++ css_behind (option_copied css.entry)) (K.written sink.old)
+        (K.written sink.new)) }
+    ensures cause { HasCause (K.faults sink.old) (K.faults sink.new) result }
+{
+    send(sink, front)?;
+    if let Some(bytes) = css {
+        send(sink, bytes)?;
+        send(sink, b"\n")?;
+    }
+    Ok(())
 }

@@ -1,5 +1,5 @@
 -- The text of replies. This project's own rule.
-use Rattle.std.specs.Prelude.{ℕ, List, [], ◌∷◌, ◌++◌, length, Result, Ok, Err, codes}
+use Rattle.std.specs.Prelude.{ℕ, List, [], ◌∷◌, ◌++◌, length, Option, None, Some, Result, Ok, Err, codes}
 use Rattle.std.specs.Fmt.{decimal}
 use Rattle.sw_text.specs.declared.place.Pos.{Pos}
 use Rattle.sw_text.specs.declared.place.Span.{Span}
@@ -64,6 +64,11 @@ css_head count = codes "css " ++ decimal count ++ codes "\n"
 
 abbrev pub css_text : List ℕ → List ℕ
 css_text bytes = css_head (length bytes) ++ bytes ++ codes "\n"
+
+-- the bytes of a CSS that are sent from where they stand, if some are, and a line feed
+abbrev pub css_behind : Option (List ℕ) → List ℕ
+css_behind None = []
+css_behind (Some bytes) = bytes ++ codes "\n"
 
 -- the code, and the place of the fault
 abbrev pub fault_text : Fault → List ℕ

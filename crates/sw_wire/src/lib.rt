@@ -12,5 +12,5 @@ mod words;
 
 pub use fault::LineFault;
 pub use read::read_request;
-pub use reply::{edit_reply, memory_reply, write_reply, write_says};
+pub use reply::{edit_reply, memory_reply, write_front, write_reply, write_says};
 pub use request::Request;

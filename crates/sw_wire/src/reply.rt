@@ -1,6 +1,7 @@
 // The text of a reply.
-ghost use Rattle.std.specs.Prelude.{◌≡◌, ◌++◌, codes, length, take, IfOk, OnOk, OnErr};
-ghost use Rattle.sw_wire.specs.Replies.{reply_text, says_text, saying_text, saying_head, kind_word, ran_text, ran_line, cause_word, outcome_text, css_head, css_text, fault_text, span_text, pos_text, edit_text, memory_text};
+ghost use Rattle.std.specs.Prelude.{◌≡◌, ◌++◌, codes, length, take, IfOk, IfSome, OnOk, OnErr};
+ghost use Rattle.std.specs.Option.{option_copied};
+ghost use Rattle.sw_wire.specs.Replies.{reply_text, says_text, saying_text, saying_head, kind_word, ran_text, ran_line, cause_word, outcome_text, css_head, css_text, css_behind, fault_text, span_text, pos_text, edit_text, memory_text};
 
 use std::alloc::Global;
 use sw_folder::EditFault;
@@ -8,12 +9,11 @@ use sw_record::{Cause, Outcome, Reply};
 use sw_text::{Fault, Memory, Name, Pos, Span};
 use sw_world::{SayKind, Saying};
 
+/// CSS of so many bytes is long: to copy it costs more than two more writes.
+const LONG_CSS: usize = 16_384;
+
 /// Room for the line in front of the CSS, and what stands behind it.
 const LINE_ROOM: usize = 32;
-
-/// A reply has room for its CSS so many times. What an allocator gets back in one piece is about what it then keeps for the
-/// next, so a session's next replies find their memory there, and not at the system's.
-const CSS_ROOM: usize = 2;
 
 /// Writes the reply to a compile behind what stands in `out`: for each message the line `warn PATH L:C L:C N`,
 /// `debug PATH L:C L:C N` or `fatal PATH L:C L:C N`, the N bytes of its text and a line feed; for each module whose
@@ -30,6 +30,36 @@ pub fn write_reply(alloc: Global, reply: &Reply, out: &mut Vec<u8>) -> Result<()
             out.truncate(before);
             Err(Memory)
         }
+    }
+}
+
+/// Writes the reply to a compile as `write_reply` does, but for the bytes of a long CSS and the line feed behind them: it
+/// gives these bytes, which are sent from where they stand, and not copied.
+pub fn write_front<'r>(
+    alloc: Global,
+    reply: &'r Reply,
+    out: &mut Vec<u8>,
+) -> Result<Option<&'r [u8]>, Memory>
+    ensures { IfOk result (λ css. out.old.items ++ reply_text reply.now
+        ≡ out.new.items ++ css_behind (option_copied css)) }
+{
+    write_says(alloc, reply.says.as_slice(), out)?;
+    write_ran(reply.ran.as_slice(), out)?;
+    if let Some(css) = long_css(&reply.outcome) {
+        write_css_head(alloc, css, out)?;
+        return Ok(Some(css));
+    }
+    write_outcome(alloc, &reply.outcome, out)?;
+    Ok(None)
+}
+
+// The CSS of an outcome, where it is long.
+fn long_css(outcome: &Outcome) -> Option<&[u8]>
+    ensures { IfSome result (λ css. outcome_text outcome.now ≡ css_text css.now) }
+{
+    match outcome {
+        Outcome::Css(bytes) if bytes.len() >= LONG_CSS => Some(bytes.as_slice()),
+        _ => None,
     }
 }
 
@@ -142,12 +172,21 @@ fn write_css(alloc: Global, bytes: &[u8], out: &mut Vec<u8>) -> Result<(), Memor
     ensures ok { OnOk result (out.new.items ≡ out.old.items ++ css_text bytes.now) }
     ensures err { OnErr result (take (length out.old.items) out.new.items ≡ out.old.items) }
 {
-    let count = bytes.len();
-    let head = format!(in alloc; "css {count}\n")?;
     out.reserve(room_of(bytes))?;
-    out.extend_from_slice(head.as_bytes())?;
+    write_css_head(alloc, bytes, out)?;
     out.extend_from_slice(bytes)?;
     out.extend_from_slice(b"\n")?;
+    Ok(())
+}
+
+// The line in front of the CSS.
+fn write_css_head(alloc: Global, bytes: &[u8], out: &mut Vec<u8>) -> Result<(), Memory>
+    ensures ok { OnOk result (out.new.items ≡ out.old.items ++ css_head (length bytes.now)) }
+    ensures err { OnErr result (take (length out.old.items) out.new.items ≡ out.old.items) }
+{
+    let count = bytes.len();
+    let head = format!(in alloc; "css {count}\n")?;
+    out.extend_from_slice(head.as_bytes())?;
     Ok(())
 }
 
@@ -224,8 +263,5 @@ pub fn memory_reply() -> &'static [u8]
 }
 
 fn room_of(bytes: &[u8]) -> usize {
-    bytes
-        .len()
-        .saturating_mul(CSS_ROOM)
-        .saturating_add(LINE_ROOM)
+    bytes.len().saturating_add(LINE_ROOM)
 }
