@@ -1,6 +1,6 @@
 #!/bin/sh
 # How the time of a list and of a map grows with their parts, which are put in one at a time: ratios of twice as many.
-# Usage: parts.sh PROGRAM, where that is the built sw_grow
+# Usage: parts.sh PROGRAM, where that is the built sw_bench_growth
 set -eu
 program=$1
 

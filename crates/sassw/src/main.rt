@@ -1,6 +1,6 @@
 //! The program `sassw`: a Sass compiler for a session of requests over standard input and output, and for folders.
-//! Words, bytes and files flow in, replies and CSS flow out, messages go to standard error too, and the status tells how
-//! it ended.
+//! Words, bytes and files flow in, replies and CSS flow out, messages go to standard error too, and the status tells
+//! how it ended.
 #![tactic(auto)]
 
 mod reporter;
@@ -10,11 +10,11 @@ use crate::reporter::MessageReporter;
 use crate::words::words;
 use std::alloc::{AllocError, Global};
 use std::process::ExitCode;
-use sw_commands::run;
+use sw_cmd_protocol::Output;
+use sw_cmd_run::run;
 use sw_eval::Evaluator;
 use sw_hub::Hub;
 use sw_io::{FolderDisk, StdSink, StdSource};
-use sw_protocol::Output;
 
 // No memory was found for the words or for who reports.
 const NO_MEMORY: u8 = 6;
@@ -22,8 +22,8 @@ const NO_MEMORY: u8 = 6;
 // A block of this many bytes has those up to it kept where they are freed.
 const LARGE_BLOCK: usize = 4_194_304;
 
-// Has the memory of large blocks, as that of a reply's CSS, be used again. The C library gives a block back to the system
-// where it is larger than all that were freed before, and the pages of the next one are new.
+// Has the memory of large blocks, as that of a reply's CSS, be used again. The C library gives a block back to the
+// system where it is larger than all that were freed before, and the pages of the next one are new.
 fn keep_large_blocks(alloc: Global) {
     let block: Result<Vec<u8>, AllocError> = Vec::with_capacity(alloc, LARGE_BLOCK);
     drop(block);

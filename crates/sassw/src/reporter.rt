@@ -4,9 +4,9 @@ ghost use Rattle.std.specs.Io.KnownBytes.{Appends};
 ghost use Rattle.sw_wire.specs.Replies.{says_text};
 
 use std::alloc::Global;
+use sw_cmd_protocol::send;
 use sw_hub::Reporter;
 use sw_io::{Failed, Sink};
-use sw_protocol::send;
 use sw_record::Reply;
 use sw_text::Memory;
 use sw_wire::write_says;

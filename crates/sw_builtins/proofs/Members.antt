@@ -2,7 +2,7 @@
 use Rattle.std.proofs.Common.{◌≡◌, ◌≤◌, ◌<◌, ℕ, List, Bor, map, length, get_or, Some, None, sym, ap, ◌∙◌}
 use Rattle.std.specs.Option.{option_map}
 use Rattle.std.proofs.lemmas.Option.{slice_get-map, slice_get_past, slice_get-get_or}
-use Rattle.sw_syntax_tree.specs.declared.callable.Kind.{Kind}
+use Rattle.sw_tree.specs.declared.callable.Kind.{Kind}
 use Rattle.sw_builtins.specs.declared.built_in.Found.{Found}
 use Rattle.sw_builtins.specs.Tables.{Row, member_in, kind_and_name}
 

@@ -7,9 +7,9 @@ use Rattle.sw_values.specs.declared.plain.Plain.TheVariants as P
 use Rattle.sw_values.specs.Texts.{shown}
 use Rattle.sw_values.specs.Inspected.{said}
 use Rattle.sw_values.specs.Weight.{most}
-use Rattle.sw_fn.specs.declared.fault.FnFault.{FnFault}
-use Rattle.sw_fn.specs.declared.fault.FnFault.TheVariants as F
-use Rattle.sw_fn.specs.Answers.{Answer, IsAnswer, within}
+use Rattle.sw_fn_call.specs.declared.fault.FnFault.{FnFault}
+use Rattle.sw_fn_call.specs.declared.fault.FnFault.TheVariants as F
+use Rattle.sw_fn_call.specs.Answers.{Answer, IsAnswer, within}
 use Rattle.sw_builtins.specs.Written.{IsCssText, css_of}
 use Rattle.sw_builtins.specs.Telling.{IsInspectedText, inspected}
 

@@ -4,9 +4,9 @@ use Rattle.sw_values.specs.declared.plain.Plain.{Plain}
 use Rattle.sw_values.specs.declared.value.Node.{Node}
 use Rattle.sw_values.specs.declared.value.Node.TheVariants as N
 use Rattle.sw_values.specs.Shape.{node_of, truth_of}
-use Rattle.sw_fn.specs.declared.fault.FnFault.TheVariants as F
-use Rattle.sw_fn.specs.Answers.{Answer, with, count}
-use Rattle.sw_fn.specs.Arguments.{Argument, one, three}
+use Rattle.sw_fn_call.specs.declared.fault.FnFault.TheVariants as F
+use Rattle.sw_fn_call.specs.Answers.{Answer, with, count}
+use Rattle.sw_fn_call.specs.Arguments.{Argument, one, three}
 use Rattle.sw_fn_math.specs.Calls.{answer as math_answer}
 use Rattle.sw_fn_text.specs.Calls.{answer as text_answer}
 use Rattle.sw_fn_list.specs.Calls.{answer as list_answer}

@@ -2,13 +2,13 @@
 use Rattle.std.specs.Prelude.{ℕ, ℤ, pos, negsuc, Bool, ◌&&◌, ◌==◌, ◌-◌, nat_le, List, [], ◌∷◌, length, drop, codes, bytes_eq, Some, None}
 use Rattle.std.specs.List.{list_all, list_any}
 use Rattle.sw_text.specs.Starts.{start_of}
-use Rattle.sw_syntax_tree.specs.declared.callable.Param.{Param}
-use Rattle.sw_syntax_tree.specs.declared.callable.Params.{Params}
-use Rattle.sw_syntax_tree.specs.declared.text.Parts.TheVariants as parts
-use Rattle.sw_syntax_tree.specs.declared.expr.Constant.TheVariants as constants
-use Rattle.sw_syntax_tree.specs.declared.expr.Expr.{Expr}
-use Rattle.sw_syntax_tree.specs.declared.expr.ExprKind.{ExprKind}
-use Rattle.sw_syntax_tree.specs.declared.expr.ExprKind.TheVariants as exprs
+use Rattle.sw_tree.specs.declared.callable.Param.{Param}
+use Rattle.sw_tree.specs.declared.callable.Params.{Params}
+use Rattle.sw_tree.specs.declared.text.Parts.TheVariants as parts
+use Rattle.sw_tree.specs.declared.expr.Constant.TheVariants as constants
+use Rattle.sw_tree.specs.declared.expr.Expr.{Expr}
+use Rattle.sw_tree.specs.declared.expr.ExprKind.{ExprKind}
+use Rattle.sw_tree.specs.declared.expr.ExprKind.TheVariants as exprs
 use Rattle.sw_builtins.specs.declared.shapes.Fallback.{Fallback}
 use Rattle.sw_builtins.specs.declared.shapes.Fallback.TheVariants as F
 

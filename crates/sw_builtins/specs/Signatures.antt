@@ -1,7 +1,7 @@
 -- Which parameters a built-in function takes, a line for each (Sass reference documentation, "Built-In Modules" and
 -- "Global Functions").
 use Rattle.std.specs.Prelude.{ℕ, nat_le, List, [], ◌∷◌, codes, if◌then◌else◌}
-use Rattle.sw_syntax_tree.specs.declared.callable.Params.{Params}
+use Rattle.sw_tree.specs.declared.callable.Params.{Params}
 use Rattle.sw_fn_math.specs.declared.function.Function.{Function as Math}
 use Rattle.sw_fn_math.specs.declared.function.Function.TheVariants as math
 use Rattle.sw_fn_text.specs.declared.function.Function.{Function as Text}

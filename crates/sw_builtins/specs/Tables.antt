@@ -5,8 +5,8 @@ use Rattle.std.specs.Option.{option_map}
 use Rattle.std.specs.Ordering.{nat_cmp, is_lt}
 use Rattle.std.specs.List.{list_all}
 use Rattle.std.specs.Cmp.Lexicographic.{slice_cmp}
-use Rattle.sw_syntax_tree.specs.declared.callable.Kind.{Kind}
-use Rattle.sw_syntax_tree.specs.declared.callable.Kind.TheVariants as K
+use Rattle.sw_tree.specs.declared.callable.Kind.{Kind}
+use Rattle.sw_tree.specs.declared.callable.Kind.TheVariants as K
 use Rattle.sw_builtins.specs.declared.built_in.Found.{Found}
 use Rattle.sw_builtins.specs.declared.built_in.Found.TheVariants as F
 use Rattle.sw_builtins.specs.declared.built_in.BuiltIn.{BuiltIn}

@@ -7,10 +7,10 @@ use Rattle.sw_values.specs.declared.value.Node.TheVariants as N
 use Rattle.sw_values.specs.Shape.{node_of}
 use Rattle.sw_values.specs.Inspected.{said}
 use Rattle.sw_values.specs.Weight.{most}
-use Rattle.sw_fn.specs.declared.fault.FnFault.{FnFault}
-use Rattle.sw_fn.specs.declared.fault.FnFault.TheVariants as F
-use Rattle.sw_fn.specs.Answers.{Answer, with, within}
-use Rattle.sw_fn.specs.Arguments.{Argument, one}
+use Rattle.sw_fn_call.specs.declared.fault.FnFault.{FnFault}
+use Rattle.sw_fn_call.specs.declared.fault.FnFault.TheVariants as F
+use Rattle.sw_fn_call.specs.Answers.{Answer, with, within}
+use Rattle.sw_fn_call.specs.Arguments.{Argument, one}
 use Rattle.sw_fn_map.specs.Pairs.{Pair, map_value}
 
 abbrev pub kind_name_by : Node → List ℕ

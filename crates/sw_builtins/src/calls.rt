@@ -1,12 +1,12 @@
 // What a call of a built-in function gives.
-ghost use Rattle.sw_fn.specs.Answers.{IsAnswer};
+ghost use Rattle.sw_fn_call.specs.Answers.{IsAnswer};
 ghost use Rattle.sw_builtins.specs.Calls.{meta_answer, chosen, answer};
 
 use crate::built_in::{BuiltIn, Meta};
 use crate::css_calls::css_call;
 use crate::telling::{inspect, keywords, type_of};
 use std::alloc::Global;
-use sw_fn::{Argument, FnFault, three};
+use sw_fn_call::{Argument, FnFault, three};
 use sw_values::Value;
 
 #[tactic(auto, unfolding(crate::specs::Calls::meta_answer))]

@@ -1,6 +1,6 @@
 // Functions of colours that CSS has too.
 ghost use Rattle.std.specs.Prelude.{◌≡◌, ◌++◌, ◌∷◌, [], IfOk};
-ghost use Rattle.sw_fn.specs.Answers.{IsAnswer, count as count_of};
+ghost use Rattle.sw_fn_call.specs.Answers.{IsAnswer, count as count_of};
 ghost use Rattle.sw_builtins.specs.Written.{colour_parts as colour_parts_of, written as written_call};
 ghost use Rattle.sw_builtins.specs.Calls.{opaque as opaque_args, whole as whole_args, are_special, is_number as is_number_value, of_channels as answer_of_channels, of_colour as answer_of_colour, of_three as answer_of_three, of_four as answer_of_four, of_parts as answer_of_parts, grayscale, opacity, inverted as inverted_colour, invert, saturated as saturated_amount, saturate, css_answer};
 
@@ -8,7 +8,7 @@ use crate::built_in::Css;
 use crate::special::{alone, channel_parts, colour_parts, has_special, is_special, push_shared};
 use crate::written::written;
 use std::alloc::Global;
-use sw_fn::{Argument, FnFault, count, one};
+use sw_fn_call::{Argument, FnFault, count, one};
 use sw_fn_colour::{Function, call};
 use sw_text::{List, Memory, Name};
 use sw_values::{Node, Value};

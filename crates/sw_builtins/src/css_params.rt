@@ -7,8 +7,8 @@ ghost use Rattle.sw_builtins.specs.Signatures.{rgb_and_alpha, hsl_and_alpha, rgb
 use crate::built_in::Css;
 use crate::shapes::{four, one, three, two};
 use std::alloc::Global;
-use sw_syntax_tree::{Param, Params};
 use sw_text::{Memory, Name};
+use sw_tree::{Param, Params};
 
 // ---- which list takes the arguments
 

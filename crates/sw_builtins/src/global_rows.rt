@@ -1,4 +1,5 @@
-// The functions that stand in no module, in the order of the alphabet: a name, what it is the name of, and what it means.
+// The functions that stand in no module, in the order of the alphabet: a name, what it is the name of, and what it
+// means.
 use crate::built_in::Found::{self, Known, LeftOut};
 use crate::built_in::{Asked, BuiltIn as B, Css, Meta};
 use sw_fn_colour::Function as Colour;
@@ -6,7 +7,7 @@ use sw_fn_list::Function as List;
 use sw_fn_map::Function as Map;
 use sw_fn_math::Function as Math;
 use sw_fn_text::Function as Text;
-use sw_syntax_tree::Kind::{self, Function};
+use sw_tree::Kind::{self, Function};
 
 /// Functions that are called without a namespace, or are left out there.
 pub static GLOBAL: [(&str, Kind, Found); 84] = [

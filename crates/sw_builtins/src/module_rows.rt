@@ -7,7 +7,7 @@ use sw_fn_list::Function as List;
 use sw_fn_map::Function as Map;
 use sw_fn_math::Function as Math;
 use sw_fn_text::Function as Text;
-use sw_syntax_tree::Kind::{self, Function, Mixin, Variable};
+use sw_tree::Kind::{self, Function, Mixin, Variable};
 
 /// `sass:math`
 pub static MATH: [(&str, Kind, Found); 31] = [

@@ -8,7 +8,7 @@ use crate::global_rows::GLOBAL;
 use crate::module_rows::{COLOR, LIST, MAP, MATH, META, STRING};
 use crate::search::search;
 use sw_fixed::Fixed;
-use sw_syntax_tree::Kind;
+use sw_tree::Kind;
 
 // ---- the tables
 

@@ -6,7 +6,7 @@ ghost use Rattle.sw_builtins.specs.Tables.{same_kind as same_kind_of, of_kind as
 
 use crate::Found;
 use std::cmp::Ordering;
-use sw_syntax_tree::Kind;
+use sw_tree::Kind;
 
 fn same_kind(kind: Kind, other: Kind) -> bool
     ensures { result ≡ same_kind_of kind other }

@@ -7,8 +7,8 @@ ghost use Rattle.sw_builtins.specs.declared.shapes.Fallback.TheVariants as F;
 
 use std::alloc::Global;
 use sw_fixed::Fixed;
-use sw_syntax_tree::{Constant, Expr, ExprKind, Number, Param, Params, Parts};
 use sw_text::{List, Memory, Name, Span};
+use sw_tree::{Constant, Expr, ExprKind, Number, Param, Params, Parts};
 
 /// What a parameter is where no argument is given for it.
 #[derive(Clone, Copy, Debug)]

@@ -15,8 +15,8 @@ use sw_fn_list::Function as Lists;
 use sw_fn_map::Function as Maps;
 use sw_fn_math::Function as Math;
 use sw_fn_text::Function as Text;
-use sw_syntax_tree::Params;
 use sw_text::{Memory, Name};
+use sw_tree::Params;
 
 #[tactic(auto, unfolding(crate::specs::Signatures::math_params))]
 fn math_params(alloc: Global, function: Math) -> Result<Params, Memory>

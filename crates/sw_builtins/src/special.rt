@@ -3,11 +3,11 @@ ghost use Rattle.std.specs.Prelude.{◌≡◌, ◌++◌, ◌∷◌, ◌||◌, []
 ghost use Rattle.std.specs.List.{list_any, starts_with as begins_with};
 ghost use Rattle.sw_values.specs.declared.plain.Plain.TheVariants as P;
 ghost use Rattle.sw_units.specs.declared.number.Slash.{out-Slash};
-ghost use Rattle.sw_fn.specs.Answers.{count as count_of};
+ghost use Rattle.sw_fn_call.specs.Answers.{count as count_of};
 ghost use Rattle.sw_builtins.specs.Written.{sides_by, begins_special as begins_special_text, special_behind_slash as special_in, has_slash as has_slash_in, is_special as is_special_value, is_special_item as is_special_of_list, has_special as has_special_text, is_slashed as is_slashed_text, is_spaced as is_spaced_list, last_parts, item_parts, channel_parts as channel_parts_of, colour_parts as colour_parts_of};
 
 use std::alloc::Global;
-use sw_fn::count;
+use sw_fn_call::count;
 use sw_text::{List, Memory};
 use sw_units::{Number, Slash};
 use sw_values::{Node, Separator, Value};

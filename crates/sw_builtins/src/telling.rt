@@ -2,11 +2,11 @@
 ghost use Rattle.std.specs.Prelude.{◌≡◌, ◌++◌, false, map, Ok, Err, IfOk, MatchResult};
 ghost use Rattle.sw_values.specs.declared.plain.Plain.TheVariants as P;
 ghost use Rattle.sw_values.specs.Inspected.{said};
-ghost use Rattle.sw_fn.specs.Answers.{IsAnswer};
+ghost use Rattle.sw_fn_call.specs.Answers.{IsAnswer};
 ghost use Rattle.sw_builtins.specs.Telling.{IsInspectedText, kind_name as kind_name_of, type_of, inspected as inspected_value, inspect, named_of as named_in, keyed as keyed_of, keywords};
 
 use std::alloc::Global;
-use sw_fn::{Argument, FnFault, one, string, text};
+use sw_fn_call::{Argument, FnFault, one, string, text};
 use sw_fn_map::map_value;
 use sw_text::{List, Memory, Name};
 use sw_values::{Node, Value, ValueFault};

@@ -3,11 +3,11 @@ ghost use Rattle.std.specs.Prelude.{◌≡◌, ◌++◌, codes, true, false, IfO
 ghost use Rattle.std.specs.String.{string_bytes};
 ghost use Rattle.sw_values.specs.declared.plain.Plain.TheVariants as P;
 ghost use Rattle.sw_values.specs.Texts.{shown};
-ghost use Rattle.sw_fn.specs.Answers.{IsAnswer, within};
+ghost use Rattle.sw_fn_call.specs.Answers.{IsAnswer, within};
 ghost use Rattle.sw_builtins.specs.Written.{IsCssText, css_of as css_text_of, further as further_texts, joined as joined_texts, written as written_call};
 
 use std::alloc::{AllocError, Global};
-use sw_fn::{FnFault, string};
+use sw_fn_call::{FnFault, string};
 use sw_text::{Memory, Name};
 use sw_values::{Value, ValueFault};
 

@@ -6,7 +6,8 @@ use crate::line::{put_begun, put_ended, put_head, put_indent, put_lines, shared}
 use sw_css_tree::{Block, Line, Wrapper};
 use sw_text::{Memory, Name};
 
-// The at-rules round a block that is written without lines but for its own.
+/// The at-rules that are open where a block is written: all round it, but not the innermost where it has no lines, for
+/// that one is written as one line with `{}`.
 pub fn around(block: &Block) -> &[Wrapper]
     ensures { result.now ≡ around block.now }
 {

@@ -5,7 +5,7 @@ ghost use Rattle.sw_css_print.specs.Page.{indent, head, import_text, line_text, 
 use sw_css_tree::{Line, Wrapper};
 use sw_text::{Memory, Name};
 
-// Two spaces for each at-rule or rule around.
+/// Two spaces for each at-rule or rule around. `Memory` exactly where none was found.
 pub fn put_indent(out: &mut Vec<u8>, depth: usize) -> Result<(), Memory>
     ensures { OnOk result (out.new.items ≡ out.old.items ++ indent depth) }
 {
@@ -15,6 +15,8 @@ pub fn put_indent(out: &mut Vec<u8>, depth: usize) -> Result<(), Memory>
     Ok(())
 }
 
+/// The head of an at-rule: `@name`, and a space and the prelude unless that is empty.
+/// After `Memory`, which comes exactly where none was found, `out` may hold a part.
 pub fn put_head(out: &mut Vec<u8>, name: &Name, prelude: &Name) -> Result<(), Memory>
     ensures { OnOk result (out.new.items ≡ out.old.items ++ head name.now prelude.now) }
 {
@@ -27,6 +29,8 @@ pub fn put_head(out: &mut Vec<u8>, name: &Name, prelude: &Name) -> Result<(), Me
     Ok(())
 }
 
+/// A plain import on a line, not indented: `@import`, what stands behind it, and `;`.
+/// After `Memory`, which comes exactly where none was found, `out` may hold a part.
 pub fn put_import(out: &mut Vec<u8>, text: &Name) -> Result<(), Memory>
     ensures { OnOk result (out.new.items ≡ out.old.items ++ import_text text.now) }
 {
@@ -61,6 +65,8 @@ fn put_line(out: &mut Vec<u8>, line: &Line) -> Result<(), Memory>
     }
 }
 
+/// Lines in their order, each indented by two spaces for each level of `depth`.
+/// After `Memory`, which comes exactly where none was found, `out` may hold a part.
 pub fn put_lines(out: &mut Vec<u8>, depth: usize, lines: &[Line]) -> Result<(), Memory>
     ensures { OnOk result (out.new.items ≡ out.old.items ++ lines_text depth lines.now) }
 {
@@ -71,7 +77,8 @@ pub fn put_lines(out: &mut Vec<u8>, depth: usize, lines: &[Line]) -> Result<(), 
     Ok(())
 }
 
-// The at-rules from this depth on begin.
+/// The at-rules from this depth on begin, the outermost first: each is an indented line that ends with `{`.
+/// After `Memory`, which comes exactly where none was found, `out` may hold a part.
 pub fn put_begun(out: &mut Vec<u8>, depth: usize, wrappers: &[Wrapper]) -> Result<(), Memory>
     ensures { OnOk result (out.new.items ≡ out.old.items ++ begun depth (drop depth wrappers.now)) }
 {
@@ -83,7 +90,8 @@ pub fn put_begun(out: &mut Vec<u8>, depth: usize, wrappers: &[Wrapper]) -> Resul
     Ok(())
 }
 
-// The at-rules from a depth, which isn't among them, to another end, the innermost first.
+/// The at-rules from depth `low` up to `high`, which isn't among them, end, the innermost first: each with a `}` line.
+/// After `Memory`, which comes exactly where none was found, `out` may hold a part.
 pub fn put_ended(out: &mut Vec<u8>, low: usize, high: usize) -> Result<(), Memory>
     ensures { OnOk result (out.new.items ≡ out.old.items ++ ended low high) }
 {
@@ -96,7 +104,7 @@ pub fn put_ended(out: &mut Vec<u8>, low: usize, high: usize) -> Result<(), Memor
     Ok(())
 }
 
-// How many at-rules lead both.
+/// How many at-rules lead both; two are the same where their numbers are.
 pub fn shared(one: &[Wrapper], other: &[Wrapper]) -> usize
     ensures { result ≡ shared one.now other.now }
 {

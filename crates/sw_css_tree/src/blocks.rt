@@ -28,6 +28,7 @@ impl Model for Blocks {
 }
 
 impl Blocks {
+    /// No block. Takes no memory.
     pub fn new(alloc: Global) -> Blocks
         ensures { result ≡ [] }
     {
@@ -37,12 +38,14 @@ impl Blocks {
         }
     }
 
+    /// The blocks in the order of opening, also those of which nothing is written.
     pub fn as_slice(&self) -> &[Block]
         ensures { result.now ≡ self.now }
     {
         self.items.as_slice()
     }
 
+    /// How many blocks there are, also those of which nothing is written.
     pub fn len(&self) -> usize
         ensures { result ≡ length self.now }
     {

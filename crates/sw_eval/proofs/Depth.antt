@@ -1,15 +1,15 @@
 -- One level of an evaluation.
 use Rattle.std.proofs.Common.{◌≡◌, ℕ, List, suc, ◌-◌, ◌<◌, ap, arith}
 use Rattle.sw_text.specs.declared.place.Span.{Span}
-use Rattle.sw_syntax_tree.specs.declared.callable.Param.{Param}
-use Rattle.sw_syntax_tree.specs.declared.expr.Expr.{Expr}
-use Rattle.sw_syntax_tree.specs.declared.statement.Statement.{Statement}
-use Rattle.sw_literals.specs.declared.quotients.Parens.{Parens}
-use Rattle.sw_state.specs.declared.entries.Entry.{Entry}
-use Rattle.sw_state.specs.declared.state.State.{State}
-use Rattle.sw_statements.specs.Includes.{run_body}
-use Rattle.sw_expressions.specs.Expressions.{value_one}
-use Rattle.sw_statements.specs.Statements.{does_placed}
+use Rattle.sw_tree.specs.declared.callable.Param.{Param}
+use Rattle.sw_tree.specs.declared.expr.Expr.{Expr}
+use Rattle.sw_tree.specs.declared.statement.Statement.{Statement}
+use Rattle.sw_eval_literals.specs.declared.quotients.Parens.{Parens}
+use Rattle.sw_eval_state.specs.declared.entries.Entry.{Entry}
+use Rattle.sw_eval_state.specs.declared.state.State.{State}
+use Rattle.sw_eval_statements.specs.Includes.{run_body}
+use Rattle.sw_eval_expressions.specs.Expressions.{value_one}
+use Rattle.sw_eval_statements.specs.Statements.{does_placed}
 use Rattle.sw_eval.specs.Means.{value_to, enter_to, does_to}
 
 pub one_level : (depth : ℕ) (parens : Parens) (e : Expr) (s : State) → 0 < depth → value_to depth parens e s ≡ value_one (value_to (depth - 1)) (enter_to (depth - 1)) parens e s

@@ -1,27 +1,27 @@
 -- What a turn of a body tells.
 use Rattle.std.proofs.Common.{◌≡◌, ℕ, zero, suc, ◌+◌, ◌-◌, ◌<◌, ◌≤◌, List, [], ◌∷◌, ◌++◌, length, take, drop, Some, refl, sym, ◌∙◌, ap, append-nil, arith}
-use Rattle.sw_world.specs.declared.op.Op.{Op}
+use Rattle.sw_world.specs.declared.question.Question.{Question}
 use Rattle.sw_world.specs.declared.answer.Answer.{Answer}
 use Rattle.sw_world.specs.declared.end.End.TheVariants.{Done, Fault}
 use Rattle.sw_text.specs.declared.fault.Fault.{Fault as Fault_at}
 use Rattle.sw_text.specs.declared.place.Span.{Span}
 use Rattle.sw_world.specs.Body.{Pair, Job, Next, Asks, Ends, answers}
 use Rattle.sw_world.specs.Laws.{most_asked}
-use Rattle.sw_talk.specs.Talk.{Question, Talk, Gives, Fails, Asking, answered, next_by, run}
-use Rattle.sw_talk.specs.Ran.{Stand, Ran, op_at}
-use Rattle.sw_talk.specs.Told.{IsRest, Told, tells}
-use Rattle.sw_state.specs.Left.{end_of, finish_of}
-use Rattle.sw_state.specs.Begin.{begin}
+use Rattle.sw_eval_questions.specs.Talk.{NumberedQuestion, Talk, Gives, Fails, Asking, answered, next_by, run}
+use Rattle.sw_eval_questions.specs.Ran.{Stand, Ran, op_at}
+use Rattle.sw_eval_questions.specs.Told.{IsRest, Told, tells}
+use Rattle.sw_eval_state.specs.Left.{end_of, finish_of}
+use Rattle.sw_eval_state.specs.Begin.{begin}
 use Rattle.sw_eval.specs.Means.{body, from}
-use Rattle.sw_talk.specs.Turns.{TurnDid}
+use Rattle.sw_eval_questions.specs.Turns.{TurnDid}
 use Rattle.sw_eval.specs.Resume.{IsResume}
-use Rattle.sw_state.specs.declared.state.State.{State}
+use Rattle.sw_eval_state.specs.declared.state.State.{State}
 
-pub turn_told : {W : Type 0} (gives : W → Op → Answer → W → Type 0) (job : Job) (ps : List Pair) (n i : ℕ) (s : State) (w x : W) (u : Talk (Unit {0} × State)) (b : Stand)
+pub turn_told : {W : Type 0} (gives : W → Question → Answer → W → Type 0) (job : Job) (ps : List Pair) (n i : ℕ) (s : State) (w x : W) (u : Talk (Unit {0} × State)) (b : Stand)
     → IsResume job ps n i s → Ran gives (from job i s) (record { path = job.path; pairs = ps; at = n }) w u b x → Told gives (end_of job.sheet) job.path (body job) ps w u b x
 turn_told gives job ps n i s w x u b is ran = tells (end_of job.sheet) job.path (body job) (from job i s) u ps n b w x is.within is.rest ran
 
-pub turn_did : {W : Type 0} (gives : W → Op → Answer → W → Type 0) (job : Job) (ps : List Pair) (w x : W) (u : Talk (Unit {0} × State)) (s : Stand) → Told gives (end_of job.sheet) job.path (body job) ps w u s x → TurnDid gives (body job) ps w s.pairs x
+pub turn_did : {W : Type 0} (gives : W → Question → Answer → W → Type 0) (job : Job) (ps : List Pair) (w x : W) (u : Talk (Unit {0} × State)) (s : Stand) → Told gives (end_of job.sheet) job.path (body job) ps w u s x → TurnDid gives (body job) ps w s.pairs x
 turn_did gives job ps w x u s t = record { asked = t.asked; grew = t.grew; led = t.led; goes = t.goes }
 
 pub resume_begin : (job : Job) (qs : List Pair) → IsResume job qs 0 0 begin
@@ -51,7 +51,7 @@ split (p ∷ ps) zero = refl
 split (p ∷ ps) (suc n) = ap (λ l. p.1 ∷ l) (split ps n)
 
 module _ (job : Job) (qs : List Pair) (n : ℕ) where
-  pub step_load : (q : Question) (op : Op) (at : Span) (k : ℕ → Answer → Talk (Unit {0} × State)) (u : Talk (Unit {0} × State)) → IsRest (end_of job.sheet) job.path (body job) qs n u → u ≡ Asking q at k → op_at job.path qs n q ≡ Some op
+  pub step_load : (q : NumberedQuestion) (op : Question) (at : Span) (k : ℕ → Answer → Talk (Unit {0} × State)) (u : Talk (Unit {0} × State)) → IsRest (end_of job.sheet) job.path (body job) qs n u → u ≡ Asking q at k → op_at job.path qs n q ≡ Some op
       → n < most_asked → length qs ≤ n → body job (answers qs) ≡ Asks op
   unfolding run
   step_load q op at k u is waits known few le =

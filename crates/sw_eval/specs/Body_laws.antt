@@ -1,10 +1,10 @@
 -- The laws of the body of a sheet: they are laws of every talk.
 use Rattle.std.proofs.Common.{◌≡◌, [], ◌∙◌, ap, refl, arith}
 use Rattle.sw_world.specs.Laws.{EndsForGood, EndsInTime, AsksFromSources, NamesOnce, EndsRefused, most_asked}
-use Rattle.sw_syntax_tree.specs.Globals.{globals, joined}
-use Rattle.sw_talk.specs.Laws.{run_ends, run_keeps, run_refused, run_gives, run_sourced}
-use Rattle.sw_state.specs.Left.{finish_of, end_of, names, names-left, once_joined}
-use Rattle.sw_state.specs.Begin.{begin}
+use Rattle.sw_tree.specs.Globals.{globals, joined}
+use Rattle.sw_eval_questions.specs.Laws.{run_ends, run_keeps, run_refused, run_gives, run_sourced}
+use Rattle.sw_eval_state.specs.Left.{finish_of, end_of, names, names-left, once_joined}
+use Rattle.sw_eval_state.specs.Begin.{begin}
 use Rattle.sw_eval.specs.Means.{from, body}
 
 pub ends_in_time : EndsInTime body

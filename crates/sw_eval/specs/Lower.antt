@@ -3,19 +3,19 @@ use Rattle.std.specs.Prelude.{ℕ, Option, Result}
 use denote.Param.Members.{Shared}
 use denote.Ref.{Bor, MutBor}
 use Rattle.sw_text.specs.declared.place.Span.{Span}
-use Rattle.sw_syntax_tree.specs.declared.expr.Expr.{Expr}
-use Rattle.sw_syntax_tree.specs.declared.statement.Statement.{Statement}
+use Rattle.sw_tree.specs.declared.expr.Expr.{Expr}
+use Rattle.sw_tree.specs.declared.statement.Statement.{Statement}
 use Rattle.sw_values.specs.declared.plain.Plain.{Plain}
-use Rattle.sw_literals.specs.declared.quotients.Parens.{Parens}
-use Rattle.sw_world.specs.declared.op.Op.{Op}
+use Rattle.sw_eval_literals.specs.declared.quotients.Parens.{Parens}
+use Rattle.sw_world.specs.declared.question.Question.{Question}
 use Rattle.sw_world.specs.declared.answer.Answer.{Answer}
-use Rattle.sw_talk.specs.declared.stop.Stop.{Stop}
-use Rattle.sw_walk.specs.declared.below.Body.{Body}
-use Rattle.sw_walk.specs.declared.walk.Walk.{Walk}
+use Rattle.sw_eval_questions.specs.declared.stop.Stop.{Stop}
+use Rattle.sw_eval_walk.specs.declared.below.Body.{Body}
+use Rattle.sw_eval_walk.specs.declared.walk.Walk.{Walk}
 use Rattle.sw_eval.specs.Means.{value_to, does_to, enter_to}
-use Rattle.sw_walk.specs.Going.{Goes_on}
+use Rattle.sw_eval_walk.specs.Going.{Goes_on}
 
-module _ {W F : Type 0} (gives : W → Op → Answer → W → Type 0) where
+module _ {W F : Type 0} (gives : W → Question → Answer → W → Type 0) where
   -- the closure gives the values of expressions that are nested no deeper than the number
   abbrev pub Values : Shared F (MutBor Walk × (Parens × (Bor Expr × (MutBor W × Unit {0}))))
       (Result Plain Stop × (MutBor Walk × (MutBor W × Unit {0}))) → F → ℕ → Type 0

@@ -3,24 +3,24 @@
 use Rattle.std.specs.Prelude.{ℕ, zero, suc, List, [], Option}
 use Rattle.sw_text.specs.declared.fault.FaultCode.TheVariants as C
 use Rattle.sw_text.specs.declared.place.Span.{Span}
-use Rattle.sw_syntax_tree.specs.declared.callable.Param.{Param}
-use Rattle.sw_syntax_tree.specs.declared.expr.Expr.{Expr}
-use Rattle.sw_syntax_tree.specs.declared.statement.Statement.{Statement}
+use Rattle.sw_tree.specs.declared.callable.Param.{Param}
+use Rattle.sw_tree.specs.declared.expr.Expr.{Expr}
+use Rattle.sw_tree.specs.declared.statement.Statement.{Statement}
 use Rattle.sw_values.specs.declared.plain.Plain.{Plain}
-use Rattle.sw_literals.specs.declared.quotients.Parens.{Parens}
+use Rattle.sw_eval_literals.specs.declared.quotients.Parens.{Parens}
 use Rattle.sw_world.specs.Body.{BodyOf, Job}
 use Rattle.sw_world.specs.Laws.{most_asked}
-use Rattle.sw_talk.specs.Talk.{Fails, run}
-use Rattle.sw_talk.specs.Asking.{fault}
-use Rattle.sw_state.specs.Begin.{begin}
-use Rattle.sw_state.specs.Left.{end_of}
-use Rattle.sw_state.specs.Eval.{Eval}
-use Rattle.sw_state.specs.declared.entries.Entry.{Entry}
-use Rattle.sw_expressions.specs.Expressions.{value_one}
-use Rattle.sw_statements.specs.Includes.{run_body}
-use Rattle.sw_statements.specs.Places.{place_of}
-use Rattle.sw_statements.specs.Statements.{does_placed}
-use Rattle.sw_tops.specs.Tops.{tops, rest}
+use Rattle.sw_eval_questions.specs.Talk.{Fails, run}
+use Rattle.sw_eval_questions.specs.Asking.{fault}
+use Rattle.sw_eval_state.specs.Begin.{begin}
+use Rattle.sw_eval_state.specs.Left.{end_of}
+use Rattle.sw_eval_state.specs.Eval.{Eval}
+use Rattle.sw_eval_state.specs.declared.entries.Entry.{Entry}
+use Rattle.sw_eval_expressions.specs.Expressions.{value_one}
+use Rattle.sw_eval_statements.specs.Includes.{run_body}
+use Rattle.sw_eval_statements.specs.Places.{place_of}
+use Rattle.sw_eval_statements.specs.Statements.{does_placed}
+use Rattle.sw_eval_top_level.specs.Tops.{tops, rest}
 
 -- nested no deeper than the number: expressions, bodies of what is called, and statements
 unfoldable mutual

@@ -1,11 +1,11 @@
 -- What is kept of a body between its turns.
 use Rattle.std.specs.Prelude.{ℕ, ◌≤◌, List, length}
 use Rattle.sw_world.specs.Body.{Pair, Job}
-use Rattle.sw_talk.specs.Told.{IsRest}
-use Rattle.sw_talk.specs.Turns.{HasRoom}
-use Rattle.sw_talk.specs.declared.place.Place.{Place}
-use Rattle.sw_state.specs.Left.{end_of}
-use Rattle.sw_state.specs.declared.state.State.{State}
+use Rattle.sw_eval_questions.specs.Told.{IsRest}
+use Rattle.sw_eval_questions.specs.Turns.{HasRoom}
+use Rattle.sw_eval_questions.specs.declared.place.Place.{Place}
+use Rattle.sw_eval_state.specs.Left.{end_of}
+use Rattle.sw_eval_state.specs.declared.state.State.{State}
 use Rattle.sw_eval.specs.Means.{body, from}
 
 -- the rest of the body, from where its evaluation stands

@@ -1,21 +1,21 @@
 // The engine: bodies that stop at loads and go on after their answers.
 ghost use Rattle.std.specs.Prelude.{◌≡◌, ◌<◌, true, [], ◌∷◌, ◌++◌, IfOk, OnErr, vec_len, vec_capacity};
-ghost use Rattle.sw_world.specs.declared.op.Op.{Op};
+ghost use Rattle.sw_world.specs.declared.question.Question.{Question};
 ghost use Rattle.sw_world.specs.Progress.{Running, Waiting, stops, ran_by};
 ghost use Rattle.sw_eval.specs.Means.{body};
-ghost use Rattle.sw_talk.specs.Turns.{TurnDid, IsStep, status_of};
-ghost use Rattle.sw_talk.specs.declared.place.Place.TheVariants.{Running as At_Running};
+ghost use Rattle.sw_eval_questions.specs.Turns.{TurnDid, IsStep, status_of};
+ghost use Rattle.sw_eval_questions.specs.declared.place.Place.TheVariants.{Running as At_Running};
 
 use crate::turn::turn;
 use std::alloc::Global;
 use std::marker::Model;
 use std::mem;
-use sw_state::State;
-use sw_syntax_tree::Sheet;
-use sw_talk::{Asked, Place, push_pair};
+use sw_eval_questions::{Asked, Place, push_pair};
+use sw_eval_state::State;
+use sw_eval_walk::Walk;
 use sw_text::{List, Memory, Name, Shared};
-use sw_walk::Walk;
-use sw_world::{Answer, Config, Engine, Op, Turn, World, share_pairs};
+use sw_tree::Sheet;
+use sw_world::{Answer, Config, Engine, Question, Turn, World, share_pairs};
 
 /// A body that the evaluator runs: its sheet, its pairs, and where its evaluation stands.
 #[derive(Drop)]
@@ -31,10 +31,10 @@ pub struct Evaluation {
 impl Model for Evaluation {
     ghost use Rattle.std.specs.Prelude.{vec_len, vec_capacity};
     ghost use Rattle.std.specs.Coded.{codes};
-    ghost use Rattle.sw_talk.specs.Turns.{Shown};
+    ghost use Rattle.sw_eval_questions.specs.Turns.{Shown};
     ghost use Rattle.sw_eval.specs.Resume.{Keeps};
-    ghost use Rattle.sw_syntax_tree.specs.contracts.expr.ExprKind as e;
-    ghost use Rattle.sw_syntax_tree.specs.contracts.statement.Statement as s;
+    ghost use Rattle.sw_tree.specs.contracts.expr.ExprKind as e;
+    ghost use Rattle.sw_tree.specs.contracts.statement.Statement as s;
     ghost use Rattle.sw_values.specs.contracts.plain.Plain as p;
 
     ghost Value = { Shown };
@@ -84,8 +84,8 @@ fn go_on<W: World>(b: &mut Evaluation, ran: &mut Vec<Name>, world: &mut W) -> Re
 
 // Hands a waiting body its answer.
 fn give_to(b: &mut Evaluation, answer: Answer)
-    requires { (op : Op) × (status_of b.old.place ≡ Waiting op) }
-    ensures { (op : Op) × (status_of b.old.place ≡ Waiting op)
+    requires { (op : Question) × (status_of b.old.place ≡ Waiting op) }
+    ensures { (op : Question) × (status_of b.old.place ≡ Waiting op)
         × (b.new ≡ record b.old { pairs = b.old.pairs ++ (op, answer) ∷ []; started = true; place = At_Running }) }
 {
     b.started = true;
@@ -124,7 +124,7 @@ impl Engine for Evaluator {
 
     ghost use Rattle.std.specs.Prelude.{List, ℕ};
     ghost use Rattle.sw_eval.specs.Means.{body};
-    ghost use Rattle.sw_talk.specs.Turns.{progress};
+    ghost use Rattle.sw_eval_questions.specs.Turns.{progress};
     ghost use Rattle.sw_eval.specs.Body_laws.{ends_in_time, ends_for_good, asks_from_sources, names_once, ends_refused};
 
     ghost body = { body };
@@ -139,7 +139,7 @@ impl Engine for Evaluator {
         sheet: &Shared<Sheet>,
         config: &Config,
         path: &Name,
-        known: &[(Op, Answer)],
+        known: &[(Question, Answer)],
     ) -> Result<Evaluation, Memory> {
         let pairs = share_pairs(alloc, known)?.into_vec();
         let sheet = sheet.share()?;
@@ -173,7 +173,7 @@ impl Engine for Evaluator {
         Ok(turn)
     }
 
-    fn close(&self, running: Evaluation) -> List<(Op, Answer)> {
+    fn close(&self, running: Evaluation) -> List<(Question, Answer)> {
         let Evaluation { walk, started, .. } = running;
         let Walk { asked, .. } = walk;
         let Asked { mut pairs, .. } = asked;

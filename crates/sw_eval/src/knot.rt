@@ -1,19 +1,19 @@
-// Levels over one another: the only functions that call themselves. Each makes the level below of three closures, since a
-// closure can't be handed out of the function that makes it.
+// Levels over one another: the only functions that call themselves. Each makes the level below of three closures, since
+// a closure can't be handed out of the function that makes it.
 ghost use Rattle.std.specs.Prelude.{◌<◌};
-ghost use Rattle.sw_walk.specs.Going.{Goes_on};
+ghost use Rattle.sw_eval_walk.specs.Going.{Goes_on};
 ghost use Rattle.sw_eval.specs.Means.{value_to, does_to, enter_to};
 
 use crate::lower::Lower;
-use sw_expressions::value_one;
-use sw_literals::Parens;
-use sw_state::fails;
-use sw_statements::{does_placed, place_of, run_body};
-use sw_syntax_tree::{Expr, Statement};
-use sw_talk::Stop;
+use sw_eval_expressions::value_one;
+use sw_eval_literals::Parens;
+use sw_eval_questions::Stop;
+use sw_eval_state::fails;
+use sw_eval_statements::{does_placed, place_of, run_body};
+use sw_eval_walk::{Body, Level, Walk};
 use sw_text::{FaultCode, Span};
+use sw_tree::{Expr, Statement};
 use sw_values::Value;
-use sw_walk::{Body, Level, Walk};
 use sw_world::World;
 
 // The value of an expression that is nested no deeper.
@@ -52,8 +52,8 @@ pub(crate) fn value_at<W: World>(
             Stop,
         >
             requires { lower < depth }
-            ensures { Goes_on W.gives (enter_to lower at.now body.entry.start.now body.entry.params.now body.entry.block.now) walk.old
-                world.old result walk.new world.new }
+            ensures { Goes_on W.gives (enter_to lower at.now body.entry.start.now body.entry.params.now
+                body.entry.block.now) walk.old world.old result walk.new world.new }
         {
             let _ = &depth;
             enter_at(walk, lower, at, body, world)
@@ -71,8 +71,8 @@ pub(crate) fn enter_at<W: World>(
     body: Body<'_>,
     world: &mut W,
 ) -> Result<Option<Value>, Stop>
-    ensures { Goes_on W.gives (enter_to depth at.now body.entry.start.now body.entry.params.now body.entry.block.now) walk.old world.old
-        result walk.new world.new }
+    ensures { Goes_on W.gives (enter_to depth at.now body.entry.start.now body.entry.params.now
+        body.entry.block.now) walk.old world.old result walk.new world.new }
 {
     if depth == 0 {
         return fails(FaultCode::Depth, at);
@@ -99,8 +99,8 @@ pub(crate) fn enter_at<W: World>(
             Stop,
         >
             requires { lower < depth }
-            ensures { Goes_on W.gives (enter_to lower at.now body.entry.start.now body.entry.params.now body.entry.block.now) walk.old
-                world.old result walk.new world.new }
+            ensures { Goes_on W.gives (enter_to lower at.now body.entry.start.now body.entry.params.now
+                body.entry.block.now) walk.old world.old result walk.new world.new }
         {
             let _ = &depth;
             enter_at(walk, lower, at, body, world)
@@ -144,8 +144,8 @@ pub(crate) fn does_at<W: World>(
             Stop,
         >
             requires { lower < depth }
-            ensures { Goes_on W.gives (enter_to lower at.now body.entry.start.now body.entry.params.now body.entry.block.now) walk.old
-                world.old result walk.new world.new }
+            ensures { Goes_on W.gives (enter_to lower at.now body.entry.start.now body.entry.params.now
+                body.entry.block.now) walk.old world.old result walk.new world.new }
         {
             let _ = &depth;
             enter_at(walk, lower, at, body, world)

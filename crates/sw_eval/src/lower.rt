@@ -1,11 +1,11 @@
 // The level below as closures.
 
-use sw_literals::Parens;
-use sw_syntax_tree::{Expr, Statement};
-use sw_talk::Stop;
+use sw_eval_literals::Parens;
+use sw_eval_questions::Stop;
+use sw_eval_walk::{Below, Body, Walk};
 use sw_text::Span;
+use sw_tree::{Expr, Statement};
 use sw_values::Value;
-use sw_walk::{Below, Body, Walk};
 use sw_world::World;
 
 /// The level below: what may be nested in it no deeper than a number.

@@ -1,12 +1,12 @@
 // What stands at the top of a sheet.
 
 use crate::knot::{does_at, enter_at, value_at};
-use sw_literals::Parens;
-use sw_syntax_tree::{Expr, Statement};
-use sw_talk::Stop;
+use sw_eval_literals::Parens;
+use sw_eval_questions::Stop;
+use sw_eval_walk::{Below, Body, Walk};
 use sw_text::Span;
+use sw_tree::{Expr, Statement};
 use sw_values::Value;
-use sw_walk::{Below, Body, Walk};
 use sw_world::World;
 
 // How deep statements of the top level may be nested.

@@ -1,17 +1,17 @@
 // Turns of a body.
 ghost use Rattle.std.specs.Prelude.{◌≡◌, IfOk, vec_len, vec_capacity};
 ghost use Rattle.sw_eval.specs.Means.{body};
-ghost use Rattle.sw_talk.specs.Turns.{TurnDid, IsStep, HasRoomAt};
-ghost use Rattle.sw_state.specs.Begin.{begin};
+ghost use Rattle.sw_eval_questions.specs.Turns.{TurnDid, IsStep, HasRoomAt};
+ghost use Rattle.sw_eval_state.specs.Begin.{begin};
 ghost use Rattle.sw_eval.specs.Resume.{IsResume};
 
 use crate::outermost::Outermost;
-use sw_state::{State, finish};
-use sw_syntax_tree::Sheet;
-use sw_talk::Stop;
+use sw_eval_questions::Stop;
+use sw_eval_state::{State, finish};
+use sw_eval_top_level::walk_on;
+use sw_eval_walk::Walk;
 use sw_text::Memory;
-use sw_tops::walk_on;
-use sw_walk::Walk;
+use sw_tree::Sheet;
 use sw_world::{Config, End, Turn, World};
 
 // Lets the next turn begin from the start.

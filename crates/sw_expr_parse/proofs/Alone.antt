@@ -1,23 +1,23 @@
 -- A word behind which the statement ends is a whole value: nothing of a value goes on there.
 use Rattle.std.proofs.Common.{◌≡◌, ℕ, ◌+◌, ◌-◌, Bool, true, false, ◌&&◌, ◌||◌, ◌⊎◌, List, [], ◌∷◌, inl, inr, refl, ◌∙◌, arith, eqb, length}
-use Rattle.sw_grammar.specs.Grammar.{Grammar, skip, seq, alt, many, sep, empty, first, member, without, Got}
-use Rattle.sw_grammar.specs.Readers.{parse}
-use Rattle.sw_grammar.proofs.Loops.{at_first, read_skip, read_act, read_both}
-use Rattle.sw_grammar.proofs.Sets.{at_false}
-use Rattle.sw_terminals.specs.declared.terminal.Terminal.TheVariants as T
-use Rattle.sw_terminals.specs.Numbers.{number_of, these, just}
-use Rattle.sw_syntax_tree.specs.declared.expr.Expr.{Expr}
-use Rattle.sw_syntax_tree.specs.declared.text.Text.{Text}
-use Rattle.sw_syntax.specs.declared.source.Source.{Source}
-use Rattle.sw_syntax.specs.Parts.{Part, Form, Texts, Values}
-use Rattle.sw_syntax.specs.Sources.{text_of, terminal_at, text_between}
-use Rattle.sw_syntax.specs.Sets.{level_operators, prefixes, endings, starts}
-use Rattle.sw_syntax.specs.Values.{ends_with_comma, to_text, to_called, to_unary, to_space, to_list}
-use Rattle.sw_syntax.specs.Table.{forms}
-use Rattle.sw_syntax.specs.Expressions.{part_insert, word_part, word_start, word, arguments_in, called, primary, prefix, unary, chain, disjunction, space_item, space, list_item, expr}
-use Rattle.sw_syntax.specs.Reads.{reader, reads}
-use Rattle.sw_syntax.proofs.Decided.{loops}
-use Rattle.sw_expr_inner.proofs.Choices.{goes_left, goes_right}
+use Rattle.sw_parse_grammar.specs.Grammar.{Grammar, skip, seq, alt, many, sep, empty, first, member, without, Got}
+use Rattle.sw_parse_grammar.specs.Readers.{parse}
+use Rattle.sw_parse_grammar.proofs.Loops.{at_first, read_skip, read_act, read_both}
+use Rattle.sw_parse_grammar.proofs.Sets.{at_false}
+use Rattle.sw_parse_terminals.specs.declared.terminal.Terminal.TheVariants as T
+use Rattle.sw_parse_terminals.specs.Numbers.{number_of, these, just}
+use Rattle.sw_tree.specs.declared.expr.Expr.{Expr}
+use Rattle.sw_tree.specs.declared.text.Text.{Text}
+use Rattle.sw_parse_table.specs.declared.source.Source.{Source}
+use Rattle.sw_parse_table.specs.Parts.{Part, Form, Texts, Values}
+use Rattle.sw_parse_table.specs.Sources.{text_of, terminal_at, text_between}
+use Rattle.sw_parse_table.specs.Sets.{level_operators, prefixes, endings, starts}
+use Rattle.sw_parse_table.specs.Values.{ends_with_comma, to_text, to_called, to_unary, to_space, to_list}
+use Rattle.sw_parse_table.specs.Table.{forms}
+use Rattle.sw_parse_table.specs.Expressions.{part_insert, word_part, word_start, word, arguments_in, called, primary, prefix, unary, chain, disjunction, space_item, space, list_item, expr}
+use Rattle.sw_parse_table.specs.Reads.{reader, reads}
+use Rattle.sw_parse_table.proofs.Decided.{loops}
+use Rattle.sw_parse_expr_lists.proofs.Choices.{goes_left, goes_right}
 use Rattle.sw_expr_parse.specs.Alone.{enders, is_alone, word_value}
 use Rattle.sw_expr_parse.proofs.Choices.{other_called, primary_other}
 use Rattle.sw_expr_parse.proofs.Climb.{chain_same}

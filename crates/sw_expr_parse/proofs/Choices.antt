@@ -1,14 +1,14 @@
 -- Which operand is read, by the terminal that stands there.
 use Rattle.std.proofs.Common.{◌≡◌, ℕ, true, false, refl, ◌∙◌}
-use Rattle.sw_grammar.specs.Grammar.{alt, first, member}
-use Rattle.sw_terminals.specs.declared.terminal.Terminal.TheVariants as T
-use Rattle.sw_terminals.specs.Numbers.{just}
-use Rattle.sw_syntax.specs.declared.source.Source.{Source}
-use Rattle.sw_syntax.specs.Sources.{terminal_at}
-use Rattle.sw_syntax.specs.Sets.{numbers, constants, words, bangs, parens_opening, literals, dollars}
-use Rattle.sw_syntax.specs.Expressions.{number, insert, quoted, text_item, url_item, template, hash, constant, url, url_template, special, variable, word_insert, part_insert, word_part, word_start, word, arguments_in, called, owned_variable, owned_call, owned, range, parent, important, parens, brackets, literal, other, primary, special_expr, special_value, special_parens, special_brackets, special_item}
-use Rattle.sw_syntax.specs.Reads.{reader, reads}
-use Rattle.sw_expr_inner.proofs.Choices.{goes_left, goes_right}
+use Rattle.sw_parse_grammar.specs.Grammar.{alt, first, member}
+use Rattle.sw_parse_terminals.specs.declared.terminal.Terminal.TheVariants as T
+use Rattle.sw_parse_terminals.specs.Numbers.{just}
+use Rattle.sw_parse_table.specs.declared.source.Source.{Source}
+use Rattle.sw_parse_table.specs.Sources.{terminal_at}
+use Rattle.sw_parse_table.specs.Sets.{numbers, constants, words, bangs, parens_opening, literals, dollars}
+use Rattle.sw_parse_table.specs.Expressions.{number, insert, quoted, text_item, url_item, template, hash, constant, url, url_template, special, variable, word_insert, part_insert, word_part, word_start, word, arguments_in, called, owned_variable, owned_call, owned, range, parent, important, parens, brackets, literal, other, primary, special_expr, special_value, special_parens, special_brackets, special_item}
+use Rattle.sw_parse_table.specs.Reads.{reader, reads}
+use Rattle.sw_parse_expr_lists.proofs.Choices.{goes_left, goes_right}
 
 -- what each row begins with
 record Firsts (source : Source) : Type 0 where

@@ -1,22 +1,22 @@
 -- How an operand of a level is one of the next: nothing or operators of that level stand behind it.
 use Rattle.std.proofs.Common.{◌≡◌, ℕ, zero, suc, ◌+◌, ◌-◌, ◌≤◌, ◌<◌, false, List, [], ◌∷◌, map, ap, subst, ◌∙◌, length, arith}
-use Rattle.sw_grammar.specs.Grammar.{many, seq, member, Got}
-use Rattle.sw_grammar.specs.Readers.{parse, Fails}
-use Rattle.sw_grammar.specs.declared.ReadError.{ReadError}
-use Rattle.sw_grammar.proofs.Loops.{at_first, fails_act, fails_first, fails_seq, read_act, read_both}
-use Rattle.sw_grammar.proofs.Knot.{many_end}
-use Rattle.sw_syntax_tree.specs.declared.expr.Expr.{Expr}
-use Rattle.sw_syntax_tree.specs.declared.expr.Link.{Link}
-use Rattle.sw_syntax.specs.declared.source.Source.{Source}
-use Rattle.sw_syntax.specs.Parts.{Part, Values, Links, links_of}
-use Rattle.sw_syntax.specs.Sources.{text_of, terminal_at, span_between}
-use Rattle.sw_syntax.specs.Sets.{level_operators}
-use Rattle.sw_syntax.specs.Values.{chained, to_chain}
-use Rattle.sw_syntax.specs.Table.{forms}
-use Rattle.sw_syntax.specs.Expressions.{link, chain}
-use Rattle.sw_syntax.specs.Reads.{reader}
-use Rattle.sw_syntax.proofs.Decided.{fit, links}
-use Rattle.sw_expr_nodes.proofs.Collected.{values_of_links, links_of_links}
+use Rattle.sw_parse_grammar.specs.Grammar.{many, seq, member, Got}
+use Rattle.sw_parse_grammar.specs.Readers.{parse, Fails}
+use Rattle.sw_parse_grammar.specs.declared.ReadError.{ReadError}
+use Rattle.sw_parse_grammar.proofs.Loops.{at_first, fails_act, fails_first, fails_seq, read_act, read_both}
+use Rattle.sw_parse_grammar.proofs.Knot.{many_end}
+use Rattle.sw_tree.specs.declared.expr.Expr.{Expr}
+use Rattle.sw_tree.specs.declared.expr.Link.{Link}
+use Rattle.sw_parse_table.specs.declared.source.Source.{Source}
+use Rattle.sw_parse_table.specs.Parts.{Part, Values, Links, links_of}
+use Rattle.sw_parse_table.specs.Sources.{text_of, terminal_at, span_between}
+use Rattle.sw_parse_table.specs.Sets.{level_operators}
+use Rattle.sw_parse_table.specs.Values.{chained, to_chain}
+use Rattle.sw_parse_table.specs.Table.{forms}
+use Rattle.sw_parse_table.specs.Expressions.{link, chain}
+use Rattle.sw_parse_table.specs.Reads.{reader}
+use Rattle.sw_parse_table.proofs.Decided.{fit, links}
+use Rattle.sw_parse_expr_nodes.proofs.Collected.{values_of_links, links_of_links}
 
 module _ (source : Source) (n : ℕ) where
   no_links : (k j : ℕ) → k < 6 → member (terminal_at source j) (level_operators k) ≡ false

@@ -1,16 +1,16 @@
 -- How a call ends, by what the table's reader answers.
 use Rattle.std.proofs.Common.{ℕ, [], ◌∷◌, inl, inr, sym, subst, Result, Ok, Err}
-use Rattle.sw_grammar.specs.Readers.{ReadsForm}
-use Rattle.sw_grammar.specs.Grammar.{Unexpected, TooDeep}
-use Rattle.sw_grammar.specs.declared.ReadError.{ReadError}
-use Rattle.sw_grammar.specs.declared.ReadError.TheVariants as stops
+use Rattle.sw_parse_grammar.specs.Readers.{ReadsForm}
+use Rattle.sw_parse_grammar.specs.Grammar.{Unexpected, TooDeep}
+use Rattle.sw_parse_grammar.specs.declared.ReadError.{ReadError}
+use Rattle.sw_parse_grammar.specs.declared.ReadError.TheVariants as stops
 use Rattle.sw_text.specs.declared.fault.FaultCode.TheVariants.{Syntax, Depth}
 use Rattle.sw_tokens.specs.Listed.{Listed}
-use Rattle.sw_syntax_tree.specs.declared.expr.Expr.{Expr}
-use Rattle.sw_syntax.specs.declared.source.Source.{Source}
-use Rattle.sw_syntax.specs.Parts.{Values}
-use Rattle.sw_syntax.specs.Sources.{text_of}
-use Rattle.sw_syntax.specs.Table.{forms, opening, closing}
+use Rattle.sw_tree.specs.declared.expr.Expr.{Expr}
+use Rattle.sw_parse_table.specs.declared.source.Source.{Source}
+use Rattle.sw_parse_table.specs.Parts.{Values}
+use Rattle.sw_parse_table.specs.Sources.{text_of}
+use Rattle.sw_parse_table.specs.Table.{forms, opening, closing}
 use Rattle.sw_expr_parse.specs.declared.end.ReadEnd.{ReadEnd}
 use Rattle.sw_expr_parse.specs.declared.end.ReadEnd.TheVariants as ends
 use Rattle.sw_expr_parse.specs.declared.form.Form.{Form}

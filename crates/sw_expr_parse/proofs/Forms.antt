@@ -1,15 +1,15 @@
 -- What the reader of a production answers is what the table says of the form.
 use Rattle.std.proofs.Common.{ℕ, [], ◌∷◌, Result}
-use Rattle.sw_grammar.specs.Readers.{ReadsForm}
-use Rattle.sw_grammar.specs.declared.ReadError.{ReadError}
-use Rattle.sw_grammar.proofs.Whole.{reads_form}
-use Rattle.sw_syntax_tree.specs.declared.expr.Expr.{Expr}
-use Rattle.sw_syntax.specs.declared.source.Source.{Source}
-use Rattle.sw_syntax.specs.Parts.{Form, Values}
-use Rattle.sw_syntax.specs.Sources.{text_of}
-use Rattle.sw_syntax.specs.Table.{forms, opening, closing}
-use Rattle.sw_syntax.specs.Reads.{reader, ReadsValue}
-use Rattle.sw_syntax.proofs.Decided.{fit, forms_nested}
+use Rattle.sw_parse_grammar.specs.Readers.{ReadsForm}
+use Rattle.sw_parse_grammar.specs.declared.ReadError.{ReadError}
+use Rattle.sw_parse_grammar.proofs.Whole.{reads_form}
+use Rattle.sw_tree.specs.declared.expr.Expr.{Expr}
+use Rattle.sw_parse_table.specs.declared.source.Source.{Source}
+use Rattle.sw_parse_table.specs.Parts.{Form, Values}
+use Rattle.sw_parse_table.specs.Sources.{text_of}
+use Rattle.sw_parse_table.specs.Table.{forms, opening, closing}
+use Rattle.sw_parse_table.specs.Reads.{reader, ReadsValue}
+use Rattle.sw_parse_table.proofs.Decided.{fit, forms_nested}
 
 pub form_read : (source : Source) (levels : ℕ) (form : Form) (r : Result (Expr × ℕ) ReadError)
     → ReadsValue r (reader source levels (forms source form) 0)

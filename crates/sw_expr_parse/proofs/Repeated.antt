@@ -1,17 +1,17 @@
 -- An item of a space list is an operand with any operators, where no ending stands.
 use Rattle.std.proofs.Common.{◌≡◌, ℕ, true, length}
-use Rattle.sw_grammar.specs.Grammar.{member, without, Answer}
-use Rattle.sw_grammar.specs.Readers.{Fails}
-use Rattle.sw_grammar.specs.declared.ReadError.{ReadError}
-use Rattle.sw_grammar.proofs.Seps.{guarded, guarded_fails}
-use Rattle.sw_syntax.specs.declared.source.Source.{Source}
-use Rattle.sw_syntax.specs.Parts.{Part}
-use Rattle.sw_syntax.specs.Sources.{text_of, terminal_at}
-use Rattle.sw_syntax.specs.Sets.{endings, starts}
-use Rattle.sw_syntax.specs.Table.{forms}
-use Rattle.sw_syntax.specs.Expressions.{space_item, disjunction, chain}
-use Rattle.sw_syntax.specs.Reads.{reader}
-use Rattle.sw_syntax.proofs.Decided.{loops}
+use Rattle.sw_parse_grammar.specs.Grammar.{member, without, Answer}
+use Rattle.sw_parse_grammar.specs.Readers.{Fails}
+use Rattle.sw_parse_grammar.specs.declared.ReadError.{ReadError}
+use Rattle.sw_parse_grammar.proofs.Seps.{guarded, guarded_fails}
+use Rattle.sw_parse_table.specs.declared.source.Source.{Source}
+use Rattle.sw_parse_table.specs.Parts.{Part}
+use Rattle.sw_parse_table.specs.Sources.{text_of, terminal_at}
+use Rattle.sw_parse_table.specs.Sets.{endings, starts}
+use Rattle.sw_parse_table.specs.Table.{forms}
+use Rattle.sw_parse_table.specs.Expressions.{space_item, disjunction, chain}
+use Rattle.sw_parse_table.specs.Reads.{reader}
+use Rattle.sw_parse_table.proofs.Decided.{loops}
 
 module _ (source : Source) (n : ℕ) (i : ℕ) where
   pub item_read : (a : Answer Part) → member (terminal_at source i) (without endings starts) ≡ true

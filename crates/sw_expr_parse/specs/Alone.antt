@@ -1,13 +1,13 @@
 -- Values of one token.
 use Rattle.std.specs.Prelude.{ℕ, ◌+◌, Bool, ◌&&◌, List, [], ◌∷◌}
-use Rattle.sw_grammar.specs.Grammar.{member}
-use Rattle.sw_terminals.specs.declared.terminal.Terminal.TheVariants.{Semicolon, Close, Word}
-use Rattle.sw_terminals.specs.Numbers.{these, just}
-use Rattle.sw_syntax_tree.specs.declared.expr.Expr.{Expr}
-use Rattle.sw_syntax_tree.specs.declared.expr.ExprKind.TheVariants as exprs
-use Rattle.sw_syntax.specs.declared.source.Source.{Source}
-use Rattle.sw_syntax.specs.Sources.{terminal_at, text_between}
-use Rattle.sw_syntax.specs.Values.{expression}
+use Rattle.sw_parse_grammar.specs.Grammar.{member}
+use Rattle.sw_parse_terminals.specs.declared.terminal.Terminal.TheVariants.{Semicolon, Close, Word}
+use Rattle.sw_parse_terminals.specs.Numbers.{these, just}
+use Rattle.sw_tree.specs.declared.expr.Expr.{Expr}
+use Rattle.sw_tree.specs.declared.expr.ExprKind.TheVariants as exprs
+use Rattle.sw_parse_table.specs.declared.source.Source.{Source}
+use Rattle.sw_parse_table.specs.Sources.{terminal_at, text_between}
+use Rattle.sw_parse_table.specs.Values.{expression}
 
 -- what ends a statement, and so each value in it
 abbrev pub enders : List ℕ

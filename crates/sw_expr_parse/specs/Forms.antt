@@ -1,7 +1,7 @@
 -- What of an expression is read by itself: how the tokens are seen for it, and which form of the table it is.
-use Rattle.sw_lexemes.specs.declared.state.Mode.{Mode}
-use Rattle.sw_lexemes.specs.declared.state.Mode.TheVariants as modes
-use Rattle.sw_syntax.specs.Parts.{Form as TableForm, Value, SpaceList, Sum}
+use Rattle.sw_parse_lexemes.specs.declared.state.Mode.{Mode}
+use Rattle.sw_parse_lexemes.specs.declared.state.Mode.TheVariants as modes
+use Rattle.sw_parse_table.specs.Parts.{Form as TableForm, Value, SpaceList, Sum}
 use Rattle.sw_expr_parse.specs.declared.form.Form.{Form}
 use Rattle.sw_expr_parse.specs.declared.form.Form.TheVariants as wanted
 

@@ -1,21 +1,21 @@
 -- What reading an expression at a place in a sheet's tokens gives: its tree and the place behind it, or the fault.
 use Rattle.std.specs.Prelude.{◌≡◌, ℕ, ◌⊎◌, [], ◌∷◌, Option, Some, None, Result, Ok, Err, length}
-use Rattle.sw_grammar.specs.Grammar.{Answer, Got, Unexpected, TooDeep}
-use Rattle.sw_grammar.specs.Levels.{ReadsDeep}
-use Rattle.sw_grammar.specs.declared.ReadError.{ReadError}
-use Rattle.sw_grammar.specs.declared.ReadError.TheVariants as stops
+use Rattle.sw_parse_grammar.specs.Grammar.{Answer, Got, Unexpected, TooDeep}
+use Rattle.sw_parse_grammar.specs.Levels.{ReadsDeep}
+use Rattle.sw_parse_grammar.specs.declared.ReadError.{ReadError}
+use Rattle.sw_parse_grammar.specs.declared.ReadError.TheVariants as stops
 use Rattle.sw_text.specs.declared.fault.Fault.{Fault}
 use Rattle.sw_text.specs.declared.fault.FaultCode.{FaultCode}
 use Rattle.sw_text.specs.declared.fault.FaultCode.TheVariants.{Syntax, Depth}
 use Rattle.sw_text.specs.declared.place.Span.{Span}
 use Rattle.sw_tokens.specs.Listed.{Listed}
 use Rattle.sw_tokens.specs.declared.token.Token.{Token}
-use Rattle.sw_lexemes.specs.Lexemes.{value_lexemes_of}
-use Rattle.sw_syntax_tree.specs.declared.expr.Expr.{Expr}
-use Rattle.sw_syntax.specs.declared.source.Source.{Source}
-use Rattle.sw_syntax.specs.Parts.{Part, Values}
-use Rattle.sw_syntax.specs.Sources.{bytes, text_of, lexeme_at, token_at, token_of, span_from}
-use Rattle.sw_syntax.specs.Table.{forms, opening, closing}
+use Rattle.sw_parse_lexemes.specs.Lexemes.{value_lexemes_of}
+use Rattle.sw_tree.specs.declared.expr.Expr.{Expr}
+use Rattle.sw_parse_table.specs.declared.source.Source.{Source}
+use Rattle.sw_parse_table.specs.Parts.{Part, Values}
+use Rattle.sw_parse_table.specs.Sources.{bytes, text_of, lexeme_at, token_at, token_of, span_from}
+use Rattle.sw_parse_table.specs.Table.{forms, opening, closing}
 use Rattle.sw_expr_parse.specs.declared.end.ReadEnd.{ReadEnd}
 use Rattle.sw_expr_parse.specs.declared.end.ReadEnd.TheVariants as ends
 use Rattle.sw_expr_parse.specs.declared.form.Form.{Form}

@@ -1,20 +1,20 @@
 // Operands with operators between them.
 ghost use Rattle.std.specs.Prelude.{◌≡◌, ◌∷◌, [], ◌<◌, ◌≤◌, map, IfOk, IfErr};
-ghost use Rattle.sw_grammar.specs.Grammar.{many};
-ghost use Rattle.sw_syntax.specs.Parts.{Values, Links};
-ghost use Rattle.sw_syntax.specs.Sources.{span_between};
-ghost use Rattle.sw_syntax.specs.Values.{chained};
-ghost use Rattle.sw_syntax.specs.Expressions.{link, chain};
-ghost use Rattle.sw_syntax.specs.Reads.{reader, Reads, ReadsValue};
-ghost use Rattle.sw_expr_inner.specs.Deeper.{Callable, Reading};
+ghost use Rattle.sw_parse_grammar.specs.Grammar.{many};
+ghost use Rattle.sw_parse_table.specs.Parts.{Values, Links};
+ghost use Rattle.sw_parse_table.specs.Sources.{span_between};
+ghost use Rattle.sw_parse_table.specs.Values.{chained};
+ghost use Rattle.sw_parse_table.specs.Expressions.{link, chain};
+ghost use Rattle.sw_parse_table.specs.Reads.{reader, Reads, ReadsValue};
+ghost use Rattle.sw_parse_expr_lists.specs.Deeper.{Callable, Reading};
 
 use crate::operand::unary_at;
 use std::alloc::Global;
-use sw_expr_nodes::{chained, given_up, is_operator};
-use sw_grammar::ReadError;
-use sw_syntax::{Source, found, operator_at, span_between};
-use sw_syntax_tree::{Expr, Link};
+use sw_parse_expr_nodes::{chained, given_up, is_operator};
+use sw_parse_grammar::ReadError;
+use sw_parse_table::{Source, found, operator_at, span_between};
 use sw_text::{List, Memory};
+use sw_tree::{Expr, Link};
 
 fn chain_of(
     alloc: Global,
@@ -49,7 +49,7 @@ fn chain_read(
 
 /// An operator of a level, and the operand behind it.
 #[cycle(chain)]
-#[tactic(auto, unfolding(sw_grammar::specs::Readers::parse, sw_syntax::specs::Expressions::link))]
+#[tactic(auto, unfolding(sw_parse_grammar::specs::Readers::parse, sw_parse_table::specs::Expressions::link))]
 fn link_at<F: Fn(u8, usize) -> Result<(Expr, usize), ReadError> + Copy>(
     alloc: Global,
     deeper: F,
@@ -74,7 +74,7 @@ fn link_at<F: Fn(u8, usize) -> Result<(Expr, usize), ReadError> + Copy>(
 
 /// Any number of these.
 #[cycle(chain)]
-#[tactic(auto, unfolding(sw_grammar::specs::Readers::parse))]
+#[tactic(auto, unfolding(sw_parse_grammar::specs::Readers::parse))]
 fn links_at<F: Fn(u8, usize) -> Result<(Expr, usize), ReadError> + Copy>(
     alloc: Global,
     deeper: F,
@@ -101,7 +101,7 @@ fn links_at<F: Fn(u8, usize) -> Result<(Expr, usize), ReadError> + Copy>(
 
 /// An operand with the operators below a level behind it: 0 is one without operators, and 6 is one with any.
 #[cycle(chain)]
-#[tactic(auto, unfolding(sw_syntax::specs::Expressions::chain))]
+#[tactic(auto, unfolding(sw_parse_table::specs::Expressions::chain))]
 pub(crate) fn chain_at<F: Fn(u8, usize) -> Result<(Expr, usize), ReadError> + Copy>(
     alloc: Global,
     deeper: F,

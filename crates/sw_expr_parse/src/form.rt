@@ -2,7 +2,7 @@
 ghost use Rattle.std.specs.Prelude.{◌≡◌};
 ghost use Rattle.sw_expr_parse.specs.Forms.{mode_of};
 
-use sw_lexemes::Mode;
+use sw_parse_lexemes::Mode;
 
 /// What of an expression is read by itself.
 #[derive(Clone, Copy, Debug, PartialEq, Eq)]

@@ -1,26 +1,27 @@
 // Operands with the signs before them.
 ghost use Rattle.std.specs.Prelude.{◌≡◌, ◌∷◌, [], IfOk};
-ghost use Rattle.sw_syntax.specs.Parts.{Values};
-ghost use Rattle.sw_syntax.specs.Sources.{span_between};
-ghost use Rattle.sw_syntax.specs.Values.{prefixed};
-ghost use Rattle.sw_syntax.specs.Expressions.{literal, other, primary, unary};
-ghost use Rattle.sw_syntax.specs.Reads.{reads, ReadsValue};
-ghost use Rattle.sw_expr_inner.specs.Deeper.{Callable, Reading};
+ghost use Rattle.sw_parse_table.specs.Parts.{Values};
+ghost use Rattle.sw_parse_table.specs.Sources.{span_between};
+ghost use Rattle.sw_parse_table.specs.Values.{prefixed};
+ghost use Rattle.sw_parse_table.specs.Expressions.{literal, other, primary, unary};
+ghost use Rattle.sw_parse_table.specs.Reads.{reads, ReadsValue};
+ghost use Rattle.sw_parse_expr_lists.specs.Deeper.{Callable, Reading};
 
 use std::alloc::Global;
-use sw_expr_inner::prefixes_at;
-use sw_expr_nodes::{
+use sw_parse_expr_lists::prefixes_at;
+use sw_parse_expr_nodes::{
     begins_word, constant_value_at, given_up, hash_at, important_at, is_bang, is_constant,
     is_dollar, is_number, is_paren, number_at, parent_at, prefixed, quoted_at, range_at, url_at,
     variable_at,
 };
-use sw_expr_operands::{brackets_at, called_at, owned_at, parens_at, template_at, url_template_at};
-use sw_expr_special::special_at;
-use sw_grammar::ReadError;
-use sw_syntax::{Source, begins_literal, found, is_at, span_between};
-use sw_syntax_tree::{Expr, Sign};
-use sw_terminals::Terminal;
+use sw_parse_expr_operands::{
+    brackets_at, called_at, owned_at, parens_at, special_at, template_at, url_template_at,
+};
+use sw_parse_grammar::ReadError;
+use sw_parse_table::{Source, begins_literal, found, is_at, span_between};
+use sw_parse_terminals::Terminal;
 use sw_text::{List, Memory};
+use sw_tree::{Expr, Sign};
 
 /// What holds no expression but in `#{}`.
 fn literal_at<F: Fn(u8, usize) -> Result<(Expr, usize), ReadError> + Copy>(
@@ -124,7 +125,7 @@ fn signed_of(
 }
 
 /// An operand with the signs before it.
-#[tactic(auto, using(sw_expr_nodes::proofs::Collected::collected), unfolding(sw_grammar::specs::Readers::parse, sw_syntax::specs::Expressions::unary))]
+#[tactic(auto, using(sw_parse_expr_nodes::proofs::Collected::collected), unfolding(sw_parse_grammar::specs::Readers::parse, sw_parse_table::specs::Expressions::unary))]
 pub(crate) fn unary_at<F: Fn(u8, usize) -> Result<(Expr, usize), ReadError> + Copy>(
     alloc: Global,
     deeper: F,

@@ -1,20 +1,20 @@
 // The readers of whole expressions.
 ghost use Rattle.std.specs.Prelude.{◌≡◌, ◌<◌, length, IsTrue};
-ghost use Rattle.sw_grammar.specs.Grammar.{member};
-ghost use Rattle.sw_syntax.specs.Sources.{terminal_at};
-ghost use Rattle.sw_syntax.specs.Expressions.{space, sum, expr};
-ghost use Rattle.sw_syntax.specs.Reads.{reads, ReadsValue};
+ghost use Rattle.sw_parse_grammar.specs.Grammar.{member};
+ghost use Rattle.sw_parse_table.specs.Sources.{terminal_at};
+ghost use Rattle.sw_parse_table.specs.Expressions.{space, sum, expr};
+ghost use Rattle.sw_parse_table.specs.Reads.{reads, ReadsValue};
 ghost use Rattle.sw_expr_parse.specs.Alone.{enders, is_alone};
 
 use crate::chain::chain_at;
 use crate::space::space_by;
 use std::alloc::Global;
-use sw_expr_inner::expr_at;
-use sw_expr_nodes::plain_text_of;
-use sw_grammar::ReadError;
-use sw_syntax::{Source, found, is_at};
-use sw_syntax_tree::{Expr, ExprKind};
-use sw_terminals::Terminal;
+use sw_parse_expr_lists::expr_at;
+use sw_parse_expr_nodes::plain_text_of;
+use sw_parse_grammar::ReadError;
+use sw_parse_table::{Source, found, is_at};
+use sw_parse_terminals::Terminal;
+use sw_tree::{Expr, ExprKind};
 
 /// The expression without commas at a place, where so many levels of brackets may be opened, and the place behind it.
 pub fn read_space(
@@ -97,7 +97,7 @@ pub fn read_value(
 }
 
 /// The same of a sum.
-#[tactic(auto, unfolding(sw_syntax::specs::Expressions::sum))]
+#[tactic(auto, unfolding(sw_parse_table::specs::Expressions::sum))]
 pub fn read_sum(
     alloc: Global,
     source: &Source,

@@ -1,20 +1,20 @@
 // Operands with white space between them.
 ghost use Rattle.std.specs.Prelude.{◌≡◌, ◌∷◌, map, IfOk, []};
-ghost use Rattle.sw_grammar.specs.Grammar.{many};
-ghost use Rattle.sw_syntax.specs.Parts.{Values};
-ghost use Rattle.sw_syntax.specs.Sources.{span_between};
-ghost use Rattle.sw_syntax.specs.Values.{spaced};
-ghost use Rattle.sw_syntax.specs.Expressions.{space_item, space, disjunction};
-ghost use Rattle.sw_syntax.specs.Reads.{reader, reads, Reads, ReadsValue};
-ghost use Rattle.sw_expr_inner.specs.Deeper.{Callable, Reading};
+ghost use Rattle.sw_parse_grammar.specs.Grammar.{many};
+ghost use Rattle.sw_parse_table.specs.Parts.{Values};
+ghost use Rattle.sw_parse_table.specs.Sources.{span_between};
+ghost use Rattle.sw_parse_table.specs.Values.{spaced};
+ghost use Rattle.sw_parse_table.specs.Expressions.{space_item, space, disjunction};
+ghost use Rattle.sw_parse_table.specs.Reads.{reader, reads, Reads, ReadsValue};
+ghost use Rattle.sw_parse_expr_lists.specs.Deeper.{Callable, Reading};
 
 use crate::chain::chain_at;
 use std::alloc::Global;
-use sw_expr_nodes::{given_up, spaced};
-use sw_grammar::ReadError;
-use sw_syntax::{Source, found, goes_on, span_between};
-use sw_syntax_tree::Expr;
+use sw_parse_expr_nodes::{given_up, spaced};
+use sw_parse_grammar::ReadError;
+use sw_parse_table::{Source, found, goes_on, span_between};
 use sw_text::{List, Memory};
+use sw_tree::Expr;
 
 fn space_of(
     source: &Source,
@@ -35,7 +35,7 @@ fn space_of(
 }
 
 /// Any number of operands behind the first.
-#[tactic(auto, unfolding(sw_grammar::specs::Readers::parse))]
+#[tactic(auto, unfolding(sw_parse_grammar::specs::Readers::parse))]
 fn space_items_at<F: Fn(u8, usize) -> Result<(Expr, usize), ReadError> + Copy>(
     alloc: Global,
     deeper: F,
@@ -58,7 +58,7 @@ fn space_items_at<F: Fn(u8, usize) -> Result<(Expr, usize), ReadError> + Copy>(
 }
 
 /// A space list, over a reader of those where fewer levels may be opened.
-#[tactic(auto, using(sw_expr_nodes::proofs::Collected::collected), unfolding(sw_grammar::specs::Readers::parse, sw_syntax::specs::Expressions::space, sw_syntax::specs::Expressions::disjunction))]
+#[tactic(auto, using(sw_parse_expr_nodes::proofs::Collected::collected), unfolding(sw_parse_grammar::specs::Readers::parse, sw_parse_table::specs::Expressions::space, sw_parse_table::specs::Expressions::disjunction))]
 pub(crate) fn space_by<F: Fn(u8, usize) -> Result<(Expr, usize), ReadError> + Copy>(
     alloc: Global,
     deeper: F,

@@ -1,10 +1,10 @@
 // From a sheet's tokens to an expression.
 ghost use Rattle.std.specs.Prelude.{◌≡◌, ◌∷◌, [], ◌-◌, ◌≤◌, length, slice_get, None, IfOk};
 ghost use Rattle.std.specs.Str.{IsCharBoundary};
-ghost use Rattle.sw_grammar.specs.Readers.{ReadsForm};
-ghost use Rattle.sw_syntax.specs.Parts.{Values};
-ghost use Rattle.sw_syntax.specs.Sources.{bytes, text_of, span_from, lexeme_at, token_at, token_of};
-ghost use Rattle.sw_syntax.specs.Table.{forms, opening, closing};
+ghost use Rattle.sw_parse_grammar.specs.Readers.{ReadsForm};
+ghost use Rattle.sw_parse_table.specs.Parts.{Values};
+ghost use Rattle.sw_parse_table.specs.Sources.{bytes, text_of, span_from, lexeme_at, token_at, token_of};
+ghost use Rattle.sw_parse_table.specs.Table.{forms, opening, closing};
 ghost use Rattle.sw_expr_parse.specs.Forms.{form_of};
 ghost use Rattle.sw_expr_parse.specs.Readings.{token_span, fault_at, IsEnd, EndsBy, ReadsSource, ReadsExpr};
 
@@ -12,13 +12,13 @@ use crate::end::ReadEnd;
 use crate::form::{Form, mode_of};
 use crate::read::{read_space, read_sum, read_value};
 use std::alloc::Global;
-use sw_grammar::ReadError;
-use sw_lexemes::value_lexemes_of;
-use sw_syntax::Source;
-use sw_syntax_tree::Expr;
-use sw_terminals::Lexeme;
+use sw_parse_grammar::ReadError;
+use sw_parse_lexemes::value_lexemes_of;
+use sw_parse_table::Source;
+use sw_parse_terminals::Lexeme;
 use sw_text::{Fault, FaultCode, Memory, Span};
 use sw_tokens::Tokens;
+use sw_tree::Expr;
 
 // How many levels of brackets may be open.
 const LEVELS: u8 = 128;
@@ -88,7 +88,7 @@ fn read_form(
     }
 }
 
-#[tactic(auto, unfolding(sw_syntax::specs::Sources::token_at))]
+#[tactic(auto, unfolding(sw_parse_table::specs::Sources::token_at))]
 fn token_at(source: &Source, at: usize) -> usize
     ensures { result ≡ token_at source.now at }
 {

@@ -8,10 +8,10 @@ use Rattle.sw_colour.specs.Colours.{Rgba, computed}
 use Rattle.sw_colour.specs.Hues.{hsl_of, colour_of_hsl}
 use Rattle.sw_colour.specs.Changes.{names_rgb, names_hsl, adjusted, scaled}
 use Rattle.sw_values.specs.declared.plain.Plain.{Plain}
-use Rattle.sw_fn.specs.declared.fault.FnFault.{FnFault}
-use Rattle.sw_fn.specs.declared.fault.FnFault.TheVariants as F
-use Rattle.sw_fn.specs.Answers.{Answer, with}
-use Rattle.sw_fn.specs.Arguments.{Argument}
+use Rattle.sw_fn_call.specs.declared.fault.FnFault.{FnFault}
+use Rattle.sw_fn_call.specs.declared.fault.FnFault.TheVariants as F
+use Rattle.sw_fn_call.specs.Answers.{Answer, with}
+use Rattle.sw_fn_call.specs.Arguments.{Argument}
 use Rattle.sw_fn_colour.specs.declared.amounts.Amount.{Amount}
 use Rattle.sw_fn_colour.specs.declared.amounts.Amount.TheVariants as A
 use Rattle.sw_fn_colour.specs.declared.changes.Three.{Three}

@@ -6,10 +6,10 @@ use Rattle.sw_values.specs.declared.plain.Plain.TheVariants as P
 use Rattle.sw_values.specs.declared.value.Node.{Node}
 use Rattle.sw_values.specs.declared.value.Node.TheVariants as N
 use Rattle.sw_values.specs.Shape.{node_of}
-use Rattle.sw_fn.specs.declared.fault.FnFault.{FnFault}
-use Rattle.sw_fn.specs.declared.fault.FnFault.TheVariants as F
-use Rattle.sw_fn.specs.Answers.{Answer, with, within}
-use Rattle.sw_fn.specs.Arguments.{Argument, one, two}
+use Rattle.sw_fn_call.specs.declared.fault.FnFault.{FnFault}
+use Rattle.sw_fn_call.specs.declared.fault.FnFault.TheVariants as F
+use Rattle.sw_fn_call.specs.Answers.{Answer, with, within}
+use Rattle.sw_fn_call.specs.Arguments.{Argument, one, two}
 
 abbrev pub colour_by : Node → Result Rgba FnFault
 colour_by (N.Number _) = Err F.TypeFault

@@ -13,11 +13,11 @@ use Rattle.sw_values.specs.declared.plain.Separator.TheVariants as S
 use Rattle.sw_values.specs.declared.value.Node.{Node}
 use Rattle.sw_values.specs.declared.value.Node.TheVariants as N
 use Rattle.sw_values.specs.Shape.{node_of}
-use Rattle.sw_fn.specs.declared.fault.FnFault.{FnFault}
-use Rattle.sw_fn.specs.declared.fault.FnFault.TheVariants as F
-use Rattle.sw_fn.specs.Answers.{Answer, with}
-use Rattle.sw_fn.specs.Arguments.{Argument}
-use Rattle.sw_fn.specs.Kinds.{number_of}
+use Rattle.sw_fn_call.specs.declared.fault.FnFault.{FnFault}
+use Rattle.sw_fn_call.specs.declared.fault.FnFault.TheVariants as F
+use Rattle.sw_fn_call.specs.Answers.{Answer, with}
+use Rattle.sw_fn_call.specs.Arguments.{Argument}
+use Rattle.sw_fn_call.specs.Kinds.{number_of}
 use Rattle.sw_fn_colour.specs.declared.amounts.Amount.{Amount}
 use Rattle.sw_fn_colour.specs.declared.amounts.Amount.TheVariants as A
 use Rattle.sw_fn_colour.specs.declared.making.Form.{Form}

@@ -2,9 +2,9 @@
 use Rattle.std.specs.Prelude.{◌-◌, ℤ, List, Result}
 use Rattle.sw_colour.specs.Colours.{Rgba, computed}
 use Rattle.sw_colour.specs.Mixing.{mixed}
-use Rattle.sw_fn.specs.declared.fault.FnFault.{FnFault}
-use Rattle.sw_fn.specs.Answers.{Answer, with}
-use Rattle.sw_fn.specs.Arguments.{Argument, two, three}
+use Rattle.sw_fn_call.specs.declared.fault.FnFault.{FnFault}
+use Rattle.sw_fn_call.specs.Answers.{Answer, with}
+use Rattle.sw_fn_call.specs.Arguments.{Argument, two, three}
 use Rattle.sw_fn_colour.specs.Colours.{colour_of, coloured}
 use Rattle.sw_fn_colour.specs.Amounts.{weight_of}
 

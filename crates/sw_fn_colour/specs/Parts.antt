@@ -5,9 +5,9 @@ use Rattle.sw_units.specs.declared.units.UnitNames.TheVariants.{Empty, One}
 use Rattle.sw_units.specs.Numbers.{plain}
 use Rattle.sw_colour.specs.Hues.{hsl_of}
 use Rattle.sw_values.specs.declared.plain.Plain.TheVariants as P
-use Rattle.sw_fn.specs.declared.fault.FnFault.{FnFault}
-use Rattle.sw_fn.specs.Answers.{Answer, with, count, unitless}
-use Rattle.sw_fn.specs.Arguments.{Argument}
+use Rattle.sw_fn_call.specs.declared.fault.FnFault.{FnFault}
+use Rattle.sw_fn_call.specs.Answers.{Answer, with, count, unitless}
+use Rattle.sw_fn_call.specs.Arguments.{Argument}
 use Rattle.sw_fn_colour.specs.Colours.{one_colour}
 
 -- a number of one unit

@@ -4,9 +4,9 @@ use Rattle.std.specs.Prelude.{ℤ, neg_ℤ, List, Some, None, Result}
 use Rattle.sw_colour.specs.declared.change.Change.{Change}
 use Rattle.sw_colour.specs.Changes.{adjusted}
 use Rattle.sw_values.specs.declared.plain.Plain.{Plain}
-use Rattle.sw_fn.specs.declared.fault.FnFault.{FnFault}
-use Rattle.sw_fn.specs.Answers.{Answer, with}
-use Rattle.sw_fn.specs.Arguments.{Argument, two}
+use Rattle.sw_fn_call.specs.declared.fault.FnFault.{FnFault}
+use Rattle.sw_fn_call.specs.Answers.{Answer, with}
+use Rattle.sw_fn_call.specs.Arguments.{Argument, two}
 use Rattle.sw_fn_colour.specs.declared.amounts.Amount.TheVariants as A
 use Rattle.sw_fn_colour.specs.Colours.{colour_of, coloured}
 use Rattle.sw_fn_colour.specs.Amounts.{given, weight_of, opacity_of}

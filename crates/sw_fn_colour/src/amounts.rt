@@ -1,13 +1,13 @@
 // Numbers as amounts of a colour's parts.
 ghost use Rattle.std.specs.Prelude.{◌≡◌, ◌<◌, ◌≤◌, ◌≤ℤ◌, pos, unsigned_abs, Some, Ok, IfOk};
-ghost use Rattle.sw_fn.specs.Answers.{with};
-ghost use Rattle.sw_fn.specs.Kinds.{number_of as number_in};
+ghost use Rattle.sw_fn_call.specs.Answers.{with};
+ghost use Rattle.sw_fn_call.specs.Kinds.{number_of as number_in};
 ghost use Rattle.sw_colour.specs.Hues.{hundred};
 ghost use Rattle.sw_colour.specs.Changes.{IsPart};
 ghost use Rattle.sw_fn_colour.specs.Amounts.{is_percent, of_channel, of_one, channel_amount, alpha_amount, percent_amount, value_of, turned, degrees, hue_amount, amount_of, up_to, part_amount, given, weight_of, opacity_of, optional, optional_part, is_null};
 
 use sw_fixed::{Fixed, NumberFault, SCALE, nearest_natural};
-use sw_fn::{FnFault, fault_of, number_of};
+use sw_fn_call::{FnFault, fault_of, number_of};
 use sw_text::Name;
 use sw_units::{Family, Measure, Number, UnitNames, Units, measure_of};
 use sw_values::{Node, Value};

@@ -1,5 +1,5 @@
 // What a call of a function gives.
-ghost use Rattle.sw_fn.specs.Answers.{IsAnswer};
+ghost use Rattle.sw_fn_call.specs.Answers.{IsAnswer};
 ghost use Rattle.sw_fn_colour.specs.Calls.{answer};
 
 use crate::Function;
@@ -9,7 +9,7 @@ use crate::mixing::{invert, mix};
 use crate::parts::{alpha, blue, green, hue, lightness, red, saturation};
 use crate::steps::{adjust_hue, darken, desaturate, lighten, opacify, saturate, transparentize};
 use std::alloc::Global;
-use sw_fn::{Argument, FnFault};
+use sw_fn_call::{Argument, FnFault};
 use sw_values::Value;
 
 /// What a function gives for the values of its parameters, in their order. `adjust`, `scale` and `change` take the

@@ -2,14 +2,14 @@
 ghost use Rattle.std.specs.Prelude.{◌≡◌, ◌&&◌, false, IfOk, Ok, Err, MatchResult};
 ghost use Rattle.sw_colour.specs.Colours.{IsAlpha};
 ghost use Rattle.sw_colour.specs.Changes.{names_rgb, names_hsl, IsOfOneModel, IsPart, IsScale};
-ghost use Rattle.sw_fn.specs.Answers.{IsAnswer};
+ghost use Rattle.sw_fn_call.specs.Answers.{IsAnswer};
 ghost use Rattle.sw_fn_colour.specs.Changes.{rgb_change, hsl_change, set_number, set_hsl, emptied_channel, emptied_alpha, emptied, changed, first_colour as first_colour_of, three_amounts, three_parts, change_by, amounts_of as amounts_in, parts_of as parts_in, is_of_both_models, amounts_of_one as amounts_of_model, parts_of_one as parts_of_model, adjust, scale, change, complement, grayscale};
 
 use crate::amounts::{Amount, is_null, optional, optional_part};
 use crate::colours::{colour_of, coloured, one_colour};
 use sw_colour::{Change, Colour, Hsl};
 use sw_fixed::Fixed;
-use sw_fn::{Argument, FnFault};
+use sw_fn_call::{Argument, FnFault};
 use sw_values::Value;
 
 // ---- changes of some parts

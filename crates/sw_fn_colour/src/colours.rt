@@ -1,10 +1,10 @@
 // Colours among arguments and values.
 ghost use Rattle.std.specs.Prelude.{◌≡◌, Ok, Err, MatchResult};
-ghost use Rattle.sw_fn.specs.Answers.{IsAnswer};
+ghost use Rattle.sw_fn_call.specs.Answers.{IsAnswer};
 ghost use Rattle.sw_fn_colour.specs.Colours.{colour_of as colour_in, one_colour as one_colour_of, coloured};
 
 use sw_colour::Colour;
-use sw_fn::{Argument, FnFault, one, within};
+use sw_fn_call::{Argument, FnFault, one, within};
 use sw_values::{Node, Value};
 
 /// The colour that a value is, else `TypeFault`.

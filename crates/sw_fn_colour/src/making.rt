@@ -1,7 +1,7 @@
 // Colours that are made of numbers.
 ghost use Rattle.std.specs.Prelude.{◌≡◌, pos, Ok, Err, MatchResult};
 ghost use Rattle.sw_colour.specs.Colours.{computed};
-ghost use Rattle.sw_fn.specs.Answers.{IsAnswer};
+ghost use Rattle.sw_fn_call.specs.Answers.{IsAnswer};
 ghost use Rattle.sw_fn_colour.specs.Making.{first_amount, other_amount, made, of_four, is_spaced, three_items as three_of, items_of as items_in, before_slash, alpha_behind, of_list, with_alpha, rgb, hsl};
 
 use crate::amounts::{Amount, amount_of, given};
@@ -9,7 +9,7 @@ use crate::changes::{changed, hsl_change, rgb_change};
 use crate::colours::{colour_of, coloured};
 use sw_colour::Colour;
 use sw_fixed::Fixed;
-use sw_fn::{Argument, FnFault, number_of};
+use sw_fn_call::{Argument, FnFault, number_of};
 use sw_units::{Number, Slash};
 use sw_values::{Node, Separator, Value};
 

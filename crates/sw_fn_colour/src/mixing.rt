@@ -1,12 +1,12 @@
 // Mixed and inverted colours.
 ghost use Rattle.std.specs.Prelude.{◌≡◌};
-ghost use Rattle.sw_fn.specs.Answers.{IsAnswer};
+ghost use Rattle.sw_fn_call.specs.Answers.{IsAnswer};
 ghost use Rattle.sw_fn_colour.specs.Mixing.{mix, inverse, invert};
 
 use crate::amounts::weight_of;
 use crate::colours::{colour_of, coloured};
 use sw_colour::Colour;
-use sw_fn::{Argument, FnFault, three, two};
+use sw_fn_call::{Argument, FnFault, three, two};
 use sw_values::Value;
 
 pub(crate) fn mix(args: &[Argument]) -> Result<Value, FnFault>

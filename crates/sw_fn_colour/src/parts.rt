@@ -1,11 +1,11 @@
 // The parts of a colour as numbers.
-ghost use Rattle.sw_fn.specs.Answers.{IsAnswer};
+ghost use Rattle.sw_fn_call.specs.Answers.{IsAnswer};
 ghost use Rattle.sw_fn_colour.specs.Parts.{in_unit, red, green, blue, hue, saturation, lightness, alpha};
 
 use crate::colours::one_colour;
 use std::alloc::Global;
 use sw_fixed::Fixed;
-use sw_fn::{Argument, FnFault, count};
+use sw_fn_call::{Argument, FnFault, count};
 use sw_text::Name;
 use sw_units::{UnitNames, Units};
 use sw_values::Value;

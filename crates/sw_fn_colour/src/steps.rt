@@ -1,12 +1,12 @@
 // Colours a step away.
-ghost use Rattle.sw_fn.specs.Answers.{IsAnswer};
+ghost use Rattle.sw_fn_call.specs.Answers.{IsAnswer};
 ghost use Rattle.sw_fn_colour.specs.Steps.{adjust_hue, lighten, darken, saturate, desaturate, opacify, transparentize};
 
 use crate::amounts::{Amount, given, opacity_of, weight_of};
 use crate::changes::hsl_change;
 use crate::colours::{colour_of, coloured};
 use sw_colour::adjust;
-use sw_fn::{Argument, FnFault, two};
+use sw_fn_call::{Argument, FnFault, two};
 use sw_values::Value;
 
 pub(crate) fn adjust_hue(args: &[Argument]) -> Result<Value, FnFault>

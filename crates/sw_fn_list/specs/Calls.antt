@@ -1,7 +1,7 @@
 -- What the functions of `sass:list` give, a row for each.
 use Rattle.std.specs.Prelude.{List}
-use Rattle.sw_fn.specs.Answers.{Answer}
-use Rattle.sw_fn.specs.Arguments.{Argument}
+use Rattle.sw_fn_call.specs.Answers.{Answer}
+use Rattle.sw_fn_call.specs.Arguments.{Argument}
 use Rattle.sw_fn_list.specs.declared.function.Function.{Function}
 use Rattle.sw_fn_list.specs.declared.function.Function.TheVariants as F
 use Rattle.sw_fn_list.specs.Places.{length, nth, set_nth, index}

@@ -5,10 +5,10 @@ use Rattle.sw_values.specs.declared.plain.Plain.{Plain}
 use Rattle.sw_values.specs.declared.plain.Plain.TheVariants as P
 use Rattle.sw_values.specs.declared.plain.Separator.{Separator}
 use Rattle.sw_values.specs.declared.plain.Separator.TheVariants as S
-use Rattle.sw_fn.specs.declared.fault.FnFault.{FnFault}
-use Rattle.sw_fn.specs.declared.fault.FnFault.TheVariants as F
-use Rattle.sw_fn.specs.Answers.{Answer, with, within}
-use Rattle.sw_fn.specs.Arguments.{Argument, one, three, four, rest}
+use Rattle.sw_fn_call.specs.declared.fault.FnFault.{FnFault}
+use Rattle.sw_fn_call.specs.declared.fault.FnFault.TheVariants as F
+use Rattle.sw_fn_call.specs.Answers.{Answer, with, within}
+use Rattle.sw_fn_call.specs.Arguments.{Argument, one, three, four, rest}
 use Rattle.sw_fn_list.specs.Items.{items_of, brackets_of}
 use Rattle.sw_fn_list.specs.Separators.{separator_chosen, brackets_chosen, separator_of_both, separator_of_one, or_else}
 

@@ -6,11 +6,11 @@ use Rattle.sw_fixed.specs.Arithmetic.{whole_of, is_below_zero}
 use Rattle.sw_values.specs.declared.plain.Plain.{Plain}
 use Rattle.sw_values.specs.declared.plain.Plain.TheVariants as P
 use Rattle.sw_values.specs.Equality.{is_equal}
-use Rattle.sw_fn.specs.declared.fault.FnFault.{FnFault}
-use Rattle.sw_fn.specs.declared.fault.FnFault.TheVariants as F
-use Rattle.sw_fn.specs.Answers.{Answer, with, within, count, ordinal}
-use Rattle.sw_fn.specs.Arguments.{Argument, one, two, three}
-use Rattle.sw_fn.specs.Kinds.{number_of}
+use Rattle.sw_fn_call.specs.declared.fault.FnFault.{FnFault}
+use Rattle.sw_fn_call.specs.declared.fault.FnFault.TheVariants as F
+use Rattle.sw_fn_call.specs.Answers.{Answer, with, within, count, ordinal}
+use Rattle.sw_fn_call.specs.Arguments.{Argument, one, two, three}
+use Rattle.sw_fn_call.specs.Kinds.{number_of}
 use Rattle.sw_fn_list.specs.Items.{items_of, separator_of, brackets_of}
 
 abbrev pub length : List Argument → Answer

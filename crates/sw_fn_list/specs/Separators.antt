@@ -7,11 +7,11 @@ use Rattle.sw_values.specs.declared.plain.Separator.TheVariants as S
 use Rattle.sw_values.specs.declared.value.Node.{Node}
 use Rattle.sw_values.specs.declared.value.Node.TheVariants as N
 use Rattle.sw_values.specs.Shape.{node_of, truth_of}
-use Rattle.sw_fn.specs.declared.fault.FnFault.{FnFault}
-use Rattle.sw_fn.specs.declared.fault.FnFault.TheVariants as F
-use Rattle.sw_fn.specs.Answers.{Answer, with, within}
-use Rattle.sw_fn.specs.Arguments.{Argument, one}
-use Rattle.sw_fn.specs.Kinds.{text_of}
+use Rattle.sw_fn_call.specs.declared.fault.FnFault.{FnFault}
+use Rattle.sw_fn_call.specs.declared.fault.FnFault.TheVariants as F
+use Rattle.sw_fn_call.specs.Answers.{Answer, with, within}
+use Rattle.sw_fn_call.specs.Arguments.{Argument, one}
+use Rattle.sw_fn_call.specs.Kinds.{text_of}
 use Rattle.sw_fn_list.specs.Items.{separator_of, brackets_of, decided}
 
 abbrev pub is_bracketed : List Argument → Answer

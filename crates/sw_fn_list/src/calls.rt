@@ -1,5 +1,5 @@
 // What a call of a function gives.
-ghost use Rattle.sw_fn.specs.Answers.{IsAnswer};
+ghost use Rattle.sw_fn_call.specs.Answers.{IsAnswer};
 ghost use Rattle.sw_fn_list.specs.Calls.{answer};
 
 use crate::Function;
@@ -8,7 +8,7 @@ use crate::places::{index, length, nth, set_nth};
 use crate::separators::{is_bracketed, separator};
 use crate::zipping::zip;
 use std::alloc::Global;
-use sw_fn::{Argument, FnFault};
+use sw_fn_call::{Argument, FnFault};
 use sw_values::Value;
 
 /// What a function gives for the values of its parameters, in their order; of a parameter with `...` the value is an

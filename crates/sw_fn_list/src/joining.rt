@@ -1,6 +1,6 @@
 // Lists made of lists.
 ghost use Rattle.std.specs.Prelude.{◌≡◌, ◌++◌, ◌∷◌, [], IfOk};
-ghost use Rattle.sw_fn.specs.Answers.{IsAnswer};
+ghost use Rattle.sw_fn_call.specs.Answers.{IsAnswer};
 ghost use Rattle.sw_fn_list.specs.Items.{items_of};
 ghost use Rattle.sw_fn_list.specs.Joining.{joined as joined_list, join, appended as appended_list, append, slashed as slashed_list, slash};
 
@@ -9,7 +9,7 @@ use crate::separators::{
     brackets_chosen, or_else, separator_chosen, separator_of_both, separator_of_one,
 };
 use std::alloc::Global;
-use sw_fn::{Argument, FnFault, four, list, one, rest, three};
+use sw_fn_call::{Argument, FnFault, four, list, one, rest, three};
 use sw_text::{List, Memory};
 use sw_values::{Separator, Value};
 

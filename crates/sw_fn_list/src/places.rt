@@ -3,13 +3,13 @@ ghost use Rattle.std.specs.Prelude.{◌≡◌, length as len, slice_set, IfOk};
 ghost use Rattle.std.specs.List.{position_from};
 ghost use Rattle.sw_fixed.specs.Arithmetic.{is_below_zero};
 ghost use Rattle.sw_values.specs.Equality.{is_equal};
-ghost use Rattle.sw_fn.specs.Answers.{IsAnswer};
+ghost use Rattle.sw_fn_call.specs.Answers.{IsAnswer};
 ghost use Rattle.sw_fn_list.specs.Items.{items_of};
 ghost use Rattle.sw_fn_list.specs.Places.{length, place_by, place_in as place_given, item_at as item_given, nth, replaced as replaced_in, set_nth, index};
 
 use crate::items::{brackets_of, item_at, item_count, items, separator_of};
 use std::alloc::Global;
-use sw_fn::{Argument, FnFault, count, list, number_of, one, ordinal, three, two};
+use sw_fn_call::{Argument, FnFault, count, list, number_of, one, ordinal, three, two};
 use sw_text::{List, Memory};
 use sw_values::Value;
 

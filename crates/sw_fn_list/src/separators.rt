@@ -1,12 +1,12 @@
 // Separators and brackets.
 ghost use Rattle.std.specs.Prelude.{◌≡◌, Ok, Err};
-ghost use Rattle.sw_fn.specs.Answers.{IsAnswer};
+ghost use Rattle.sw_fn_call.specs.Answers.{IsAnswer};
 ghost use Rattle.sw_values.specs.Shape.{node_of};
 ghost use Rattle.sw_fn_list.specs.Separators.{is_bracketed, separator_name, separator, separator_named, separator_chosen as separator_given, is_auto_by, brackets_chosen as brackets_given, or_else as either, separator_of_both as separator_in_both, separator_of_one as separator_in_one};
 
 use crate::items::{brackets_of, decided, separator_of};
 use std::alloc::Global;
-use sw_fn::{Argument, FnFault, one, text, text_of};
+use sw_fn_call::{Argument, FnFault, one, text, text_of};
 use sw_values::{Node, Separator, Value};
 
 pub(crate) fn is_bracketed(args: &[Argument]) -> Result<Value, FnFault>

@@ -1,13 +1,13 @@
 // The items of lists at the same places.
 ghost use Rattle.std.specs.Prelude.{◌≡◌, ◌++◌, ◌∷◌, [], map, slice_get, option_to_list, IfOk, OnOk};
 ghost use Rattle.std.specs.List.{filter_map};
-ghost use Rattle.sw_fn.specs.Answers.{IsAnswer};
+ghost use Rattle.sw_fn_call.specs.Answers.{IsAnswer};
 ghost use Rattle.sw_fn_list.specs.Items.{items_of};
 ghost use Rattle.sw_fn_list.specs.Joining.{shortest_from, shortest, row as row_of, rows_from, zipped as zipped_list, zip};
 
 use crate::items::items;
 use std::alloc::Global;
-use sw_fn::{Argument, FnFault, list, one, rest};
+use sw_fn_call::{Argument, FnFault, list, one, rest};
 use sw_text::{List, Memory};
 use sw_values::{Separator, Value};
 

@@ -2,8 +2,8 @@
 use Rattle.std.proofs.Common.{◌≡◌, ℕ, zero, suc, ◌-◌, ◌<◌, List, ◌++◌, Ok, Err, subst, arith}
 use Rattle.std.specs.Prelude.{filter}
 use Rattle.sw_values.specs.declared.plain.Plain.{Plain}
-use Rattle.sw_fn.specs.declared.fault.FnFault.{FnFault}
-use Rattle.sw_fn.specs.Answers.{Answer, IsAnswer, with}
+use Rattle.sw_fn_call.specs.declared.fault.FnFault.{FnFault}
+use Rattle.sw_fn_call.specs.Answers.{Answer, IsAnswer, with}
 use Rattle.sw_fn_map.specs.Pairs.{Pair, map_value}
 use Rattle.sw_fn_map.specs.Changes.{is_new}
 use Rattle.sw_fn_map.specs.Deep.{deep_pairs, deep_merged}

@@ -5,7 +5,7 @@ use Rattle.sw_values.specs.declared.plain.Plain.{Plain}
 use Rattle.sw_values.specs.declared.plain.Plain.TheVariants as P
 use Rattle.sw_values.specs.declared.value.Node.TheVariants as N
 use Rattle.sw_values.proofs.Alike.{back}
-use Rattle.sw_fn.specs.declared.fault.FnFault.{FnFault}
+use Rattle.sw_fn_call.specs.declared.fault.FnFault.{FnFault}
 use Rattle.sw_fn_map.specs.Pairs.{Pair, pairs_by, pairs_of}
 
 abbrev no_pairs : Result (List Pair) FnFault

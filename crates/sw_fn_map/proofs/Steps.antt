@@ -5,9 +5,9 @@ use Rattle.indexmap.specs.IndexSet.{insert_key}
 use Rattle.sw_values.specs.Canon.{canon}
 use Rattle.sw_values.specs.declared.plain.Plain.{Plain}
 use Rattle.sw_values.specs.Maps.{with_value}
-use Rattle.sw_fn.specs.declared.fault.FnFault.{FnFault}
-use Rattle.sw_fn.specs.declared.fault.FnFault.TheVariants as F
-use Rattle.sw_fn.specs.Answers.{Answer, IsAnswer, with}
+use Rattle.sw_fn_call.specs.declared.fault.FnFault.{FnFault}
+use Rattle.sw_fn_call.specs.declared.fault.FnFault.TheVariants as F
+use Rattle.sw_fn_call.specs.Answers.{Answer, IsAnswer, with}
 use Rattle.sw_fn_map.specs.Pairs.{Pair, map_value}
 use Rattle.sw_fn_map.specs.Changes.{rebuilt, parted, parted_by, canons_after}
 

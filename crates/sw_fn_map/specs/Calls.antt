@@ -1,7 +1,7 @@
 -- What the functions of `sass:map` give, a row for each.
 use Rattle.std.specs.Prelude.{List}
-use Rattle.sw_fn.specs.Answers.{Answer}
-use Rattle.sw_fn.specs.Arguments.{Argument}
+use Rattle.sw_fn_call.specs.Answers.{Answer}
+use Rattle.sw_fn_call.specs.Arguments.{Argument}
 use Rattle.sw_fn_map.specs.declared.function.Function.{Function}
 use Rattle.sw_fn_map.specs.declared.function.Function.TheVariants as F
 use Rattle.sw_fn_map.specs.Lookups.{get, has_key, keys, values}

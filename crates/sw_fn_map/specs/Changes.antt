@@ -7,9 +7,9 @@ use Rattle.indexmap.specs.IndexSet.{insert_key}
 use Rattle.sw_values.specs.declared.plain.Plain.{Plain}
 use Rattle.sw_values.specs.Canon.{canon, key_canon}
 use Rattle.sw_values.specs.Maps.{value_of, with_value}
-use Rattle.sw_fn.specs.declared.fault.FnFault.TheVariants as F
-use Rattle.sw_fn.specs.Answers.{Answer, with}
-use Rattle.sw_fn.specs.Arguments.{Argument, two, rest}
+use Rattle.sw_fn_call.specs.declared.fault.FnFault.TheVariants as F
+use Rattle.sw_fn_call.specs.Answers.{Answer, with}
+use Rattle.sw_fn_call.specs.Arguments.{Argument, two, rest}
 use Rattle.sw_fn_map.specs.Pairs.{Pair, pairs_of, nested, map_value}
 
 -- ---- behind a path of keys

@@ -3,10 +3,10 @@ use Rattle.std.specs.Prelude.{ℕ, zero, suc, Bool, true, false, ◌&&◌, List,
 use Rattle.sw_values.specs.declared.plain.Plain.{Plain}
 use Rattle.sw_values.specs.Canon.{key_canon}
 use Rattle.sw_values.specs.Maps.{value_of}
-use Rattle.sw_fn.specs.declared.fault.FnFault.{FnFault}
-use Rattle.sw_fn.specs.declared.fault.FnFault.TheVariants as F
-use Rattle.sw_fn.specs.Answers.{Answer, with}
-use Rattle.sw_fn.specs.Arguments.{Argument, two, three, rest}
+use Rattle.sw_fn_call.specs.declared.fault.FnFault.{FnFault}
+use Rattle.sw_fn_call.specs.declared.fault.FnFault.TheVariants as F
+use Rattle.sw_fn_call.specs.Answers.{Answer, with}
+use Rattle.sw_fn_call.specs.Arguments.{Argument, two, three, rest}
 use Rattle.sw_fn_map.specs.Pairs.{Pair, pairs_of, value_at, nested, map_value}
 use Rattle.sw_fn_map.specs.Changes.{steps_of, innermost, rebuilt, is_new, without, Parted, parted}
 

@@ -5,8 +5,8 @@ use Rattle.sw_values.specs.declared.plain.Plain.{Plain}
 use Rattle.sw_values.specs.declared.plain.Plain.TheVariants as P
 use Rattle.sw_values.specs.declared.plain.Separator.TheVariants.{Comma}
 use Rattle.sw_values.specs.Maps.{second}
-use Rattle.sw_fn.specs.Answers.{Answer, with, within}
-use Rattle.sw_fn.specs.Arguments.{Argument, one, three, rest}
+use Rattle.sw_fn_call.specs.Answers.{Answer, with, within}
+use Rattle.sw_fn_call.specs.Arguments.{Argument, one, three, rest}
 use Rattle.sw_fn_map.specs.Pairs.{Pair, pairs_of, value_at, nested}
 
 -- what stands behind a key and further keys, each in the map before

@@ -7,9 +7,9 @@ use Rattle.sw_values.specs.declared.value.Node.TheVariants as N
 use Rattle.sw_values.specs.Shape.{node_of}
 use Rattle.sw_values.specs.Canon.{canon}
 use Rattle.sw_values.specs.Maps.{value_of}
-use Rattle.sw_fn.specs.declared.fault.FnFault.{FnFault}
-use Rattle.sw_fn.specs.declared.fault.FnFault.TheVariants as F
-use Rattle.sw_fn.specs.Answers.{Answer, within}
+use Rattle.sw_fn_call.specs.declared.fault.FnFault.{FnFault}
+use Rattle.sw_fn_call.specs.declared.fault.FnFault.TheVariants as F
+use Rattle.sw_fn_call.specs.Answers.{Answer, within}
 
 -- a key and its value
 abbrev pub Pair : Type 0

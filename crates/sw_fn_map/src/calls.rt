@@ -1,5 +1,5 @@
 // What a call of a function gives.
-ghost use Rattle.sw_fn.specs.Answers.{IsAnswer};
+ghost use Rattle.sw_fn_call.specs.Answers.{IsAnswer};
 ghost use Rattle.sw_fn_map.specs.Calls.{answer};
 
 use crate::Function;
@@ -7,7 +7,7 @@ use crate::changes::{merge, remove, set};
 use crate::deep::{deep_merge, deep_remove};
 use crate::lookups::{get, has_key, keys, values};
 use std::alloc::Global;
-use sw_fn::{Argument, FnFault};
+use sw_fn_call::{Argument, FnFault};
 use sw_values::Value;
 
 /// What a function gives for the values of its parameters, in their order; of a parameter with `...` the value is an

@@ -1,14 +1,14 @@
 // Maps with other pairs.
 ghost use Rattle.std.specs.Prelude.{◌≡◌, ◌++◌, ◌∷◌, [], map, filter, not, Some, None, IfOk, OnOk, MatchOption};
 ghost use Rattle.sw_values.specs.Maps.{with_value};
-ghost use Rattle.sw_fn.specs.Answers.{IsAnswer};
+ghost use Rattle.sw_fn_call.specs.Answers.{IsAnswer};
 ghost use Rattle.sw_fn_map.specs.Pairs.{map_value as map_of_pairs};
 ghost use Rattle.sw_fn_map.specs.Changes.{steps_of, innermost as innermost_of, rebuilt as rebuilt_of, parted as parted_values, set_at as set_at_path, set_by as set_with, set, updated as updated_by, is_new as is_new_in, merged as merged_pairs, merged_at as merged_at_path, merge_by as merge_with, merge, canons_after, is_among as is_among_canons, without as without_keys, remove};
 
 use crate::pairs::{map_value, nested, pairs_of};
 use indexmap::IndexSet;
 use std::alloc::Global;
-use sw_fn::{Argument, FnFault, rest, two, within};
+use sw_fn_call::{Argument, FnFault, rest, two, within};
 use sw_text::{List, Memory};
 use sw_values::{Canon, Node, Pairs, Value};
 

@@ -1,7 +1,7 @@
 // Changes of maps in maps.
 ghost use Rattle.std.specs.Prelude.{◌≡◌, ◌++◌, ◌∷◌, [], filter, IfOk, Some, None};
 ghost use Rattle.std.specs.Option.{option_copied};
-ghost use Rattle.sw_fn.specs.Answers.{IsAnswer};
+ghost use Rattle.sw_fn_call.specs.Answers.{IsAnswer};
 ghost use Rattle.sw_fn_map.specs.Changes.{is_new, without, parted as parted_values};
 ghost use Rattle.sw_fn_map.specs.Deep.{deep_value as deep_value_of, deep_pair as deep_pair_of, deep_pairs as deep_pairs_of, deep_merged as deep_merged_of, deep_merge, is_map as is_map_at, are_maps as are_maps_along, removed_inside as removed_inside_of, removed_at as removed_along, removed_by as removed_path, deep_remove};
 ghost use Rattle.sw_fn_map.specs.Pairs.{value_at as value_in, map_value as map_of_pairs};
@@ -9,7 +9,7 @@ ghost use Rattle.sw_fn_map.specs.Pairs.{value_at as value_in, map_value as map_o
 use crate::changes::{innermost, parted, push_new, rebuilt_along, without_value};
 use crate::pairs::{map_value, nested, pairs_of};
 use std::alloc::Global;
-use sw_fn::{Argument, FnFault, rest, three, two};
+use sw_fn_call::{Argument, FnFault, rest, three, two};
 use sw_text::{List, Memory};
 use sw_values::{Pairs, Value};
 

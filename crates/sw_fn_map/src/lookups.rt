@@ -1,12 +1,12 @@
 // What a map has.
 ghost use Rattle.std.specs.Prelude.{◌≡◌, map, IfOk};
 ghost use Rattle.sw_values.specs.Maps.{second};
-ghost use Rattle.sw_fn.specs.Answers.{IsAnswer};
+ghost use Rattle.sw_fn_call.specs.Answers.{IsAnswer};
 ghost use Rattle.sw_fn_map.specs.Lookups.{found as found_in, or_null as or_null_of, first, get, has_key, keys, values};
 
 use crate::pairs::{nested, pairs_of, value_at};
 use std::alloc::Global;
-use sw_fn::{Argument, FnFault, list, one, rest, three};
+use sw_fn_call::{Argument, FnFault, list, one, rest, three};
 use sw_text::{List, Memory};
 use sw_values::{Pairs, Separator, Value};
 

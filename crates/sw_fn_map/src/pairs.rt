@@ -1,11 +1,11 @@
 // A value as a map.
 ghost use Rattle.std.specs.Prelude.{◌≡◌, [], Some, Ok, IfOk};
 ghost use Rattle.sw_values.specs.Weight.{is_within};
-ghost use Rattle.sw_fn.specs.Answers.{IsAnswer, within};
+ghost use Rattle.sw_fn_call.specs.Answers.{IsAnswer, within};
 ghost use Rattle.sw_fn_map.specs.Pairs.{no_items as none_in, pairs_of as pairs_in, value_at as value_in, nested as nested_in, nested_by as nested_in_value, map_value as map_of_pairs};
 
 use std::alloc::Global;
-use sw_fn::FnFault;
+use sw_fn_call::FnFault;
 use sw_text::Memory;
 use sw_values::{Node, Pairs, Value, ValueFault, map_of};
 

@@ -9,11 +9,11 @@ use Rattle.sw_units.specs.Numbers.{plain, comparison}
 use Rattle.sw_units.specs.Units.{is_unitless}
 use Rattle.sw_values.specs.declared.plain.Plain.{Plain}
 use Rattle.sw_values.specs.declared.plain.Plain.TheVariants as P
-use Rattle.sw_fn.specs.declared.fault.FnFault.{FnFault}
-use Rattle.sw_fn.specs.declared.fault.FnFault.TheVariants as F
-use Rattle.sw_fn.specs.Answers.{Answer, with, fault_of}
-use Rattle.sw_fn.specs.Arguments.{Argument, one, three, rest}
-use Rattle.sw_fn.specs.Kinds.{number_of}
+use Rattle.sw_fn_call.specs.declared.fault.FnFault.{FnFault}
+use Rattle.sw_fn_call.specs.declared.fault.FnFault.TheVariants as F
+use Rattle.sw_fn_call.specs.Answers.{Answer, with, fault_of}
+use Rattle.sw_fn_call.specs.Arguments.{Argument, one, three, rest}
+use Rattle.sw_fn_call.specs.Kinds.{number_of}
 use Rattle.sw_fn_math.specs.declared.extremes.Extreme.{Extreme}
 use Rattle.sw_fn_math.specs.declared.extremes.Extreme.TheVariants.{Least, Greatest}
 

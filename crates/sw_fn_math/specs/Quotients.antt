@@ -9,11 +9,11 @@ use Rattle.sw_units.specs.Numbers.{plain, quotient}
 use Rattle.sw_units.specs.Units.{is_unitless as without_units, compatible as fit_each_other}
 use Rattle.sw_values.specs.declared.plain.Plain.TheVariants as P
 use Rattle.sw_values.specs.Texts.{names_text, under_text}
-use Rattle.sw_fn.specs.declared.fault.FnFault.{FnFault}
-use Rattle.sw_fn.specs.declared.fault.FnFault.TheVariants as F
-use Rattle.sw_fn.specs.Answers.{Answer, with, within, of_number, fault_of}
-use Rattle.sw_fn.specs.Arguments.{Argument, two}
-use Rattle.sw_fn.specs.Kinds.{number_of}
+use Rattle.sw_fn_call.specs.declared.fault.FnFault.{FnFault}
+use Rattle.sw_fn_call.specs.declared.fault.FnFault.TheVariants as F
+use Rattle.sw_fn_call.specs.Answers.{Answer, with, within, of_number, fault_of}
+use Rattle.sw_fn_call.specs.Arguments.{Argument, two}
+use Rattle.sw_fn_call.specs.Kinds.{number_of}
 use Rattle.sw_fn_math.specs.Rounding.{one_number}
 
 -- both arguments, which are numbers

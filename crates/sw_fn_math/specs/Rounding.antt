@@ -4,10 +4,10 @@ use Rattle.sw_fixed.specs.Arithmetic.{ceiling_whole, floor_whole, nearest_whole}
 use Rattle.sw_units.specs.declared.number.Number.{Number}
 use Rattle.sw_units.specs.Numbers.{plain}
 use Rattle.sw_values.specs.declared.plain.Plain.TheVariants as P
-use Rattle.sw_fn.specs.declared.fault.FnFault.{FnFault}
-use Rattle.sw_fn.specs.Answers.{Answer, with}
-use Rattle.sw_fn.specs.Arguments.{Argument, one}
-use Rattle.sw_fn.specs.Kinds.{number_of}
+use Rattle.sw_fn_call.specs.declared.fault.FnFault.{FnFault}
+use Rattle.sw_fn_call.specs.Answers.{Answer, with}
+use Rattle.sw_fn_call.specs.Arguments.{Argument, one}
+use Rattle.sw_fn_call.specs.Kinds.{number_of}
 
 -- the one argument, a number
 unfoldable pub one_number : List Argument → Result Number FnFault

@@ -1,10 +1,10 @@
 // The least and the greatest of numbers, and a number between two others.
 ghost use Rattle.std.specs.Prelude.{◌≡◌, Ok, Err, IfOk, MatchResult};
-ghost use Rattle.sw_fn.specs.Answers.{IsAnswer, with};
+ghost use Rattle.sw_fn_call.specs.Answers.{IsAnswer, with};
 ghost use Rattle.sw_fn_math.specs.Extremes.{replaces, further as further_of, extreme_from as extreme_in, extreme_of as extreme_of_values, extreme_among as extreme_of_rest, min, max, plain_of as plain_value, bounds_of as bounds_in, are_alike, between as between_by, clamped as clamped_by, clamp, compared as compared_of};
 
 use std::cmp::Ordering;
-use sw_fn::{Argument, FnFault, fault_of, number, number_of, one, rest, three};
+use sw_fn_call::{Argument, FnFault, fault_of, number, number_of, one, rest, three};
 use sw_text::Memory;
 use sw_units::{Number, compare};
 use sw_values::Value;

@@ -2,13 +2,13 @@
 ghost use Rattle.std.specs.Prelude.{◌≡◌, ◌++◌, Ok, Err, IfOk, OnOk, MatchResult};
 ghost use Rattle.std.specs.String.{string_bytes};
 ghost use Rattle.sw_values.specs.Texts.{names_text, under_text};
-ghost use Rattle.sw_fn.specs.Answers.{IsAnswer, of_number as answer_of};
+ghost use Rattle.sw_fn_call.specs.Answers.{IsAnswer, of_number as answer_of};
 ghost use Rattle.sw_fn_math.specs.Quotients.{two_numbers as two_numbers_of, div, hundredfold as hundredfold_of, percents, percentage, units_text as text_of_units, unit, is_unitless, compatible};
 
 use crate::rounding::one_number;
 use std::alloc::{AllocError, Global};
 use sw_fixed::{Fixed, NumberFault};
-use sw_fn::{Argument, FnFault, fault_of, number_of, text, two};
+use sw_fn_call::{Argument, FnFault, fault_of, number_of, text, two};
 use sw_text::{Memory, Name};
 use sw_units::{Number, UnitNames, Units};
 use sw_values::Value;

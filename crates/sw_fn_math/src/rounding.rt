@@ -1,9 +1,9 @@
 // Numbers near a number, with its units.
 ghost use Rattle.std.specs.Prelude.{◌≡◌, Ok, Err, MatchResult};
-ghost use Rattle.sw_fn.specs.Answers.{IsAnswer};
+ghost use Rattle.sw_fn_call.specs.Answers.{IsAnswer};
 ghost use Rattle.sw_fn_math.specs.Rounding.{one_number as one_number_of, ceil, floor, round, abs};
 
-use sw_fn::{Argument, FnFault, number, number_of, one};
+use sw_fn_call::{Argument, FnFault, number, number_of, one};
 use sw_units::Number;
 use sw_values::Value;
 

@@ -1,7 +1,7 @@
 -- What the functions of `sass:string` give, a row for each.
 use Rattle.std.specs.Prelude.{List}
-use Rattle.sw_fn.specs.Answers.{Answer}
-use Rattle.sw_fn.specs.Arguments.{Argument}
+use Rattle.sw_fn_call.specs.Answers.{Answer}
+use Rattle.sw_fn_call.specs.Arguments.{Argument}
 use Rattle.sw_fn_text.specs.declared.function.Function.{Function}
 use Rattle.sw_fn_text.specs.declared.function.Function.TheVariants as F
 use Rattle.sw_fn_text.specs.Cases.{quote, unquote, to_upper_case, to_lower_case}

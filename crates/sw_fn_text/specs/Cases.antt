@@ -3,9 +3,9 @@ use Rattle.std.specs.Prelude.{ℕ, Bool, true, false, List, map}
 use Rattle.std.specs.Char.{to_ascii_uppercase, to_ascii_lowercase}
 use Rattle.sw_values.specs.declared.plain.Plain.{Plain}
 use Rattle.sw_values.specs.declared.plain.Plain.TheVariants as P
-use Rattle.sw_fn.specs.Answers.{Answer, with, within}
-use Rattle.sw_fn.specs.Arguments.{Argument, one}
-use Rattle.sw_fn.specs.Kinds.{text_of, is_quoted}
+use Rattle.sw_fn_call.specs.Answers.{Answer, with, within}
+use Rattle.sw_fn_call.specs.Arguments.{Argument, one}
+use Rattle.sw_fn_call.specs.Kinds.{text_of, is_quoted}
 
 abbrev pub quote : List Argument → Answer
 quote args = with (one args) (λ value. with (text_of value) (λ text. within (P.Text text true)))

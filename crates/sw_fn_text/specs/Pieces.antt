@@ -8,11 +8,11 @@ use Rattle.sw_values.specs.declared.value.Node.{Node}
 use Rattle.sw_values.specs.declared.value.Node.TheVariants as N
 use Rattle.sw_values.specs.Shape.{node_of}
 use Rattle.sw_values.specs.Canon.{is_empty}
-use Rattle.sw_fn.specs.declared.fault.FnFault.{FnFault}
-use Rattle.sw_fn.specs.declared.fault.FnFault.TheVariants as F
-use Rattle.sw_fn.specs.Answers.{Answer, with, within}
-use Rattle.sw_fn.specs.Arguments.{Argument, three}
-use Rattle.sw_fn.specs.Kinds.{number_of, text_of, is_quoted}
+use Rattle.sw_fn_call.specs.declared.fault.FnFault.{FnFault}
+use Rattle.sw_fn_call.specs.declared.fault.FnFault.TheVariants as F
+use Rattle.sw_fn_call.specs.Answers.{Answer, with, within}
+use Rattle.sw_fn_call.specs.Arguments.{Argument, three}
+use Rattle.sw_fn_call.specs.Kinds.{number_of, text_of, is_quoted}
 use Rattle.sw_fn_text.specs.Places.{first_in}
 
 -- ---- how often a text is cut

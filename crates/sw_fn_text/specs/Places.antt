@@ -8,11 +8,11 @@ use Rattle.sw_units.specs.declared.number.Number.{Number}
 use Rattle.sw_units.specs.Units.{is_unitless}
 use Rattle.sw_values.specs.declared.plain.Plain.{Plain}
 use Rattle.sw_values.specs.declared.plain.Plain.TheVariants as P
-use Rattle.sw_fn.specs.declared.fault.FnFault.{FnFault}
-use Rattle.sw_fn.specs.declared.fault.FnFault.TheVariants as F
-use Rattle.sw_fn.specs.Answers.{Answer, with, within, count, ordinal}
-use Rattle.sw_fn.specs.Arguments.{Argument, one, two, three}
-use Rattle.sw_fn.specs.Kinds.{number_of, text_of, is_quoted}
+use Rattle.sw_fn_call.specs.declared.fault.FnFault.{FnFault}
+use Rattle.sw_fn_call.specs.declared.fault.FnFault.TheVariants as F
+use Rattle.sw_fn_call.specs.Answers.{Answer, with, within, count, ordinal}
+use Rattle.sw_fn_call.specs.Arguments.{Argument, one, two, three}
+use Rattle.sw_fn_call.specs.Kinds.{number_of, text_of, is_quoted}
 
 -- ---- how long it is, and where a part stands
 

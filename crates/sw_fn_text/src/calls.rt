@@ -1,5 +1,5 @@
 // What a call of a function gives.
-ghost use Rattle.sw_fn.specs.Answers.{IsAnswer};
+ghost use Rattle.sw_fn_call.specs.Answers.{IsAnswer};
 ghost use Rattle.sw_fn_text.specs.Calls.{answer};
 
 use crate::Function;
@@ -7,7 +7,7 @@ use crate::cases::{quote, to_lower_case, to_upper_case, unquote};
 use crate::pieces::split;
 use crate::places::{index, insert, length, slice};
 use std::alloc::Global;
-use sw_fn::{Argument, FnFault};
+use sw_fn_call::{Argument, FnFault};
 use sw_values::Value;
 
 /// What a function gives for the values of its parameters, in their order. Another number of values is an

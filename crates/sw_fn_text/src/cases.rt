@@ -1,9 +1,9 @@
 // Quotes and the case of letters.
-ghost use Rattle.sw_fn.specs.Answers.{IsAnswer};
+ghost use Rattle.sw_fn_call.specs.Answers.{IsAnswer};
 ghost use Rattle.sw_fn_text.specs.Cases.{quote, unquote, to_upper_case, to_lower_case};
 
 use std::alloc::Global;
-use sw_fn::{Argument, FnFault, is_quoted, one, string, text, text_of};
+use sw_fn_call::{Argument, FnFault, is_quoted, one, string, text, text_of};
 use sw_values::Value;
 
 pub(crate) fn quote(args: &[Argument]) -> Result<Value, FnFault>

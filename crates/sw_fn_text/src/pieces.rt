@@ -2,12 +2,12 @@
 ghost use Rattle.std.specs.Prelude.{◌≡◌, ◌++◌, ◌∷◌, [], map, chars, encode_utf8, IfOk, IfSome, OnOk, MatchOption, Some, None};
 ghost use Rattle.std.specs.Str.{IsUtf8};
 ghost use Rattle.sw_values.specs.Canon.{is_empty};
-ghost use Rattle.sw_fn.specs.Answers.{IsAnswer};
+ghost use Rattle.sw_fn_call.specs.Answers.{IsAnswer};
 ghost use Rattle.sw_fn_text.specs.Pieces.{limit_by, numbered, limit_of as limit_in, cut as cut_at, pieces as pieces_of, letters as letters_in, split_pieces as pieces_in, piece_value as piece_as, pieces_list, split};
 
 use crate::places::{before, is_below_zero};
 use std::alloc::{AllocError, Global};
-use sw_fn::{Argument, FnFault, is_quoted, list, number_of, string, text_of, three};
+use sw_fn_call::{Argument, FnFault, is_quoted, list, number_of, string, text_of, three};
 use sw_text::{List, Memory, Name};
 use sw_values::{Node, Separator, Value};
 

@@ -2,11 +2,11 @@
 ghost use Rattle.std.specs.Prelude.{◌≡◌, ◌-◌, min, Ok, Err, IfOk, MatchResult, chars, length as len};
 ghost use Rattle.std.specs.String.{string_bytes};
 ghost use Rattle.sw_fixed.specs.Arithmetic.{is_below_zero};
-ghost use Rattle.sw_fn.specs.Answers.{IsAnswer};
+ghost use Rattle.sw_fn_call.specs.Answers.{IsAnswer};
 ghost use Rattle.sw_fn_text.specs.Places.{whole_place, place_of as place_value, start_place, end_place, insert_place, place_in as place_of_part, two_texts as both_texts, piece as piece_of, inserted as inserted_text, inserted_at as inserted_value, sliced as sliced_value, length, index, insert, slice};
 
 use std::alloc::{AllocError, Global};
-use sw_fn::{
+use sw_fn_call::{
     Argument, FnFault, count, is_quoted, number_of, one, ordinal, text, text_of, three, two,
 };
 use sw_text::Name;

@@ -310,8 +310,8 @@ pub fn has_extension(name: &str) -> bool
     ends_with(name, ".sass") || (ends_with(name, ".scss") || ends_with(name, ".css"))
 }
 
-// The one segment of a text, where that leads on from a place. Most sheets and URLs are such, and then there is no way to
-// walk.
+// The one segment of a text, where that leads on from a place. Most sheets and URLs are such, and then there is no way
+// to walk.
 fn lone(text: &str) -> Option<&str>
     ensures { IfSome result (λ name. IsLone text.now name.now) }
 {

@@ -5,7 +5,7 @@ use Rattle.std.proofs.lemmas.List.{append-nil}
 use Rattle.std.proofs.lemmas.Option.{slice_get_within, slice_get-get_or}
 use Rattle.sw_record.specs.declared.reply.Reply.{Reply}
 use Rattle.sw_io.specs.Causes.{Rose}
-use Rattle.sw_protocol.specs.Heard.{HearsAll}
+use Rattle.sw_cmd_protocol.specs.Heard.{HearsAll}
 use Rattle.sw_hub.specs.Hearing.{with_reply}
 use Rattle.sw_hub.specs.Hubs.{Known, HasHeard, FallsSilent, Called, Told, Each, Tells, Attached, HubTells, AllAttend, with_all, counted_all, Attended}
 

@@ -5,7 +5,7 @@ ghost use Rattle.sw_hub.specs.Hubs.{Tells, known, first_of, without_first};
 use crate::Reporter;
 use crate::seat::{Seat, push_seat};
 use std::alloc::Global;
-use sw_protocol::Audience;
+use sw_cmd_protocol::Audience;
 use sw_record::Reply;
 
 /// A hub gives at most so many numbers.

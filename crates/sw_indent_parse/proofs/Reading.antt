@@ -6,13 +6,13 @@ use Rattle.sw_tokens.specs.Listed.{Listed}
 use Rattle.sw_tokens.specs.declared.token.Token.{Token}
 use Rattle.sw_tokens.specs.declared.token.Fault10.{Fault10}
 use Rattle.sw_tokens.specs.declared.token.Fault10.TheVariants as faults
-use Rattle.sw_syntax_tree.specs.declared.sheet.Sheet.{Sheet}
+use Rattle.sw_tree.specs.declared.sheet.Sheet.{Sheet}
 use Rattle.sw_expr_parse.specs.declared.end.ReadEnd.{ReadEnd}
-use Rattle.sw_sheet_parse.specs.Readings.{listed_in, sheet_of_tokens, Returns, end_without_tokens, Saw}
-use Rattle.sw_sheet_parse.proofs.Sheets.{list_is_read, list_is_deep}
-use Rattle.sw_layout.specs.declared.walk.Place.{Place}
-use Rattle.sw_layout.specs.Layout.{layout}
-use Rattle.sw_layout.specs.Faults.{IsFaultBy, TellsFault}
+use Rattle.sw_scss_parse.specs.Readings.{listed_in, sheet_of_tokens, Returns, end_without_tokens, Saw}
+use Rattle.sw_scss_parse.proofs.Sheets.{list_is_read, list_is_deep}
+use Rattle.sw_parse_layout.specs.declared.walk.Place.{Place}
+use Rattle.sw_parse_layout.specs.Layout.{layout}
+use Rattle.sw_parse_layout.specs.Faults.{IsFaultBy, TellsFault}
 use Rattle.sw_indent_parse.specs.Sheets.{layout_read, indented_sheet_of, ReadsLayout, IsReading, TellsLayoutDepth, SawLayout}
 
 -- what was returned for the list is what the text gives

@@ -4,13 +4,13 @@ use Rattle.std.specs.Prelude.{◌≡◌, List, Result, Ok, Err}
 use Rattle.sw_text.specs.Places.{Text}
 use Rattle.sw_text.specs.declared.fault.Fault.{Fault}
 use Rattle.sw_tokens.specs.declared.token.Token.{Token}
-use Rattle.sw_syntax_tree.specs.declared.sheet.Sheet.{Sheet}
+use Rattle.sw_tree.specs.declared.sheet.Sheet.{Sheet}
 use Rattle.sw_expr_parse.specs.declared.end.ReadEnd.{ReadEnd}
-use Rattle.sw_sheet_parse.specs.Seen.{source_of}
-use Rattle.sw_sheet_parse.specs.Readings.{listed_in, sheet_of_tokens, ReadsSource, TellsDepth, Saw}
-use Rattle.sw_layout.specs.declared.walk.Place.{Place}
-use Rattle.sw_layout.specs.Layout.{layout}
-use Rattle.sw_layout.specs.Faults.{fault_at}
+use Rattle.sw_scss_parse.specs.Seen.{source_of}
+use Rattle.sw_scss_parse.specs.Readings.{listed_in, sheet_of_tokens, ReadsSource, TellsDepth, Saw}
+use Rattle.sw_parse_layout.specs.declared.walk.Place.{Place}
+use Rattle.sw_parse_layout.specs.Layout.{layout}
+use Rattle.sw_parse_layout.specs.Faults.{fault_at}
 
 -- a fault of the layout comes before every fault of the grammar
 abbrev pub layout_read : Text → Result (List Token) Place → Result Sheet Fault

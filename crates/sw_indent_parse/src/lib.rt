@@ -1,5 +1,5 @@
 //! The reader of indented sheets. A text flows in from `sw_text`; the list of SCSS tokens that it stands for is that of
-//! `sw_layout`, the tree that of `sw_sheet_parse`; the sheet flows out, or the fault.
+//! `sw_parse_layout`, the tree that of `sw_scss_parse`; the sheet flows out, or the fault.
 #![tactic(auto)]
 
 mod sheet;

@@ -13,7 +13,8 @@ pub enum DiskEnd {
     Memory,
 }
 
-/// The files of folders, which are named by any text. What a folder holds can change at a listing, and at no other call.
+/// The files of folders, which are named by any text. What a folder holds can change at a listing, and at no other
+/// call.
 pub trait Disk {
     /// The files that a folder holds and those that it will hold, where they are told.
     ghost course: { Self → List ℕ → Option Course };
@@ -21,8 +22,8 @@ pub trait Disk {
     /// How often the disk has failed. The count never falls, and stands still at 2^64 - 1.
     ghost faults: { Self → ℕ };
 
-    /// The paths of the folder's sheets: those that end in `.scss`, `.sass` or `.css`, relative to it, in any order. The
-    /// folder's next files come first, where there are any.
+    /// The paths of the folder's sheets: those that end in `.scss`, `.sass` or `.css`, relative to it, in any order.
+    /// The folder's next files come first, where there are any.
     fn list(&mut self, alloc: Global, dir: &str) -> Result<List<Name>, DiskEnd>
         ensures folder { Lists (course self.old) (course self.new) dir.now result }
         ensures cause { HasDiskCause (faults self.old) (faults self.new) result };

@@ -16,8 +16,8 @@ const MOST_PATHS: usize = 65_536;
 const MOST_READ: u64 = 1_048_577;
 
 /// The folders of a file system, which tells nothing of what they hold. Links aren't followed. Each of these is a
-/// fault: a folder that is there and can't be listed, more than 65,536 sheets in one, a name that isn't UTF-8, and a file
-/// that is there and can't be read. The folder itself has to be there.
+/// fault: a folder that is there and can't be listed, more than 65,536 sheets in one, a name that isn't UTF-8, and a
+/// file that is there and can't be read. The folder itself has to be there.
 #[derive(Drop)]
 pub struct FolderDisk<R: Files + AllocGlobal + Clone + Drop> {
     files: R,

@@ -1,6 +1,6 @@
-//! Where bytes come from and go to: sources, sinks and the folders of disks, kinds in memory and real ones, and a reader
-//! of lines. Bytes flow from a source through the reader, and from a disk, up to the commands, and from these down into
-//! a sink.
+//! Where bytes come from and go to: sources, sinks and the folders of disks, kinds in memory and real ones, and a
+//! reader of lines. Bytes flow from a source through the reader, and from a disk, up to the commands, and from these
+//! down into a sink.
 #![tactic(auto)]
 
 mod adapters;

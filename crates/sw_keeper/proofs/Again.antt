@@ -2,7 +2,7 @@
 use Rattle.std.proofs.Common.{◌≡◌, ℕ, ◌+◌, ◌-◌, ◌≤◌, List, [], ◌∷◌, ◌++◌, length, take, drop, sym, ◌∙◌, ap, subst, append_assoc, arith, slice_range}
 use Rattle.std.proofs.lemmas.List.{take-append-drop, take_all}
 use Rattle.std.proofs.Math.Seq.{take-add}
-use Rattle.sw_world.specs.declared.op.Op.{Op}
+use Rattle.sw_world.specs.declared.question.Question.{Question}
 use Rattle.sw_world.specs.declared.answer.Answer.{Answer}
 use Rattle.sw_world.specs.Body.{Pair, Job, Goes, Leads}
 use Rattle.sw_world.specs.Laws.{EndsInTime}
@@ -23,7 +23,7 @@ range_joins xs from to le =
     let e : from + (to - from) ≡ to = omega arith in
     sym (take-add from (to - from) xs) ∙ ap (λ n. take n xs) e
 
-module _ {W : Type 0} (gives : W → Op → Answer → W → Type 0) (view : W → Outside) (setting : Setting) (is : (w : W) (op : Op) (a : Answer) (t : W) → gives w op a t → plain setting.functions op (view w) ≡ (a, view t)) where
+module _ {W : Type 0} (gives : W → Question → Answer → W → Type 0) (view : W → Outside) (setting : Setting) (is : (w : W) (op : Question) (a : Answer) (t : W) → gives w op a t → plain setting.functions op (view w) ≡ (a, view t)) where
   pub again_advances : (k : Kept) (from to : ℕ) (w t : W) → EndsInTime setting.body → IsKept setting.body k → AskedAgain gives k.run.seen from to w t
       → Advances setting (job_of k) (take from k.run.seen) (take to k.run.seen) [] (view w) (view t)
   again_advances k from to w t in_time is_kept again =
@@ -62,7 +62,7 @@ module _ {W : Type 0} (gives : W → Op → Answer → W → Type 0) (view : W �
       )
 
 -- what they leave alone
-pub replay_keeps : {W N : Type 0} (gives : W → Op → Answer → W → Type 0) (name : W → N) (keeps : (w : W) (op : Op) (a : Answer) (t : W) → gives w op a t → name t ≡ name w)
+pub replay_keeps : {W N : Type 0} (gives : W → Question → Answer → W → Type 0) (name : W → N) (keeps : (w : W) (op : Question) (a : Answer) (t : W) → gives w op a t → name t ≡ name w)
     (led_name : (w : W) (ps : List Pair) (t : W) → Leads gives w ps t → name t ≡ name w)
     (seen : List Pair) (from : ℕ) (r : Replayed) (w t : W) → IsReplay gives seen from r w t → name t ≡ name w
 replay_keeps gives name keeps led_name seen from Same w t replay = led_name w (slice_range seen from (length seen)) t replay.2

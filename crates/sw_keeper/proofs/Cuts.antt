@@ -1,12 +1,12 @@
 -- Evaluations that were cut off for want of memory.
 use Rattle.std.proofs.Common.{◌≡◌, ℕ, ◌+◌, ◌<◌, List, [], ◌∷◌, ◌++◌, length, take, drop, get_or, suc, slice_get, ◌⊎◌, Option, Some, None, Ok, refl, sym, ◌∙◌, ap, subst, append_assoc, append-nil, length-append, arith, inl, inr}
 use Rattle.std.proofs.Math.Seq.{take-append_seam}
-use Rattle.sw_syntax_tree.specs.declared.sheet.Sheet.{Sheet}
+use Rattle.sw_tree.specs.declared.sheet.Sheet.{Sheet}
 use Rattle.sw_values.specs.declared.plain.Plain.{Plain}
 use Rattle.sw_folder.specs.Files.{Files}
 use Rattle.sw_world.specs.Hosts.{HostState}
-use Rattle.sw_world.specs.declared.op.Op.{Op}
-use Rattle.sw_world.specs.declared.op.Op.TheVariants.{Load, Find, Get, Put, Say, Call}
+use Rattle.sw_world.specs.declared.question.Question.{Question}
+use Rattle.sw_world.specs.declared.question.Question.TheVariants.{Load, Find, Get, Put, Say, Call}
 use Rattle.sw_world.specs.declared.answer.Answer.{Answer}
 use Rattle.sw_world.specs.declared.end.End.{End}
 use Rattle.sw_world.specs.Body.{Pair, Job, Run, Asks, Goes, Leads, answers}
@@ -93,7 +93,7 @@ told_more table new o t grown = (paths_of grown.grown, grown.told)
 -- Questions
 
 -- a body that went on
-module _ {W : Type 0} (gives : W → Op → Answer → W → Type 0) (view : W → Outside) (setting : Setting) (is : (w : W) (op : Op) (a : Answer) (t : W) → gives w op a t → plain setting.functions op (view w) ≡ (a, view t)) where
+module _ {W : Type 0} (gives : W → Question → Answer → W → Type 0) (view : W → Outside) (setting : Setting) (is : (w : W) (op : Question) (a : Answer) (t : W) → gives w op a t → plain setting.functions op (view w) ≡ (a, view t)) where
   pub go_cut : (p q : Progress) (w t : W) (taken asked : List Pair) (told told_now : List (List ℕ))
       → EndsInTime setting.body → IsBody setting.body q → Went gives p q taken asked w t → told_now ≡ told
       → CutOff setting (calls_left setting p.job (p.seen ++ p.left) (view w)) (view w).hosts (view t).hosts told told_now
@@ -116,7 +116,7 @@ module _ {W : Type 0} (gives : W → Op → Answer → W → Type 0) (view : W �
 
 -- Loads
 
-calls_load : (inside : CallsIn) (op : Op) (o : Outside) → IsLoad op → calls_for inside op o ≡ calls_begun inside (begun op o.live).0 (begun op o.live).1 o
+calls_load : (inside : CallsIn) (op : Question) (o : Outside) → IsLoad op → calls_for inside op o ≡ calls_begun inside (begun op o.live).0 (begun op o.live).1 o
 calls_load inside (Load site url span how config) o is = refl
 calls_load inside (Find site space kind name) o is = absurd is
 calls_load inside (Get owner name) o is = absurd is
@@ -125,7 +125,7 @@ calls_load inside (Say kind span text) o is = absurd is
 calls_load inside (Call name args) o is = absurd is
 
 -- the calls for a load that opens a module are those of its evaluation
-pub load_calls : (setting : Setting) (op : Op) (path text : List ℕ) (config : List (List ℕ × Plain)) (m : State) (o : Outside)
+pub load_calls : (setting : Setting) (op : Question) (path text : List ℕ) (config : List (List ℕ × Plain)) (m : State) (o : Outside)
     → IsLoad op → begun op o.live ≡ (Open path text config, m) → length o.live.opened < 64 → m ≡ open_at path o.live
     → calls_for (calls_within setting (room o.live)) op o ≡ calls_open setting (record { live = m; hosts = o.hosts }) path text config
 load_calls setting op path text config m o is begins few opens =
@@ -143,7 +143,7 @@ evaluated_all setting table path text config end o t did =
 
 -- Turns of a body
 
-pub turn_cut : (setting : Setting) (p q : Progress) (op : Op) (o m : Outside) (now : HostState) (told mid told_now : List (List ℕ))
+pub turn_cut : (setting : Setting) (p q : Progress) (op : Question) (o m : Outside) (now : HostState) (told mid told_now : List (List ℕ))
     → EndsInTime setting.body → WentOn setting p q o m → IsBody setting.body q → q.status ≡ Waiting op → RanMore told mid
     → CutOff setting (calls_for (calls_within setting (room m.live)) op m) m.hosts now mid told_now
     → CutOff setting (calls_left setting p.job (p.seen ++ p.left) o) o.hosts now told told_now

@@ -2,11 +2,11 @@
 use Rattle.std.proofs.Common.{◌≡◌, ℕ, suc, List, [], ◌∷◌, ◌++◌, length, take, drop, Option, Some, None, Ok, refl, sym, ◌∙◌, ap, subst, append_assoc, append-nil, inl}
 use Rattle.std.specs.List.{Contains}
 use Rattle.sw_text.specs.declared.place.Span.{Span}
-use Rattle.sw_syntax_tree.specs.declared.sheet.Sheet.{Sheet}
+use Rattle.sw_tree.specs.declared.sheet.Sheet.{Sheet}
 use Rattle.sw_values.specs.declared.plain.Plain.{Plain}
-use Rattle.sw_world.specs.declared.op.Op.{Op}
-use Rattle.sw_world.specs.declared.op.Op.TheVariants as ops
-use Rattle.sw_world.specs.declared.op.SayKind.{SayKind}
+use Rattle.sw_world.specs.declared.question.Question.{Question}
+use Rattle.sw_world.specs.declared.question.Question.TheVariants as ops
+use Rattle.sw_world.specs.declared.question.SayKind.{SayKind}
 use Rattle.sw_world.specs.declared.answer.Answer.{Answer}
 use Rattle.sw_world.specs.declared.answer.Answer.TheVariants.{Loaded, Refused, Owner, Callable, BuiltIn, NoNamespace, NoMember, LeftOut, Conflict, Value, Done, Hosted}
 use Rattle.sw_world.specs.declared.end.End.{End}
@@ -67,7 +67,7 @@ pub say_once : (kind : SayKind) (span : Span) (text : List ℕ) → HasTwoAnswer
 say_once kind span text two = two.differ (say_done kind span text two.one two.fits_one ∙ sym (say_done kind span text two.other two.fits_other))
 
 -- what such an answer is the cause of
-differs_by : (op : Op) (cause : Cause) (kept run : Run) → IsCauseBy op cause → IsAnsweredBy kept run cause → Differs kept run cause
+differs_by : (op : Question) (cause : Cause) (kept run : Run) → IsCauseBy op cause → IsAnsweredBy kept run cause → Differs kept run cause
 differs_by (ops.Load site url span how config) cause kept run by is = let P : Cause → Type 0 = λ c. IsAnsweredBy kept run c → Differs kept run c in subst P (sym by) (λ x. x) is
 differs_by (ops.Find site space kind name) cause kept run by is = let P : Cause → Type 0 = λ c. IsAnsweredBy kept run c → Differs kept run c in subst P (sym by) (λ x. x) is
 differs_by (ops.Get owner name) cause kept run by is = let P : Cause → Type 0 = λ c. IsAnsweredBy kept run c → Differs kept run c in subst P (sym by) (λ x. x) is

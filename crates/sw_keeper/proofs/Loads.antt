@@ -1,10 +1,10 @@
 -- Answered loads, and texts that are evaluated.
 use Rattle.std.proofs.Common.{◌≡◌, ℕ, suc, ◌+◌, ◌<◌, List, [], ◌∷◌, ◌++◌, length, Ok, Err, refl, sym, ◌∙◌, ap, subst, length-append, arith}
 use Rattle.sw_text.specs.declared.fault.Fault.{Fault}
-use Rattle.sw_syntax_tree.specs.declared.sheet.Sheet.{Sheet}
+use Rattle.sw_tree.specs.declared.sheet.Sheet.{Sheet}
 use Rattle.sw_values.specs.declared.plain.Plain.{Plain}
-use Rattle.sw_world.specs.declared.op.Op.{Op}
-use Rattle.sw_world.specs.declared.op.Op.TheVariants.{Load, Find, Get, Put, Say, Call}
+use Rattle.sw_world.specs.declared.question.Question.{Question}
+use Rattle.sw_world.specs.declared.question.Question.TheVariants.{Load, Find, Get, Put, Say, Call}
 use Rattle.sw_world.specs.declared.answer.Answer.{Answer}
 use Rattle.sw_world.specs.declared.answer.Answer.TheVariants.{Loaded, Refused}
 use Rattle.sw_world.specs.declared.end.End.{End}
@@ -22,13 +22,13 @@ use Rattle.sw_keeper.specs.Steps.{Moment, Grown, DidRespond, DidEnd, DidEvaluate
 use Rattle.sw_keeper.proofs.Rest.{fresh_opens}
 use Rattle.sw_keeper.proofs.Parts.{grown_none}
 
-pub fits_load : (op : Op) (a : Answer) → IsLoad op → AnswersLoad a → Fits op a
+pub fits_load : (op : Question) (a : Answer) → IsLoad op → AnswersLoad a → Fits op a
 fits_load (Load site url span how config) (Loaded path taken) is kind = tt
 fits_load (Load site url span how config) (Refused fault) is kind = tt
 fits_load (Load site url span how config) _ is kind = absurd kind
 fits_load _ a is kind = absurd is
 
-responds_load : (functions : Functions) (inner : Evaluation) (op : Op) (o : Outside) → IsLoad op → responds functions inner op o ≡ load_response inner op (begun op o.live) o
+responds_load : (functions : Functions) (inner : Evaluation) (op : Question) (o : Outside) → IsLoad op → responds functions inner op o ≡ load_response inner op (begun op o.live) o
 responds_load functions inner (Load site url span how config) o is = refl
 responds_load functions inner (Find site space kind name) o is = absurd is
 responds_load functions inner (Get owner name) o is = absurd is
@@ -37,7 +37,7 @@ responds_load functions inner (Say kind span text) o is = absurd is
 responds_load functions inner (Call name args) o is = absurd is
 
 -- a load that was answered at once
-pub did_answered : (table : Table) (functions : Functions) (inner : Evaluation) (op : Op) (a : Answer) (s : State) (o : Moment) → IsLoad op → begun op o.outside.live ≡ (Answered a, s) → length s.opened ≡ length o.outside.live.opened
+pub did_answered : (table : Table) (functions : Functions) (inner : Evaluation) (op : Question) (a : Answer) (s : State) (o : Moment) → IsLoad op → begun op o.outside.live ≡ (Answered a, s) → length s.opened ≡ length o.outside.live.opened
     → DidRespond table (responds functions inner op o.outside) a o (moment_of s o.outside.hosts o.results o.told)
 did_answered table functions inner op a s o is begins depth =
     let t : Moment = moment_of s o.outside.hosts o.results o.told in
@@ -47,7 +47,7 @@ did_answered table functions inner op a s o is begins depth =
     (record { answered = refl; outside = refl; same_depth = depth; grown = grown_none table o t refl refl })
 
 -- a load whose module was evaluated
-pub did_opened : (setting : Setting) (table : Table) (op : Op) (path text : List ℕ) (config : List (List ℕ × Plain)) (end : End) (a : Answer) (m u : State) (o t : Moment)
+pub did_opened : (setting : Setting) (table : Table) (op : Question) (path text : List ℕ) (config : List (List ℕ × Plain)) (end : End) (a : Answer) (m u : State) (o t : Moment)
     → IsLoad op → begun op o.outside.live ≡ (Open path text config, m) → length o.outside.live.opened < 64 → m ≡ open_at path o.outside.live
     → DidEvaluate setting table path text config end (moment_of m o.outside.hosts o.results o.told) t
     → ended_by op (path_in t.outside.live.opened) end t.outside.live ≡ (a, u) → length u.opened + 1 ≡ length t.outside.live.opened

@@ -6,7 +6,7 @@ use Rattle.std.proofs.lemmas.List.Concat.{flat_map-append}
 use Rattle.sw_text.specs.declared.place.Span.{Span}
 use Rattle.sw_text.specs.declared.fault.Fault.{Fault}
 use Rattle.sw_text.specs.declared.fault.FaultCode.TheVariants.{Loop, Depth, NotFound}
-use Rattle.sw_syntax_tree.specs.declared.sheet.Sheet.{Sheet}
+use Rattle.sw_tree.specs.declared.sheet.Sheet.{Sheet}
 use Rattle.sw_values.specs.declared.plain.Plain.{Plain}
 use Rattle.sw_css_tree.specs.Output.{Output}
 use Rattle.sw_css_print.specs.Page.{print}
@@ -15,10 +15,10 @@ use Rattle.sw_folder.specs.declared.resolve.ResolveFault.{ResolveFault}
 use Rattle.sw_folder.specs.declared.resolve.ResolveFault.TheVariants as R
 use Rattle.sw_folder.specs.Resolution.{resolved}
 use Rattle.sw_world.specs.Hosts.{HostState}
-use Rattle.sw_world.specs.declared.op.Op.{Op}
-use Rattle.sw_world.specs.declared.op.Op.TheVariants.{Load, Find, Get, Put, Say, Call}
-use Rattle.sw_world.specs.declared.op.How.{How}
-use Rattle.sw_world.specs.declared.op.Given.{Given}
+use Rattle.sw_world.specs.declared.question.Question.{Question}
+use Rattle.sw_world.specs.declared.question.Question.TheVariants.{Load, Find, Get, Put, Say, Call}
+use Rattle.sw_world.specs.declared.question.How.{How}
+use Rattle.sw_world.specs.declared.question.Given.{Given}
 use Rattle.sw_world.specs.declared.answer.Answer.{Answer}
 use Rattle.sw_world.specs.declared.end.End.{End}
 use Rattle.sw_world.specs.declared.end.End.TheVariants.{Done, Fault as Fault_end}
@@ -54,7 +54,7 @@ unless_outputs : (given : Option Given) (how : How) (path : List ℕ) (interface
 unless_outputs None how path interface taken span s = used_outputs how path interface taken span s
 unless_outputs (Some given) how path interface taken span s = refl
 
-ended_outputs : (op : Op) (path : List ℕ) (end : End) (s : State) → (ended_by op path end s).1.outputs ≡ (left_by end s).outputs
+ended_outputs : (op : Question) (path : List ℕ) (end : End) (s : State) → (ended_by op path end s).1.outputs ≡ (left_by end s).outputs
 ended_outputs (Load site url span how config) path (Done finish) s = unless_outputs (first_untaken config finish.taken) how path (interface_at_end path finish s) finish.taken span (loaded_now finish s)
 ended_outputs (Find site space kind name) path (Done finish) s = refl
 ended_outputs (Get owner name) path (Done finish) s = refl
@@ -119,14 +119,14 @@ Adds inner = (o : Outside) (path text : List ℕ) (config : List (List ℕ × Pl
 append : (xs ys : List Run) → outputs_of (xs ++ ys) ≡ outputs_of xs ++ outputs_of ys
 append xs ys = flat_map-append (λ run. output_of run.end) xs ys
 
-load_outputs : (inner : Evaluation) → Adds inner → (op : Op) (begin : Begin) (s : State) (o : Outside) → s.outputs ≡ o.live.outputs
+load_outputs : (inner : Evaluation) → Adds inner → (op : Question) (begin : Begin) (s : State) (o : Outside) → s.outputs ≡ o.live.outputs
     → (load_by inner op begin s o).outside.live.outputs ≡ o.live.outputs ++ outputs_of (load_by inner op begin s o).runs
 load_outputs inner adds op (Answered answer) s o same = same ∙ sym (append-nil o.live.outputs)
 load_outputs inner adds op (Open path text config) s o same =
     let c : Evaluated = inner (record o { live = s }) path text config in
     ended_outputs op (path_in c.outside.live.opened) c.end c.outside.live ∙ adds (record o { live = s }) path text config ∙ ap (λ outputs. outputs ++ outputs_of c.runs) same
 
-response_outputs : (functions : Functions) (inner : Evaluation) → Adds inner → (op : Op) (o : Outside)
+response_outputs : (functions : Functions) (inner : Evaluation) → Adds inner → (op : Question) (o : Outside)
     → (responds functions inner op o).outside.live.outputs ≡ o.live.outputs ++ outputs_of (responds functions inner op o).runs
 response_outputs functions inner adds (Load site url span how config) o =
     load_outputs inner adds (Load site url span how config) (begun (Load site url span how config) o.live).0 (begun (Load site url span how config) o.live).1 o

@@ -2,7 +2,7 @@
 use Rattle.std.proofs.Common.{◌≡◌, ℕ, suc, ◌-◌, ◌<◌, ◌≤◌, List, [], ◌∷◌, ◌++◌, length, take, drop, get_or, slice_get, Some, refl, sym, ◌∙◌, ap, subst, append_assoc, append-nil, drop-cons, arith}
 use Rattle.std.proofs.lemmas.List.{take-append-drop, length-take, length-drop}
 use Rattle.std.proofs.lemmas.Option.{get_or_from_slice_get, slice_get_within}
-use Rattle.sw_world.specs.declared.op.Op.{Op}
+use Rattle.sw_world.specs.declared.question.Question.{Question}
 use Rattle.sw_world.specs.declared.answer.Answer.{Answer}
 use Rattle.sw_world.specs.declared.end.End.{End}
 use Rattle.sw_world.specs.Body.{Pair, Job, Next, Asks, Ends, BodyOf, answers, Goes}
@@ -41,7 +41,7 @@ within body job pairs in_time goes =
         let ends = in_time job (answers (take most_asked pairs)) len in
         absurd (apart (sym g.0 ∙ ends.1))
       where
-        apart : {op : Op} {end : End} → Asks op ≡ Ends end → ⊥
+        apart : {op : Question} {end : End} → Asks op ≡ Ends end → ⊥
         apart e = cc
 
 -- a list, at a place that it has

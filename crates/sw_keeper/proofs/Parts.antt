@@ -1,7 +1,7 @@
 -- How the parts of a compile join.
 use Rattle.std.proofs.Common.{◌≡◌, ℕ, List, [], ◌∷◌, ◌++◌, refl, sym, ◌∙◌, ap, subst, append_assoc, append-nil, inl, inr}
 use Rattle.std.proofs.lemmas.List.{map-append}
-use Rattle.sw_world.specs.declared.op.Op.{Op}
+use Rattle.sw_world.specs.declared.question.Question.{Question}
 use Rattle.sw_world.specs.declared.answer.Answer.{Answer}
 use Rattle.sw_world.specs.Body.{Pair, Job, Run, Goes, Leads}
 use Rattle.sw_world.specs.Laws.{EndsInTime}
@@ -68,7 +68,7 @@ advances_join setting job ps qs rs new more o t u a b =
     }
 
 -- a load that was answered
-pub advances_load : (setting : Setting) (table : Table) (job : Job) (pairs : List Pair) (op : Op) (a : Answer) (o t : Moment)
+pub advances_load : (setting : Setting) (table : Table) (job : Job) (pairs : List Pair) (op : Question) (a : Answer) (o t : Moment)
     → EndsInTime setting.body → Goes (setting.body job) [] (pairs ++ (op, a) ∷ []) → DidRespond table (responds setting.functions (fresh setting (room o.outside.live)) op o.outside) a o t
     → Advances setting job pairs (pairs ++ (op, a) ∷ []) (responds setting.functions (fresh setting (room o.outside.live)) op o.outside).runs o.outside t.outside
 advances_load setting table job pairs op a o t in_time goes did =
@@ -82,7 +82,7 @@ advances_load setting table job pairs op a o t in_time goes did =
       hosts = hosts_more setting ((op, a) ∷ []) o.outside t.outside (sym did.outside);
     }
 
-module _ {W : Type 0} (gives : W → Op → Answer → W → Type 0) (view : W → Outside) (setting : Setting) (is : (w : W) (op : Op) (a : Answer) (t : W) → gives w op a t → plain setting.functions op (view w) ≡ (a, view t)) where
+module _ {W : Type 0} (gives : W → Question → Answer → W → Type 0) (view : W → Outside) (setting : Setting) (is : (w : W) (op : Question) (a : Answer) (t : W) → gives w op a t → plain setting.functions op (view w) ≡ (a, view t)) where
   -- questions that were asked
   pub advances_asked : (job : Job) (pairs asked : List Pair) (w t : W)
       → EndsInTime setting.body → Goes (setting.body job) [] (pairs ++ asked) → Leads gives w asked t
@@ -117,7 +117,7 @@ module _ {W : Type 0} (gives : W → Op → Answer → W → Type 0) (view : W �
       }
 
 -- what the questions leave alone
-pub led_keeps : {W N : Type 0} (gives : W → Op → Answer → W → Type 0) (name : W → N) (keeps : (w : W) (op : Op) (a : Answer) (t : W) → gives w op a t → name t ≡ name w)
+pub led_keeps : {W N : Type 0} (gives : W → Question → Answer → W → Type 0) (name : W → N) (keeps : (w : W) (op : Question) (a : Answer) (t : W) → gives w op a t → name t ≡ name w)
     (w : W) (ps : List Pair) (t : W) → Leads gives w ps t → name t ≡ name w
 led_keeps gives name keeps w [] t leads = ap name leads
 led_keeps gives name keeps w (p ∷ ps) t leads = led_keeps gives name keeps leads.1.0 ps t leads.1.2 ∙ keeps w p.0 p.1 leads.1.0 leads.1.1

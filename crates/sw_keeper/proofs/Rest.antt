@@ -1,8 +1,8 @@
 -- The rest of an evaluation.
 use Rattle.std.proofs.Common.{◌≡◌, ℕ, suc, ◌+◌, ◌-◌, ◌<◌, ◌≤◌, List, [], ◌∷◌, ◌++◌, length, refl, sym, ◌∙◌, ap, subst, length-append, arith}
 use Rattle.sw_values.specs.declared.plain.Plain.{Plain}
-use Rattle.sw_world.specs.declared.op.Op.{Op}
-use Rattle.sw_world.specs.declared.op.Op.TheVariants.{Load, Find, Get, Put, Say, Call}
+use Rattle.sw_world.specs.declared.question.Question.{Question}
+use Rattle.sw_world.specs.declared.question.Question.TheVariants.{Load, Find, Get, Put, Say, Call}
 use Rattle.sw_world.specs.declared.answer.Answer.{Answer}
 use Rattle.sw_world.specs.declared.end.End.{End}
 use Rattle.sw_world.specs.Body.{Pair, Job, Run, Next, Asks, Ends, Goes, Leads, answers}
@@ -18,7 +18,7 @@ use Rattle.sw_modules.proofs.Calls.{calls_along, calls_come_by, along_leads, fre
 use Rattle.sw_keeper.proofs.Pairs.{goes_rest, within}
 
 -- what is outside, as a world has it
-module _ {W : Type 0} (gives : W → Op → Answer → W → Type 0) (view : W → Outside) (functions : Functions) (is : (w : W) (op : Op) (a : Answer) (t : W) → gives w op a t → plain functions op (view w) ≡ (a, view t)) where
+module _ {W : Type 0} (gives : W → Question → Answer → W → Type 0) (view : W → Outside) (functions : Functions) (is : (w : W) (op : Question) (a : Answer) (t : W) → gives w op a t → plain functions op (view w) ≡ (a, view t)) where
   -- a question that is no load is answered plainly
   responds_plain : (inner : Evaluation) (w : W) (p : Pair) (t : W) → (IsLoad p.0 → ⊥) → gives w p.0 p.1 t
       → responds functions inner p.0 (view w) ≡ record { answer = p.1; outside = view t; runs = [] }
@@ -41,7 +41,7 @@ module _ {W : Type 0} (gives : W → Op → Answer → W → Type 0) (view : W �
       ((all.0, all.1), all.2, all.3)
 
   -- and they open and close nothing
-  plain_opened : (op : Op) (o : Outside) → (plain functions op o).1.live.opened ≡ o.live.opened
+  plain_opened : (op : Question) (o : Outside) → (plain functions op o).1.live.opened ≡ o.live.opened
   plain_opened (Load site url span how config) o = refl
   plain_opened (Find site space kind name) o = refl
   plain_opened (Get owner name) o = refl
@@ -101,7 +101,7 @@ hosts_more setting asked o t left =
     ∙ along_leads setting.functions (fresh setting (room o.live)) (calls_within setting (room o.live)) (fresh_leads setting (room o.live)) o asked
 
 -- where the body asks, the calls for its question come first
-pub calls_next : (setting : Setting) (job : Job) (pairs : List Pair) (o : Outside) (op : Op)
+pub calls_next : (setting : Setting) (job : Job) (pairs : List Pair) (o : Outside) (op : Question)
     → EndsInTime setting.body → Goes (setting.body job) [] pairs → setting.body job (answers pairs) ≡ Asks op
     → (rest : List HostCall) × (calls_left setting job pairs o ≡ calls_for (calls_within setting (room o.live)) op o ++ rest)
 calls_next setting job pairs o op in_time goes asks =

@@ -1,6 +1,6 @@
 -- The turns of a body.
 use Rattle.std.proofs.Common.{◌≡◌, ℕ, suc, ◌-◌, ◌<◌, ◌≤◌, List, [], ◌∷◌, ◌++◌, length, refl, sym, ◌∙◌, ap, subst, append_assoc, append-nil, length-append, arith, Option, Some, None, inr}
-use Rattle.sw_world.specs.declared.op.Op.{Op}
+use Rattle.sw_world.specs.declared.question.Question.{Question}
 use Rattle.sw_world.specs.declared.answer.Answer.{Answer}
 use Rattle.sw_world.specs.declared.end.End.{End}
 use Rattle.sw_world.specs.Body.{Pair, Job, Run, Ends, BodyOf, Goes, answers}
@@ -26,12 +26,12 @@ at_status body q s is_q e = subst (λ (v : Status). IsAt (body q.job) (answers q
 pub goes_seen : (body : BodyOf) (q : Progress) → IsBody body q → Goes (body q.job) [] q.seen
 goes_seen body q is_q = goes_first (body q.job) [] q.seen q.left is_q.goes
 
-goes_given : (body : BodyOf) (q : Progress) (op : Op) (a : Answer) → IsBody body q → q.status ≡ Waiting op → Fits op a → Goes (body q.job) [] (q.seen ++ (op, a) ∷ [])
+goes_given : (body : BodyOf) (q : Progress) (op : Question) (a : Answer) → IsBody body q → q.status ≡ Waiting op → Fits op a → Goes (body q.job) [] (q.seen ++ (op, a) ∷ [])
 goes_given body q op a is_q waits fits =
     let here = at_status body q (Waiting op) is_q waits in
     goes_join (body q.job) [] q.seen ((op, a) ∷ []) (goes_seen body q is_q) (here.0, fits, tt)
 
-is_given : (body : BodyOf) (q : Progress) (op : Op) (a : Answer) → IsBody body q → q.status ≡ Waiting op → Fits op a → IsBody body (given q op a)
+is_given : (body : BodyOf) (q : Progress) (op : Question) (a : Answer) → IsBody body q → q.status ≡ Waiting op → Fits op a → IsBody body (given q op a)
 is_given body q op a is_q waits fits =
     let here = at_status body q (Waiting op) is_q waits in
     let goes : Goes (body q.job) [] ((q.seen ++ (op, a) ∷ []) ++ q.left) =
@@ -39,22 +39,22 @@ is_given body q op a is_q waits fits =
     record { goes = goes; place = tt }
 
 abbrev IsGiven : Progress → Progress → Answer → Type 0
-IsGiven q q2 a = (o : Op) × (q.status ≡ Waiting o) × (q2 ≡ given q o a)
+IsGiven q q2 a = (o : Question) × (q.status ≡ Waiting o) × (q2 ≡ given q o a)
 
-same_given : (q q2 : Progress) (op : Op) (a : Answer) → q.status ≡ Waiting op → IsGiven q q2 a → q2 ≡ given q op a
+same_given : (q q2 : Progress) (op : Question) (a : Answer) → q.status ≡ Waiting op → IsGiven q q2 a → q2 ≡ given q op a
 same_given q q2 op a waits gave = let e : gave.0 ≡ op = cc in gave.2 ∙ ap (λ o. given q o a) e
 
 -- a body that was given the answer to its load
-pub is_body_given : (body : BodyOf) (q q2 : Progress) (op : Op) (a : Answer) → IsBody body q → q.status ≡ Waiting op → Fits op a
-    → ((o : Op) × (q.status ≡ Waiting o) × (q2 ≡ given q o a)) → IsBody body q2
+pub is_body_given : (body : BodyOf) (q q2 : Progress) (op : Question) (a : Answer) → IsBody body q → q.status ≡ Waiting op → Fits op a
+    → ((o : Question) × (q.status ≡ Waiting o) × (q2 ≡ given q o a)) → IsBody body q2
 is_body_given body q q2 op a is_q waits fits gave =
     subst (λ (x : Progress). IsBody body x) (sym (same_given q q2 op a waits gave)) (is_given body q op a is_q waits fits)
 
 -- a turn that answered a load
-pub turned_load : (setting : Setting) (table : Table) (p q q2 : Progress) (op : Op) (a : Answer) (o m t : Moment)
+pub turned_load : (setting : Setting) (table : Table) (p q q2 : Progress) (op : Question) (a : Answer) (o m t : Moment)
     → EndsInTime setting.body → WentOn setting p q o.outside m.outside → IsBody setting.body q → q.status ≡ Waiting op → q.left ≡ [] → m.results ≡ o.results → m.told ≡ o.told ++ []
     → DidRespond table (responds setting.functions (fresh setting (room m.outside.live)) op m.outside) a m t → Fits op a
-    → ((o' : Op) × (q.status ≡ Waiting o') × (q2 ≡ given q o' a))
+    → ((o' : Question) × (q.status ≡ Waiting o') × (q2 ≡ given q o' a))
     → Turned setting table p q2 None o t
 turned_load setting table p q q2 op a o m t in_time went is_q waits none results told did fits gave =
     let goes : Goes (setting.body p.job) [] (q.seen ++ (op, a) ∷ []) =

@@ -5,7 +5,7 @@ use Rattle.sw_folder.specs.Files.{Files}
 use Rattle.sw_values.specs.declared.plain.Plain.{Plain}
 use Rattle.sw_world.specs.Hosts.{HostState}
 use Rattle.sw_world.specs.declared.end.End.{End}
-use Rattle.sw_world.specs.declared.op.Saying.{Saying}
+use Rattle.sw_world.specs.declared.question.Saying.{Saying}
 use Rattle.sw_modules.specs.declared.live.Enter.{Enter}
 use Rattle.sw_modules.specs.declared.live.Enter.TheVariants.{Refused, Open}
 use Rattle.sw_modules.specs.State.{State, nothing_loaded}

@@ -2,7 +2,7 @@
 use Rattle.std.specs.Prelude.{◌≡◌, ℕ, List, ◌++◌}
 use Rattle.sw_values.specs.declared.plain.Plain.{Plain}
 use Rattle.sw_world.specs.Hosts.{HostState}
-use Rattle.sw_world.specs.declared.op.Op.{Op}
+use Rattle.sw_world.specs.declared.question.Question.{Question}
 use Rattle.sw_world.specs.Body.{Pair, Job}
 use Rattle.sw_modules.specs.Outside.{Outside}
 use Rattle.sw_modules.specs.Fresh.{Setting, room}
@@ -31,7 +31,7 @@ abbrev pub BodyCut : Setting → Job → List Pair → Moment → Moment → Typ
 BodyCut setting job pairs old now = RestCut setting job pairs old.outside now.outside old.told now.told
 
 -- the answer to a load was
-abbrev pub LoadCut : Setting → Op → Moment → Moment → Type 0
+abbrev pub LoadCut : Setting → Question → Moment → Moment → Type 0
 LoadCut setting op old now =
     CutOff setting (calls_for (calls_within setting (room old.outside.live)) op old.outside) old.outside.hosts
     now.outside.hosts old.told now.told

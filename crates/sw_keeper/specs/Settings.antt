@@ -1,7 +1,7 @@
 -- What compiles rest on (this project's own rule).
 use Rattle.std.specs.Prelude.{ℕ, List, None, Result}
 use Rattle.sw_text.specs.declared.fault.Fault.{Fault}
-use Rattle.sw_syntax_tree.specs.declared.sheet.Sheet.{Sheet}
+use Rattle.sw_tree.specs.declared.sheet.Sheet.{Sheet}
 use Rattle.sw_world.specs.Body.{BodyOf}
 use Rattle.sw_modules.specs.Fresh.{Setting, setting_of}
 

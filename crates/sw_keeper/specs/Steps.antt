@@ -2,8 +2,8 @@
 use Rattle.std.specs.Prelude.{◌≡◌, ℕ, ◌<◌, List, [], ◌∷◌, ◌++◌, length, Option, None, Some}
 use Rattle.sw_values.specs.declared.plain.Plain.{Plain}
 use Rattle.sw_world.specs.Hosts.{HostState}
-use Rattle.sw_syntax_tree.specs.declared.sheet.Sheet.{Sheet}
-use Rattle.sw_world.specs.declared.op.Op.{Op}
+use Rattle.sw_tree.specs.declared.sheet.Sheet.{Sheet}
+use Rattle.sw_world.specs.declared.question.Question.{Question}
 use Rattle.sw_world.specs.declared.answer.Answer.{Answer}
 use Rattle.sw_world.specs.declared.end.End.{End}
 use Rattle.sw_world.specs.Body.{Pair, Job, Run}
@@ -63,7 +63,7 @@ pub record DidRespond (table : Table) (response : Response) (answer : Answer) (o
   pub grown : Grown table response.runs old now
 
 -- an answered load
-abbrev pub DidLoad : Setting → Table → Op → Answer → Moment → Moment → Type 0
+abbrev pub DidLoad : Setting → Table → Question → Answer → Moment → Moment → Type 0
 DidLoad setting table op answer old now =
     DidRespond table (responds setting.functions (fresh setting (room old.outside.live)) op old.outside) answer old now
 

@@ -5,9 +5,9 @@ use crate::results::Results;
 use std::alloc::Global;
 use sw_modules::{Live, Nothing};
 use sw_record::Cause;
-use sw_syntax_tree::Sheet;
 use sw_text::{Name, Shared};
-use sw_world::{Answer, Config, Engine, Op};
+use sw_tree::Sheet;
+use sw_world::{Answer, Config, Engine, Question};
 
 /// What stays as it is during a compile: how texts are read, the runs that are kept of its entry, and what its loads
 /// share.
@@ -38,6 +38,6 @@ pub struct Opening {
 #[derive(Drop)]
 pub(crate) struct Start<'s> {
     pub(crate) sheet: &'s Shared<Sheet>,
-    pub(crate) known: &'s [(Op, Answer)],
+    pub(crate) known: &'s [(Question, Answer)],
     pub(crate) cause: Cause,
 }

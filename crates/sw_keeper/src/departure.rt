@@ -7,20 +7,20 @@ ghost use Rattle.sw_keeper.specs.Departures.{HasTwoAnswers};
 use std::alloc::Global;
 use sw_record::Cause;
 use sw_text::{List, Memory};
-use sw_world::{Answer, Op, share_pairs};
+use sw_world::{Answer, Question, share_pairs};
 
 /// The kept pairs up to the first question that is answered otherwise, that question with its new answer, and the cause
 /// that it is.
 #[derive(Drop)]
 pub struct Departure {
-    pub known: List<(Op, Answer)>,
+    pub known: List<(Question, Answer)>,
     pub cause: Cause,
 }
 
 /// The departure at a place of a kept run.
 pub(crate) fn departure_of(
     alloc: Global,
-    seen: &[(Op, Answer)],
+    seen: &[(Question, Answer)],
     place: usize,
     answer: Answer,
 ) -> Result<Departure, Memory>
@@ -38,16 +38,16 @@ pub(crate) fn departure_of(
 }
 
 /// The cause that another answer to the question is.
-fn cause_of(op: &Op) -> Cause
+fn cause_of(op: &Question) -> Cause
     requires { HasTwoAnswers op.now }
     ensures { IsCauseBy op.now result }
 {
     match op {
-        Op::Load { .. } => Cause::Load,
-        Op::Find { .. } => Cause::Member,
-        Op::Get { .. } => Cause::Variable,
-        Op::Call { .. } => Cause::Call,
-        Op::Put { .. } => unreachable!(),
-        Op::Say { .. } => unreachable!(),
+        Question::Load { .. } => Cause::Load,
+        Question::Find { .. } => Cause::Member,
+        Question::Get { .. } => Cause::Variable,
+        Question::Call { .. } => Cause::Call,
+        Question::Put { .. } => unreachable!(),
+        Question::Say { .. } => unreachable!(),
     }
 }

@@ -18,7 +18,7 @@ use crate::{HasSetting, Reader};
 use sw_modules::Begin;
 use sw_record::{Replayed, Run};
 use sw_text::Memory;
-use sw_world::{Answer, End, Engine, Hosts, Op, Turn};
+use sw_world::{Answer, End, Engine, Hosts, Question, Turn};
 
 /// How far a replay came.
 #[derive(Drop)]
@@ -38,7 +38,7 @@ fn load<R: Reader, E: Engine, H: Hosts>(
     moment: &mut Moment<'_, R, E>,
     hosts: &mut H,
     engine: &mut E,
-    op: &Op,
+    op: &Question,
 ) -> Result<Answer, Memory>
     requires { IsLoad op.now }
     ensures did { IfOk result (λ answer. DidLoad ⟦<(R, E, H) as HasSetting>⟧.setting within.now.kept.now

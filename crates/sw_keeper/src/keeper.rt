@@ -32,8 +32,8 @@ pub struct Keeper<R: Reader, E: Engine> {
 impl<R: Reader, E: Engine> Model for Keeper<R, E> {
     ghost use Rattle.std.specs.Coded.{codes};
     ghost use Rattle.sw_folder.specs.Files.{files_code};
-    ghost use Rattle.sw_syntax_tree.specs.contracts.expr.ExprKind as expr;
-    ghost use Rattle.sw_syntax_tree.specs.contracts.statement.Statement as statement;
+    ghost use Rattle.sw_tree.specs.contracts.expr.ExprKind as expr;
+    ghost use Rattle.sw_tree.specs.contracts.statement.Statement as statement;
     ghost use Rattle.sw_values.specs.contracts.plain.Plain as plain;
     ghost use Rattle.sw_keeper.specs.Keeping.{Keeping};
 

@@ -20,8 +20,8 @@ pub(crate) struct KeptRun<R: Reader, E: Engine> {
 impl<R: Reader, E: Engine> Model for KeptRun<R, E> {
     ghost use Rattle.std.specs.Prelude.{◌≡◌, Ok};
     ghost use Rattle.std.specs.Coded.{codes};
-    ghost use Rattle.sw_syntax_tree.specs.contracts.expr.ExprKind as expr;
-    ghost use Rattle.sw_syntax_tree.specs.contracts.statement.Statement as statement;
+    ghost use Rattle.sw_tree.specs.contracts.expr.ExprKind as expr;
+    ghost use Rattle.sw_tree.specs.contracts.statement.Statement as statement;
     ghost use Rattle.sw_values.specs.contracts.plain.Plain as plain;
     ghost use Rattle.sw_world.specs.Body.{Run};
 
@@ -70,8 +70,8 @@ pub(crate) struct KeptRuns<R: Reader, E: Engine> {
 
 impl<R: Reader, E: Engine> Model for KeptRuns<R, E> {
     ghost use Rattle.std.specs.Coded.{codes};
-    ghost use Rattle.sw_syntax_tree.specs.contracts.expr.ExprKind as expr;
-    ghost use Rattle.sw_syntax_tree.specs.contracts.statement.Statement as statement;
+    ghost use Rattle.sw_tree.specs.contracts.expr.ExprKind as expr;
+    ghost use Rattle.sw_tree.specs.contracts.statement.Statement as statement;
     ghost use Rattle.sw_values.specs.contracts.plain.Plain as plain;
     ghost use Rattle.sw_keeper.specs.Keeping as keeping;
 

@@ -2,11 +2,11 @@
 ghost use Rattle.std.specs.Prelude.{◌≡◌, ◌≤◌, ℕ, List, Result, length, IfOk};
 ghost use Rattle.sw_folder.specs.Files.{most_bytes};
 ghost use Rattle.sw_text.specs.declared.fault.Fault.{Fault};
-ghost use Rattle.sw_syntax_tree.specs.declared.sheet.Sheet.{Sheet};
+ghost use Rattle.sw_tree.specs.declared.sheet.Sheet.{Sheet};
 
 use std::alloc::Global;
-use sw_syntax_tree::Sheet;
 use sw_text::{Fault, Memory, Name, Shared};
+use sw_tree::Sheet;
 
 /// What makes a sheet of a text. `reads` says which sheet or which fault a text at a path gives, the same for all
 /// values of the type.

@@ -8,8 +8,8 @@ use crate::context::Opening;
 use crate::kept::{KeptRun, KeptRuns};
 use std::alloc::Global;
 use sw_record::Cause;
-use sw_syntax_tree::Sheet;
 use sw_text::{Fault, Memory, Name, Shared};
+use sw_tree::Sheet;
 use sw_values::Value;
 use sw_world::{Config, Engine};
 

@@ -9,16 +9,16 @@ use crate::kept::KeptRun;
 use std::alloc::Global;
 use std::marker::Model;
 use sw_record::{Cause, Run, Trace};
-use sw_syntax_tree::Sheet;
 use sw_text::{List, Memory, Name, Shared};
-use sw_world::{Answer, End, Engine, Op, Share};
+use sw_tree::Sheet;
+use sw_world::{Answer, End, Engine, Question, Share};
 
 /// The run of a body that ended.
 pub(crate) fn run_ended<E: Engine>(
     alloc: Global,
     opening: &Opening,
     sheet: &Shared<Sheet>,
-    seen: List<(Op, Answer)>,
+    seen: List<(Question, Answer)>,
     end: End,
 ) -> Result<Run<E>, Memory>
     requires goes { Goes (E.body (job_at sheet.now opening.now)) [] seen }
@@ -47,8 +47,8 @@ pub(crate) struct Results<R: Reader, E: Engine> {
 
 impl<R: Reader, E: Engine> Model for Results<R, E> {
     ghost use Rattle.std.specs.Coded.{codes};
-    ghost use Rattle.sw_syntax_tree.specs.contracts.expr.ExprKind as expr;
-    ghost use Rattle.sw_syntax_tree.specs.contracts.statement.Statement as statement;
+    ghost use Rattle.sw_tree.specs.contracts.expr.ExprKind as expr;
+    ghost use Rattle.sw_tree.specs.contracts.statement.Statement as statement;
     ghost use Rattle.sw_values.specs.contracts.plain.Plain as plain;
     ghost use Rattle.sw_keeper.specs.Results as specs;
 

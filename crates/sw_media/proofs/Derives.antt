@@ -2,13 +2,13 @@
 use Rattle.std.proofs.Common.{◌≡◌, ℕ, zero, suc, ◌+◌, ◌-◌, ◌≤◌, ◌<◌, Bool, true, false, ◌&&◌, ◌||◌, List, [], ◌∷◌, ◌++◌, length, refl, sym, ◌∙◌, ap, subst, arith, Option, Some, None, append_assoc, append-nil}
 use Rattle.std.specs.Prelude.{◌==◌, nat_lt, if◌then◌else◌, unwrap_or, codes}
 use Rattle.std.proofs.lemmas.Bool.Decides.{nat_tests}
-use Rattle.sw_scan.specs.declared.brackets.Stops.TheVariants as stops
-use Rattle.sw_scan.specs.declared.runs.Class.TheVariants as classes
-use Rattle.sw_scan.specs.declared.signs.TheConstants.{END}
-use Rattle.sw_scan.specs.Bytes.{sign, byte}
-use Rattle.sw_scan.specs.Pieces.{piece}
-use Rattle.sw_scan.specs.Brackets.{stop_at}
-use Rattle.sw_scan.proofs.Bounds.{in_text, run_forward, if_true, if_false}
+use Rattle.sw_text_scan.specs.declared.brackets.Stops.TheVariants as stops
+use Rattle.sw_text_scan.specs.declared.runs.Class.TheVariants as classes
+use Rattle.sw_text_scan.specs.declared.signs.TheConstants.{END}
+use Rattle.sw_text_scan.specs.Bytes.{sign, byte}
+use Rattle.sw_text_scan.specs.Pieces.{piece}
+use Rattle.sw_text_scan.specs.Brackets.{stop_at}
+use Rattle.sw_text_scan.proofs.Bounds.{in_text, run_forward, if_true, if_false}
 use Rattle.sw_media.specs.declared.query.Modifier.{Modifier}
 use Rattle.sw_media.specs.declared.query.Modifier.TheVariants as modifiers
 use Rattle.sw_media.specs.declared.query.Condition.{Condition}

@@ -2,7 +2,7 @@
 use Rattle.std.proofs.Common.{◌≡◌, ℕ, ◌≤◌, ◌<◌, List, length, refl, sym, ◌∙◌, ap, arith, Option, Some, None, Ok, Err}
 use Rattle.std.specs.Prelude.{nat_lt}
 use Rattle.std.proofs.lemmas.Bool.Decides.{nat_tests}
-use Rattle.sw_scan.proofs.Bounds.{if_true, if_false}
+use Rattle.sw_text_scan.proofs.Bounds.{if_true, if_false}
 use Rattle.sw_media.specs.declared.fault.MediaFault.TheVariants.{BadQuery, TooLarge}
 use Rattle.sw_media.specs.declared.reader.TheConstants.{LEVELS, MOST_QUERIES}
 use Rattle.sw_media.specs.declared.query.Query.{Query}

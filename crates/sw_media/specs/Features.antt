@@ -2,10 +2,10 @@
 -- text that isn't blank, whose strings and brackets are closed, and in which no `:`, `<`, `>` or `=` stands outside
 -- them.
 use Rattle.std.specs.Prelude.{ℕ, ◌+◌, List, ◌++◌, Option, Some, None, Bool, ◌&&◌, ◌||◌, ◌==◌, nat_lt, codes, if◌then◌else◌}
-use Rattle.sw_scan.specs.declared.brackets.Stops.TheVariants as stops
-use Rattle.sw_scan.specs.Bytes.{sign, byte}
-use Rattle.sw_scan.specs.Pieces.{piece, trimmed_end}
-use Rattle.sw_scan.specs.Brackets.{stop_at}
+use Rattle.sw_text_scan.specs.declared.brackets.Stops.TheVariants as stops
+use Rattle.sw_text_scan.specs.Bytes.{sign, byte}
+use Rattle.sw_text_scan.specs.Pieces.{piece, trimmed_end}
+use Rattle.sw_text_scan.specs.Brackets.{stop_at}
 use Rattle.sw_media.specs.Words.{white}
 
 -- what stands from i up to j without the white space around it

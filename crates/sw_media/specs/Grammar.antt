@@ -1,11 +1,11 @@
 -- What a list of media queries is (Media Queries Level 4), row by row. A row says that what stands from one place of a
 -- text to another is such a thing, and what it reads as.
 use Rattle.std.specs.Prelude.{◌≡◌, ℕ, zero, suc, ◌+◌, ◌<◌, Bool, true, false, ◌||◌, List, [], ◌∷◌, Some, None, ◌==◌, codes}
-use Rattle.sw_scan.specs.declared.brackets.Stops.TheVariants as stops
-use Rattle.sw_scan.specs.declared.signs.TheConstants.{END}
-use Rattle.sw_scan.specs.Bytes.{sign, byte}
-use Rattle.sw_scan.specs.Pieces.{piece}
-use Rattle.sw_scan.specs.Brackets.{stop_at}
+use Rattle.sw_text_scan.specs.declared.brackets.Stops.TheVariants as stops
+use Rattle.sw_text_scan.specs.declared.signs.TheConstants.{END}
+use Rattle.sw_text_scan.specs.Bytes.{sign, byte}
+use Rattle.sw_text_scan.specs.Pieces.{piece}
+use Rattle.sw_text_scan.specs.Brackets.{stop_at}
 use Rattle.sw_media.specs.declared.query.Modifier.TheVariants as modifiers
 use Rattle.sw_media.specs.declared.query.Condition.{Condition}
 use Rattle.sw_media.specs.declared.query.Condition.TheVariants as conditions

@@ -1,8 +1,8 @@
 -- Keywords and types of media queries. Keywords are lower case.
 use Rattle.std.specs.Prelude.{◌≡◌, ℕ, List, Option, Some, None, Result, Ok, Err, Bool, not, ◌&&◌, ◌||◌, codes, bytes_eq}
-use Rattle.sw_scan.specs.declared.runs.Class.TheVariants as classes
-use Rattle.sw_scan.specs.Runs.{run_end, begins_name}
-use Rattle.sw_scan.specs.Pieces.{piece}
+use Rattle.sw_text_scan.specs.declared.runs.Class.TheVariants as classes
+use Rattle.sw_text_scan.specs.Runs.{run_end, begins_name}
+use Rattle.sw_text_scan.specs.Pieces.{piece}
 use Rattle.sw_media.specs.declared.fault.MediaFault.{MediaFault}
 use Rattle.sw_media.specs.declared.fault.MediaFault.TheVariants.{BadQuery, MediaJoin, TooLarge, Memory}
 

@@ -6,8 +6,8 @@ ghost use Rattle.sw_media.specs.Features.{trimmed, sum_by, sum_at, in_parens, cl
 use crate::MediaFault;
 use crate::words::white;
 use std::alloc::Global;
-use sw_scan::{Stops, byte_at, piece, signs, stop_at, trimmed_end};
 use sw_text::{Memory, Name};
+use sw_text_scan::{Stops, byte_at, piece, signs, stop_at, trimmed_end};
 
 fn trimmed(text: &str, from: usize, to: usize) -> &str
     ensures { result.now ≡ trimmed text.now from to }

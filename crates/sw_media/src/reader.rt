@@ -8,8 +8,8 @@ use crate::words::{is_at, is_type_at, name_end, text_of, white};
 use crate::write::condition_text;
 use crate::{Condition, MediaFault, Modifier, Queries, Query};
 use std::alloc::Global;
-use sw_scan::{byte_at, signs};
 use sw_text::{List, Name};
+use sw_text_scan::{byte_at, signs};
 
 /// At most so many conditions stand in each other in parentheses.
 pub const LEVELS: u8 = 128;

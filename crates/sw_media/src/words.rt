@@ -1,11 +1,11 @@
 // Keywords and types.
 ghost use Rattle.std.specs.Prelude.{◌≡◌, IfOk};
-ghost use Rattle.sw_scan.specs.Pieces.{piece};
+ghost use Rattle.sw_text_scan.specs.Pieces.{piece};
 ghost use Rattle.sw_media.specs.Words.{white, name_end, word, is_at, is_connector, is_value, is_type_at};
 
 use std::alloc::Global;
-use sw_scan::{Class, begins_name, piece, run_end};
 use sw_text::{Memory, Name};
+use sw_text_scan::{Class, begins_name, piece, run_end};
 
 /// The place behind white space.
 pub fn white(bytes: &[u8], at: usize) -> usize

@@ -9,8 +9,8 @@ use Rattle.std.proofs.Math.Seq.{take-append_seam, drop-append_seam}
 use Rattle.indexmap.specs.IndexMap.{insert_entry}
 use Rattle.indexmap.proofs.MapLemmas.{absent_from_lookup, insert_entry-absent}
 use Rattle.sw_world.specs.declared.end.Finish.{Finish}
-use Rattle.sw_world.specs.declared.op.How.{How}
-use Rattle.sw_world.specs.declared.op.How.TheVariants.{Use, Forward}
+use Rattle.sw_world.specs.declared.question.How.{How}
+use Rattle.sw_world.specs.declared.question.How.TheVariants.{Use, Forward}
 use Rattle.sw_modules.specs.declared.module.Module.{Module}
 use Rattle.sw_modules.specs.declared.module.Opened.{Opened}
 use Rattle.sw_modules.specs.declared.uses.Uses.{Uses}

@@ -1,11 +1,11 @@
 -- The calls of an evaluation lead the host's functions on.
 use Rattle.std.proofs.Common.{◌≡◌, ℕ, zero, suc, ◌+◌, ◌-◌, List, [], ◌∷◌, ◌++◌, length, Result, Ok, Err, refl, sym, ◌∙◌, ap, append_assoc, append-nil, add-zero, add-suc}
 use Rattle.sw_text.specs.declared.fault.Fault.{Fault}
-use Rattle.sw_syntax_tree.specs.declared.sheet.Sheet.{Sheet}
+use Rattle.sw_tree.specs.declared.sheet.Sheet.{Sheet}
 use Rattle.sw_values.specs.declared.plain.Plain.{Plain}
 use Rattle.sw_world.specs.Hosts.{HostState}
-use Rattle.sw_world.specs.declared.op.Op.{Op}
-use Rattle.sw_world.specs.declared.op.Op.TheVariants.{Load, Find, Get, Put, Say, Call}
+use Rattle.sw_world.specs.declared.question.Question.{Question}
+use Rattle.sw_world.specs.declared.question.Question.TheVariants.{Load, Find, Get, Put, Say, Call}
 use Rattle.sw_world.specs.declared.end.End.{End}
 use Rattle.sw_world.specs.Body.{Pair, Run, Job, Next, Asks, Ends, Goes, answers}
 use Rattle.sw_world.specs.Laws.{most_asked}
@@ -29,11 +29,11 @@ Lead functions inner inside =
     (o : Outside) (path text : List ℕ) (config : List (List ℕ × Plain)) → (inner o path text config).outside.hosts ≡ after_calls functions (inside o path text config) o.hosts
 
 module _ (functions : Functions) (inner : Evaluation) (inside : CallsIn) (lead : Lead functions inner inside) where
-  load_leads : (op : Op) (begin : Begin) (s : State) (o : Outside) → (load_by inner op begin s o).outside.hosts ≡ after_calls functions (calls_begun inside begin s o) o.hosts
+  load_leads : (op : Question) (begin : Begin) (s : State) (o : Outside) → (load_by inner op begin s o).outside.hosts ≡ after_calls functions (calls_begun inside begin s o) o.hosts
   load_leads op (Answered answer) s o = refl
   load_leads op (Open path text config) s o = lead (record o { live = s }) path text config
 
-  pub responds_leads : (op : Op) (o : Outside) → (responds functions inner op o).outside.hosts ≡ after_calls functions (calls_for inside op o) o.hosts
+  pub responds_leads : (op : Question) (o : Outside) → (responds functions inner op o).outside.hosts ≡ after_calls functions (calls_for inside op o) o.hosts
   responds_leads (Load site url span how config) o =
       load_leads (Load site url span how config) (begun (Load site url span how config) o.live).0 (begun (Load site url span how config) o.live).1 o
   responds_leads (Find site space kind name) o = refl
@@ -57,7 +57,7 @@ along_leads functions inner inside lead o (p ∷ ps) =
     ∙ sym (after_calls-append functions (calls_for inside p.0 o) (calls_along functions inner inside r.outside ps) o.hosts)
 
 -- one turn where the body asks
-pub calls_on-asks : (setting : Setting) (inner : Evaluation) (inside : CallsIn) (job : Job) (more : ℕ) (before : List Pair) (o : Outside) (op : Op)
+pub calls_on-asks : (setting : Setting) (inner : Evaluation) (inside : CallsIn) (job : Job) (more : ℕ) (before : List Pair) (o : Outside) (op : Question)
     → setting.body job (answers before) ≡ Asks op
     → calls_on setting inner inside job (suc more) before o
     ≡ calls_for inside op o ++ calls_on setting inner inside job more (before ++ (op, (responds setting.functions inner op o).answer) ∷ []) (responds setting.functions inner op o).outside

@@ -1,6 +1,6 @@
 -- The law of a body that was answered as what is outside answers.
 use Rattle.std.proofs.Common.{◌≡◌, ℕ, suc, ◌+◌, List, [], ◌∷◌, ◌++◌, length, refl, ◌∙◌, ap, append_assoc, append-nil, add-zero, add-suc}
-use Rattle.sw_world.specs.declared.op.Op.{Op}
+use Rattle.sw_world.specs.declared.question.Question.{Question}
 use Rattle.sw_world.specs.Body.{Pair, Run, Job, Asks, Goes, answers}
 use Rattle.sw_modules.specs.Outside.{Outside}
 use Rattle.sw_modules.specs.Fresh.{Setting, Evaluation, responds, goes_on, turn}
@@ -11,7 +11,7 @@ answers-append [] qs = refl
 answers-append (p ∷ ps) qs = ap (λ r. p.1 ∷ r) (answers-append ps qs)
 
 -- one turn where the body asks
-goes_on-asks : (setting : Setting) (inner : Evaluation) (job : Job) (text : List ℕ) (more : ℕ) (before : List Pair) (runs : List Run) (o : Outside) (op : Op)
+goes_on-asks : (setting : Setting) (inner : Evaluation) (job : Job) (text : List ℕ) (more : ℕ) (before : List Pair) (runs : List Run) (o : Outside) (op : Question)
     → setting.body job (answers before) ≡ Asks op
     → goes_on setting inner job text (suc more) before runs o
     ≡ goes_on setting inner job text more (before ++ (op, (responds setting.functions inner op o).answer) ∷ []) (runs ++ (responds setting.functions inner op o).runs) (responds setting.functions inner op o).outside

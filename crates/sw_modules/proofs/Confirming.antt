@@ -7,17 +7,17 @@ use Rattle.std.proofs.lemmas.List.{take_more, take_all}
 use Rattle.std.proofs.lemmas.List.Elements.{All-push}
 use Rattle.std.proofs.lemmas.Option.{slice_get-get_or}
 use Rattle.sw_text.specs.Names.{is_private}
-use Rattle.sw_syntax_tree.specs.declared.callable.Kind.TheVariants.{Variable}
+use Rattle.sw_tree.specs.declared.callable.Kind.TheVariants.{Variable}
 use Rattle.sw_values.specs.declared.plain.Plain.{Plain}
 use Rattle.sw_builtins.specs.Tables as built_in
 use Rattle.sw_world.specs.Hosts.{HostState}
-use Rattle.sw_world.specs.declared.op.Op.{Op}
-use Rattle.sw_world.specs.declared.op.Op.TheVariants.{Load, Find, Get, Put, Say, Call}
+use Rattle.sw_world.specs.declared.question.Question.{Question}
+use Rattle.sw_world.specs.declared.question.Question.TheVariants.{Load, Find, Get, Put, Say, Call}
 use Rattle.sw_world.specs.declared.answer.Answer.{Answer}
 use Rattle.sw_world.specs.declared.answer.Answer.TheVariants.{Owner, Value}
 use Rattle.sw_world.specs.Body.{Pair}
-use Rattle.sw_named.specs.declared.variables.NamedVariables.{NamedVariables}
-use Rattle.sw_named.specs.Named.{IsOfVariable, IsOfOne, IsNamed}
+use Rattle.sw_world.specs.declared.variables.NamedVariables.{NamedVariables}
+use Rattle.sw_world.specs.Named.{IsOfVariable, IsOfOne, IsNamed}
 use Rattle.sw_modules.specs.declared.module.Module.{Module}
 use Rattle.sw_modules.specs.declared.members.Origin.{Origin}
 use Rattle.sw_modules.specs.declared.uses.Uses.{Uses}
@@ -101,7 +101,7 @@ public_all variables es place le all = subst (λ l. All (IsPublic variables) l) 
 -- ---- what is outside
 
 -- such an answer changes nothing
-pub answer_stays : (functions : Functions) (s : State) (hosts : HostState) (op : Op) (answer : Answer) → IsAnswer s op answer
+pub answer_stays : (functions : Functions) (s : State) (hosts : HostState) (op : Question) (answer : Answer) → IsAnswer s op answer
     → plain functions op (record { live = s; hosts = hosts }) ≡ (answer, record { live = s; hosts = hosts })
 answer_stays functions s hosts (Find site space kind name) answer is = ap (λ a. (a, record { live = s; hosts = hosts })) is
 answer_stays functions s hosts (Get owner name) answer is = ap (λ a. (a, record { live = s; hosts = hosts })) is

@@ -5,15 +5,15 @@ use Rattle.std.specs.FinMap.{get}
 use Rattle.std.proofs.lemmas.List.{length-take}
 use Rattle.sw_text.specs.declared.place.Span.{Span}
 use Rattle.sw_text.specs.declared.fault.Fault.{Fault}
-use Rattle.sw_syntax_tree.specs.declared.sheet.Sheet.{Sheet}
+use Rattle.sw_tree.specs.declared.sheet.Sheet.{Sheet}
 use Rattle.sw_values.specs.declared.plain.Plain.{Plain}
 use Rattle.sw_folder.specs.Resolution.{resolved}
 use Rattle.sw_folder.specs.declared.resolve.ResolveFault.{ResolveFault}
 use Rattle.sw_folder.specs.declared.resolve.ResolveFault.TheVariants as R
-use Rattle.sw_world.specs.declared.op.Op.{Op}
-use Rattle.sw_world.specs.declared.op.Op.TheVariants.{Load, Find, Get, Put, Say, Call}
-use Rattle.sw_world.specs.declared.op.How.{How}
-use Rattle.sw_world.specs.declared.op.Given.{Given}
+use Rattle.sw_world.specs.declared.question.Question.{Question}
+use Rattle.sw_world.specs.declared.question.Question.TheVariants.{Load, Find, Get, Put, Say, Call}
+use Rattle.sw_world.specs.declared.question.How.{How}
+use Rattle.sw_world.specs.declared.question.Given.{Given}
 use Rattle.sw_world.specs.declared.answer.Answer.{Answer}
 use Rattle.sw_world.specs.declared.end.End.{End}
 use Rattle.sw_world.specs.declared.end.End.TheVariants.{Done, Fault as Fault_end}
@@ -136,7 +136,7 @@ module _ (setting : Setting) (loads : ℕ) (inner : Evaluation) (well : Inner se
       let all : EndsWell setting (suc loads) path text given c = well (record o { live = s }) path text given few one_more in
       record { runs = all.runs; same_depth = ended_opened site url span how config (path_in c.outside.live.opened) c.end c.outside.live loads all.same_depth }
 
-  responds_well : (op : Op) (o : Outside) → length o.live.opened ≡ loads → RespondsWell setting loads (responds setting.functions inner op o)
+  responds_well : (op : Question) (o : Outside) → length o.live.opened ≡ loads → RespondsWell setting loads (responds setting.functions inner op o)
   responds_well (Load site url span how config) o same =
       let b = begun (Load site url span how config) o.live in
       load_responds site url span how config o b.0 b.1 same (load_begins site url span how config o.live)
@@ -155,13 +155,13 @@ module _ (setting : Setting) (loads : ℕ) (inner : Evaluation) (well : Inner se
     length-answers (p ∷ ps) = ap suc (length-answers ps)
 
     -- a body that asks has had fewer answers than every body may have
-    asks_few : (pairs : List Pair) (op : Op) → setting.body job (answers pairs) ≡ Asks op → length pairs ≤ most_asked → length pairs < most_asked
+    asks_few : (pairs : List Pair) (op : Question) → setting.body job (answers pairs) ≡ Asks op → length pairs ≤ most_asked → length pairs < most_asked
     asks_few pairs op asks le = by (le_cases (length pairs) most_asked le)
       where
         le_cases : (m n : ℕ) → m ≤ n → (m < n) ⊎ (m ≡ n)
         le_cases m n l = grind arith
 
-        apart : {op : Op} {end : End} → Asks op ≡ Ends end → ⊥
+        apart : {op : Question} {end : End} → Asks op ≡ Ends end → ⊥
         apart e = cc
 
         by : (length pairs < most_asked) ⊎ (length pairs ≡ most_asked) → length pairs < most_asked

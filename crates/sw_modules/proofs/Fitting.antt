@@ -2,15 +2,15 @@
 use Rattle.std.proofs.Common.{◌≡◌, ℕ, Bool, true, false, List, Option, None, Some, Result, Ok, Err, IfOk, cond, bytes_eq, find, sym, subst}
 use Rattle.std.specs.List.{list_any}
 use Rattle.std.specs.Map.{lookup}
-use Rattle.sw_syntax_tree.specs.declared.callable.Callable as tree
-use Rattle.sw_syntax_tree.specs.declared.callable.Kind.{Kind}
-use Rattle.sw_syntax_tree.specs.declared.callable.Kind.TheVariants.{Variable, Function, Mixin}
+use Rattle.sw_tree.specs.declared.callable.Callable as tree
+use Rattle.sw_tree.specs.declared.callable.Kind.{Kind}
+use Rattle.sw_tree.specs.declared.callable.Kind.TheVariants.{Variable, Function, Mixin}
 use Rattle.sw_values.specs.declared.plain.Plain.{Plain}
 use Rattle.sw_builtins.specs.declared.built_in.Found.{Found}
 use Rattle.sw_builtins.specs.declared.built_in.Found.TheVariants as F
 use Rattle.sw_builtins.specs.Tables as built_in
-use Rattle.sw_world.specs.declared.op.Op.{Op}
-use Rattle.sw_world.specs.declared.op.Op.TheVariants.{Load, Find, Get, Put, Say, Call}
+use Rattle.sw_world.specs.declared.question.Question.{Question}
+use Rattle.sw_world.specs.declared.question.Question.TheVariants.{Load, Find, Get, Put, Say, Call}
 use Rattle.sw_world.specs.declared.answer.Answer.{Answer}
 use Rattle.sw_world.specs.declared.answer.Answer.TheVariants.{NoNamespace, NoMember, LeftOut, Conflict, BuiltIn}
 use Rattle.sw_world.specs.Questions.{IsLoad, Fits}
@@ -122,7 +122,7 @@ module _ (site : List ℕ) (space : Option (List ℕ)) (name : List ℕ) where
       either kind (bytes_eq site (path_in s.opened)) (used_member s (uses_in s.opened) space kind name) (loaded_member s site (lookup (bytes_eq site) s.loaded) space kind name)
       (used_fits s (uses_in s.opened) kind space) (loaded_fits s kind (lookup (bytes_eq site) s.loaded) space)
 
-pub plain_fits : (functions : Functions) (op : Op) (o : Outside) → (IsLoad op → ⊥) → Fits op (plain functions op o).0
+pub plain_fits : (functions : Functions) (op : Question) (o : Outside) → (IsLoad op → ⊥) → Fits op (plain functions op o).0
 plain_fits functions (Load site url span how config) o not = absurd (not tt)
 plain_fits functions (Find site space kind name) o not = found_fits site space name o.live kind
 plain_fits functions (Get owner name) o not = tt
@@ -131,7 +131,7 @@ plain_fits functions (Say kind span text) o not = tt
 plain_fits functions (Call name args) o not = tt
 
 -- what a find gives fits it
-pub find_fits : {E : Type 0} (op : Op) (given : Result Answer E) (s : State) (site : List ℕ) (space : Option (List ℕ)) (kind : Kind) (name : List ℕ) → op ≡ Find site space kind name
+pub find_fits : {E : Type 0} (op : Question) (given : Result Answer E) (s : State) (site : List ℕ) (space : Option (List ℕ)) (kind : Kind) (name : List ℕ) → op ≡ Find site space kind name
     → IfOk given (λ answer. answer ≡ found s site space kind name) → IfOk given (λ answer. Fits op answer)
 find_fits op (Ok answer) s site space kind name is same =
     subst (λ o. Fits o answer) (sym is) (subst (λ a. Fits (Find site space kind name) a) (sym same) (found_fits site space name s kind))

@@ -2,9 +2,9 @@
 use Rattle.std.proofs.Common.{◌≡◌, ℕ, zero, suc, ◌+◌, ◌<◌, ◌≤◌, Bool, true, false, cond, List, [], ◌∷◌, ◌++◌, length, take, get_or, bytes_eq, codes, Option, None, Some, slice_get, refl, sym, ◌∙◌, ap, arith}
 use Rattle.std.specs.Option.{option_map}
 use Rattle.std.proofs.lemmas.Option.{slice_get-get_or}
-use Rattle.sw_syntax_tree.specs.declared.callable.Kind.{Kind}
+use Rattle.sw_tree.specs.declared.callable.Kind.{Kind}
 use Rattle.sw_builtins.specs.Tables.{Row, kind_and_name, math, string, list, maps, color, meta, rows_of}
-use Rattle.sw_world.specs.declared.op.Filter.{Filter}
+use Rattle.sw_world.specs.declared.question.Filter.{Filter}
 use Rattle.sw_modules.specs.declared.members.Entry.{Entry}
 use Rattle.sw_modules.specs.Interfaces.{own_entry, passed}
 use Rattle.sw_modules.proofs.PassedOn.{one_more, passed_rows, rows-append}

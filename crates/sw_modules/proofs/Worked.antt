@@ -1,7 +1,7 @@
 -- Small cases of forwards, computed.
 use Rattle.std.proofs.Common.{◌≡◌, ℕ, List, [], ◌∷◌, codes, Bool, true, false, refl}
-use Rattle.sw_syntax_tree.specs.declared.callable.Kind.TheVariants.{Variable, Function}
-use Rattle.sw_world.specs.declared.op.Filter.TheVariants.{All, Hide}
+use Rattle.sw_tree.specs.declared.callable.Kind.TheVariants.{Variable, Function}
+use Rattle.sw_world.specs.declared.question.Filter.TheVariants.{All, Hide}
 use Rattle.sw_modules.specs.declared.members.Entry.{Entry}
 use Rattle.sw_modules.specs.Interfaces.{no_members, own_entry, passed, joined, conflicts}
 

@@ -3,9 +3,9 @@
 use Rattle.std.specs.Prelude.{List, [], bytes_eq}
 use Rattle.std.specs.List.{fold}
 use Rattle.indexmap.specs.IndexMap.{insert_entry}
-use Rattle.sw_syntax_tree.specs.declared.callable.Callable.{Callable}
-use Rattle.sw_syntax_tree.specs.declared.callable.Kind.{Kind}
-use Rattle.sw_syntax_tree.specs.declared.callable.Kind.TheVariants.{Variable, Function, Mixin}
+use Rattle.sw_tree.specs.declared.callable.Callable.{Callable}
+use Rattle.sw_tree.specs.declared.callable.Kind.{Kind}
+use Rattle.sw_tree.specs.declared.callable.Kind.TheVariants.{Variable, Function, Mixin}
 use Rattle.sw_modules.specs.declared.callables.Callables.{Callables}
 
 abbrev pub no_callables : Callables

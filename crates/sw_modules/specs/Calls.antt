@@ -1,11 +1,11 @@
 -- The calls of the host's functions in an evaluation, in order (this project's own rule).
 use Rattle.std.specs.Prelude.{◌≡◌, ℕ, zero, suc, ◌-◌, List, [], ◌∷◌, ◌++◌, length, Result, Ok, Err}
 use Rattle.sw_text.specs.declared.fault.Fault.{Fault}
-use Rattle.sw_syntax_tree.specs.declared.sheet.Sheet.{Sheet}
+use Rattle.sw_tree.specs.declared.sheet.Sheet.{Sheet}
 use Rattle.sw_values.specs.declared.plain.Plain.{Plain}
 use Rattle.sw_world.specs.Hosts.{HostState}
-use Rattle.sw_world.specs.declared.op.Op.{Op}
-use Rattle.sw_world.specs.declared.op.Op.TheVariants.{Load, Find, Get, Put, Say, Call}
+use Rattle.sw_world.specs.declared.question.Question.{Question}
+use Rattle.sw_world.specs.declared.question.Question.TheVariants.{Load, Find, Get, Put, Say, Call}
 use Rattle.sw_world.specs.Body.{Pair, Job, Next, Asks, Ends, answers}
 use Rattle.sw_world.specs.Laws.{most_asked}
 use Rattle.sw_modules.specs.declared.live.Begin.{Begin}
@@ -33,7 +33,7 @@ calls_begun inside (Answered answer) s o = []
 calls_begun inside (Open path text config) s o = inside (record o { live = s }) path text config
 
 -- the calls that answer a question; those of the modules that a load opens are given by inside
-abbrev pub calls_for : CallsIn → Op → Outside → List HostCall
+abbrev pub calls_for : CallsIn → Question → Outside → List HostCall
 calls_for inside (Load site url span how config) o =
     let b = begun (Load site url span how config) o.live in calls_begun inside b.0 b.1 o
 calls_for inside (Find site space kind name) o = []

@@ -3,11 +3,11 @@ use Rattle.std.specs.Prelude.{ℕ, zero, suc, ◌-◌, List, [], ◌∷◌, ◌+
 use Rattle.sw_text.specs.Starts.{start_of}
 use Rattle.sw_text.specs.declared.fault.Fault.{Fault}
 use Rattle.sw_text.specs.declared.fault.FaultCode.TheVariants.{Turns}
-use Rattle.sw_syntax_tree.specs.declared.sheet.Sheet.{Sheet}
+use Rattle.sw_tree.specs.declared.sheet.Sheet.{Sheet}
 use Rattle.sw_values.specs.declared.plain.Plain.{Plain}
 use Rattle.sw_world.specs.Hosts.{HostState}
-use Rattle.sw_world.specs.declared.op.Op.{Op}
-use Rattle.sw_world.specs.declared.op.Op.TheVariants.{Load, Find, Get, Put, Say, Call}
+use Rattle.sw_world.specs.declared.question.Question.{Question}
+use Rattle.sw_world.specs.declared.question.Question.TheVariants.{Load, Find, Get, Put, Say, Call}
 use Rattle.sw_world.specs.declared.answer.Answer.{Answer}
 use Rattle.sw_world.specs.declared.end.End.{End}
 use Rattle.sw_world.specs.declared.end.End.TheVariants.{Fault as Fault_end}
@@ -50,21 +50,21 @@ abbrev pub at_once : Outside → List Run → Answer × State → Response
 at_once o runs p = record { answer = p.0; outside = record o { live = p.1 }; runs = runs }
 
 -- the answer to the innermost open load, when its body has ended so
-abbrev pub load_ended : Op → Outcome → Response
+abbrev pub load_ended : Question → Outcome → Response
 load_ended op c = at_once c.outside c.runs (ended_by op (path_in c.outside.live.opened) c.end c.outside.live)
 
-abbrev pub load_by : Evaluation → Op → Begin → State → Outside → Response
+abbrev pub load_by : Evaluation → Question → Begin → State → Outside → Response
 load_by inner op (Answered answer) s o = record { answer = answer; outside = record o { live = s }; runs = [] }
 load_by inner op (Open path text config) s o = load_ended op (inner (record o { live = s }) path text config)
 
-abbrev pub load_response : Evaluation → Op → Begin × State → Outside → Response
+abbrev pub load_response : Evaluation → Question → Begin × State → Outside → Response
 load_response inner op p o = load_by inner op p.0 p.1 o
 
 abbrev pub plainly : Answer × Outside → Response
 plainly p = record { answer = p.0; outside = p.1; runs = [] }
 
 -- the answer to a question; the modules that a load opens are evaluated by inner
-abbrev pub responds : Functions → Evaluation → Op → Outside → Response
+abbrev pub responds : Functions → Evaluation → Question → Outside → Response
 responds functions inner (Load site url span how config) o =
     load_response inner (Load site url span how config) (begun (Load site url span how config) o.live) o
 responds functions inner (Find site space kind name) o = plainly (plain functions (Find site space kind name) o)

@@ -7,14 +7,14 @@ use Rattle.std.specs.Option.{option_map_or}
 use Rattle.std.specs.Map.{lookup, keys_of}
 use Rattle.indexmap.specs.IndexMap.{insert_entry}
 use Rattle.sw_text.specs.Names.{is_private}
-use Rattle.sw_syntax_tree.specs.declared.callable.Kind.{Kind}
-use Rattle.sw_syntax_tree.specs.declared.callable.Kind.TheVariants.{Variable, Function, Mixin}
+use Rattle.sw_tree.specs.declared.callable.Kind.{Kind}
+use Rattle.sw_tree.specs.declared.callable.Kind.TheVariants.{Variable, Function, Mixin}
 use Rattle.sw_builtins.specs.Tables as built_in
-use Rattle.sw_world.specs.declared.op.How.{How}
-use Rattle.sw_world.specs.declared.op.How.TheVariants.{Use, Forward}
-use Rattle.sw_world.specs.declared.op.Filter.{Filter}
-use Rattle.sw_world.specs.declared.op.Filter.TheVariants.{All, Show, Hide}
-use Rattle.sw_world.specs.declared.op.Member.{Member}
+use Rattle.sw_world.specs.declared.question.How.{How}
+use Rattle.sw_world.specs.declared.question.How.TheVariants.{Use, Forward}
+use Rattle.sw_world.specs.declared.question.Filter.{Filter}
+use Rattle.sw_world.specs.declared.question.Filter.TheVariants.{All, Show, Hide}
+use Rattle.sw_world.specs.declared.question.Member.{Member}
 use Rattle.sw_modules.specs.declared.members.Origin.{Origin}
 use Rattle.sw_modules.specs.declared.members.Entry.{Entry}
 use Rattle.sw_modules.specs.declared.members.Members.{Members}

@@ -16,10 +16,10 @@ use Rattle.sw_folder.specs.Resolution.{resolved, has_extension}
 use Rattle.sw_folder.specs.declared.resolve.ResolveFault.{ResolveFault}
 use Rattle.sw_folder.specs.declared.resolve.ResolveFault.TheVariants as R
 use Rattle.sw_values.specs.declared.plain.Plain.{Plain}
-use Rattle.sw_world.specs.declared.op.Op.{Op}
-use Rattle.sw_world.specs.declared.op.Op.TheVariants.{Load}
-use Rattle.sw_world.specs.declared.op.How.{How}
-use Rattle.sw_world.specs.declared.op.Given.{Given}
+use Rattle.sw_world.specs.declared.question.Question.{Question}
+use Rattle.sw_world.specs.declared.question.Question.TheVariants.{Load}
+use Rattle.sw_world.specs.declared.question.How.{How}
+use Rattle.sw_world.specs.declared.question.Given.{Given}
 use Rattle.sw_world.specs.declared.answer.Answer.{Answer}
 use Rattle.sw_world.specs.declared.answer.Answer.TheVariants.{Loaded, Refused, Done}
 use Rattle.sw_world.specs.declared.end.End.{End}
@@ -105,7 +105,7 @@ built_in_used url span how config s =
     else built_in_unless (first_explicit config) url span how s
 
 -- what a load begins with, and the next state
-abbrev pub begun : Op → State → Begin × State
+abbrev pub begun : Question → State → Begin × State
 begun (Load site url span how config) s =
     if is_sass url then at_once (built_in_used url span how config s)
     else begin_url (resolved s.folder site url s.paths) span how config s
@@ -121,7 +121,7 @@ abbrev pub interface_at_end : List ℕ → Finish → State → List Entry
 interface_at_end path finish s = interface_of path (module_of finish (uses_in s.opened))
 
 -- the answer to the load whose body has ended so, and the next state
-abbrev pub ended_by : Op → List ℕ → End → State → Answer × State
+abbrev pub ended_by : Question → List ℕ → End → State → Answer × State
 ended_by (Load site url span how config) path (Done_end finish) s =
     used_unless (first_untaken config finish.taken) how path (interface_at_end path finish s) finish.taken span
     (loaded_now finish s)

@@ -4,8 +4,8 @@ use Rattle.std.specs.Map.{lookup}
 use Rattle.sw_text.specs.Names.{is_private}
 use Rattle.sw_values.specs.declared.plain.Plain.{Plain}
 use Rattle.sw_world.specs.Hosts.{HostState}
-use Rattle.sw_world.specs.declared.op.Op.{Op}
-use Rattle.sw_world.specs.declared.op.Op.TheVariants.{Load, Find, Get, Put, Say, Call}
+use Rattle.sw_world.specs.declared.question.Question.{Question}
+use Rattle.sw_world.specs.declared.question.Question.TheVariants.{Load, Find, Get, Put, Say, Call}
 use Rattle.sw_world.specs.declared.answer.Answer.{Answer}
 use Rattle.sw_world.specs.declared.answer.Answer.TheVariants.{Value, Done, Hosted}
 use Rattle.sw_modules.specs.State.{State, with_variable}
@@ -22,7 +22,7 @@ pub record Outside : Type 0 where
   pub hosts : HostState
 
 -- the answer to a question that is no load, and what is outside then
-abbrev pub plain : Functions → Op → Outside → Answer × Outside
+abbrev pub plain : Functions → Question → Outside → Answer × Outside
 plain functions (Find site space kind name) o = (found o.live site space kind name, o)
 plain functions (Get owner name) o = (Value (value_of o.live owner name), o)
 plain functions (Put owner name value) o =
@@ -39,7 +39,7 @@ plain functions (Call name args) o =
 plain functions (Load site url span how config) o = (Done, o)
 
 -- a question for a name or a value is answered so, which changes nothing
-abbrev pub IsAnswer : State → Op → Answer → Type 0
+abbrev pub IsAnswer : State → Question → Answer → Type 0
 IsAnswer s (Find site space kind name) answer = found s site space kind name ≡ answer
 IsAnswer s (Get owner name) answer = Value (value_of s owner name) ≡ answer
 IsAnswer s (Put owner name value) answer = ⊥

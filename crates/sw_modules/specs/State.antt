@@ -6,8 +6,8 @@ use Rattle.indexmap.specs.IndexMap.{insert_entry}
 use Rattle.sw_css_tree.specs.Output.{Output}
 use Rattle.sw_folder.specs.Files.{Files}
 use Rattle.sw_values.specs.declared.plain.Plain.{Plain}
-use Rattle.sw_world.specs.declared.op.How.{How}
-use Rattle.sw_world.specs.declared.op.Saying.{Saying}
+use Rattle.sw_world.specs.declared.question.How.{How}
+use Rattle.sw_world.specs.declared.question.Saying.{Saying}
 use Rattle.sw_world.specs.declared.end.Finish.{Finish}
 use Rattle.sw_modules.specs.declared.members.Entry.{Entry}
 use Rattle.sw_modules.specs.declared.module.Module.{Module}

@@ -9,14 +9,13 @@ ghost use Rattle.sw_modules.specs.State.{with_variable};
 
 use crate::Live;
 use std::alloc::Global;
-use sw_named::{ConfirmsNamed, NamedVariables};
 use sw_text::{Memory, Name, Span};
 use sw_values::Value;
-use sw_world::{Answer, Confirms, Hosts, Op, SayKind, World};
+use sw_world::{Answer, Confirms, ConfirmsNamed, Hosts, NamedVariables, Question, SayKind, World};
 
 impl<'a> Live<'a> {
     /// The answer to a question that is no load. After `Memory` the state and the host are as before.
-    pub fn answer<H: Hosts>(&mut self, op: &Op, hosts: &mut H) -> Result<Answer, Memory>
+    pub fn answer<H: Hosts>(&mut self, op: &Question, hosts: &mut H) -> Result<Answer, Memory>
         requires { IsLoad op.now → ⊥ }
         ensures plain { IfOk result (λ answer. plain (record { answer = H.answer; after = H.after }) op.now
             (record { live = self.old; hosts = H.state hosts.old })
@@ -26,23 +25,23 @@ impl<'a> Live<'a> {
         ensures hosts_err { OnErr result (hosts.new ≡ hosts.old) }
     {
         match op {
-            Op::Load { .. } => unreachable!(),
-            Op::Find {
+            Question::Load { .. } => unreachable!(),
+            Question::Find {
                 site,
                 space,
                 kind,
                 name,
             } => self.find(site, space, *kind, name),
-            Op::Get { owner, name } => Ok(Answer::Value(self.value_of(owner, name)?)),
-            Op::Put { owner, name, value } => {
+            Question::Get { owner, name } => Ok(Answer::Value(self.value_of(owner, name)?)),
+            Question::Put { owner, name, value } => {
                 self.put(owner, name, value)?;
                 Ok(Answer::Done)
             }
-            Op::Say { kind, span, text } => {
+            Question::Say { kind, span, text } => {
                 self.say(*kind, span, text)?;
                 Ok(Answer::Done)
             }
-            Op::Call { name, args } => {
+            Question::Call { name, args } => {
                 let given = hosts.call(self.allocator(), name, args.get())?;
                 Ok(Answer::Hosted(given))
             }
@@ -79,14 +78,14 @@ impl<'b, 'a, H: Hosts> World for Asked<'b, 'a, H> {
         ≡ (answer, record { live = t.live.now; hosts = H.state t.hosts.now })) × (t.live.ghost_name ≡ w.live.ghost_name)
         × (t.hosts.ghost_name ≡ w.hosts.ghost_name) };
 
-    fn ask(&mut self, _alloc: Global, op: &Op) -> Result<Answer, Memory> {
+    fn ask(&mut self, _alloc: Global, op: &Question) -> Result<Answer, Memory> {
         self.live.answer(op, self.hosts)
     }
 }
 
 impl<'b, 'a, H: Hosts> Confirms for Asked<'b, 'a, H> {
     #[tactic(auto, using(crate::proofs::Confirming::answer_stays))]
-    fn confirms(&mut self, op: &Op, kept: &Answer) -> bool {
+    fn confirms(&mut self, op: &Question, kept: &Answer) -> bool {
         self.live.confirms(op, kept)
     }
 }

@@ -4,8 +4,8 @@ ghost use Rattle.sw_modules.specs.Callables.{no_callables, with_callable, callab
 
 use crate::RareTable;
 use std::alloc::Global;
-use sw_syntax_tree::{Callable, Kind};
 use sw_text::{Memory, Shared};
+use sw_tree::{Callable, Kind};
 
 /// A module's own functions and mixins by their names, each shared with the body that left it behind.
 #[derive(Drop)]

@@ -10,10 +10,10 @@ use crate::live::Recent;
 use crate::loads::is_innermost;
 use crate::{Live, Module, Uses};
 use sw_builtins::{Found as Meaning, find};
-use sw_syntax_tree::{Callable, Kind};
 use sw_text::{Name, Shared};
+use sw_tree::{Callable, Kind};
 use sw_values::Value;
-use sw_world::{Answer, Op};
+use sw_world::{Answer, Question};
 
 /// A name of a kind, and what was answered of it.
 #[derive(Clone, Copy, Drop)]
@@ -24,9 +24,9 @@ struct Named<'n> {
 }
 
 impl<'a> Live<'a> {
-    /// True only where the question is one for a name or for a value, and is answered so. The answer isn't made, so what
-    /// is false may be answered so all the same. Takes no memory.
-    pub fn confirms(&mut self, op: &Op, kept: &Answer) -> bool
+    /// True only where the question is one for a name or for a value, and is answered so. The answer isn't made, so
+    /// what is false may be answered so all the same. Takes no memory.
+    pub fn confirms(&mut self, op: &Question, kept: &Answer) -> bool
         ensures answer { OnTrue result (IsAnswer self.old op.now kept.now) }
         ensures same { self.new ≡ self.old }
     {
@@ -41,12 +41,12 @@ impl<'a> Live<'a> {
 
     // Where a kept answer is found, if it is.
     #[inline(always)]
-    fn place_of(&self, op: &Op, kept: &Answer) -> Option<Recent>
+    fn place_of(&self, op: &Question, kept: &Answer) -> Option<Recent>
         ensures { IfSome result (λ _. IsAnswer self.now op.now kept.now) }
     {
         match (op, kept) {
             (
-                Op::Find {
+                Question::Find {
                     site,
                     space,
                     kind,
@@ -61,7 +61,9 @@ impl<'a> Live<'a> {
                 };
                 self.place_found(site, space, named)
             }
-            (Op::Get { owner, name }, Answer::Value(value)) => self.place_held(owner, name, value),
+            (Question::Get { owner, name }, Answer::Value(value)) => self.place_held(
+                owner, name, value,
+            ),
             _ => None,
         }
     }

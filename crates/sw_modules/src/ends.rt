@@ -13,13 +13,13 @@ use crate::loads::{below, counts, first_untaken, refused, takes, truncate_at, us
 use crate::uses::Source;
 use crate::{Entry, Live, Module, Opened, UsesCounts};
 use sw_text::{Fault, FaultCode, List, Memory, Name, Shared, Span};
-use sw_world::{Answer, End, Finish, Given, How, Op};
+use sw_world::{Answer, End, Finish, Given, How, Question};
 
 impl<'a> Live<'a> {
     /// The answer to the innermost open load, whose body ended so. At its end the module is recorded and used; a name
     /// of a `with` that it didn't take refuses the load, and so does a namespace that stands for a module already, or
     /// a member that another forward brought from elsewhere. After `Memory` the state is as before.
-    pub fn end(&mut self, op: &Op, end: &End) -> Result<Answer, Memory>
+    pub fn end(&mut self, op: &Question, end: &End) -> Result<Answer, Memory>
         requires is_load { IsLoad op.now }
         requires is_open { 0 < length self.old.opened }
         ensures ok { IfOk result (λ answer. ended_by op.now (path_in self.old.opened) end.now self.old
@@ -28,7 +28,7 @@ impl<'a> Live<'a> {
         ensures closes { OnOk result (length self.new.opened + 1 ≡ length self.old.opened) }
         ensures err { OnErr result (self.new ≡ self.old) }
     {
-        let Op::Load {
+        let Question::Load {
             span,
             how,
             config,

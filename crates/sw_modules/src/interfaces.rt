@@ -9,8 +9,8 @@ use crate::names::has_own;
 use crate::{Module, RareTable};
 use std::alloc::Global;
 use sw_builtins::member;
-use sw_syntax_tree::Kind;
 use sw_text::{List, Memory, Name};
+use sw_tree::Kind;
 use sw_world::{Filter, How, Member, Table};
 
 /// More members than any built-in module has.

@@ -5,7 +5,7 @@ ghost use Rattle.std.specs.Option.{option_copied};
 ghost use Rattle.sw_world.specs.Questions.{IsLoad, Fits};
 ghost use Rattle.std.specs.FinMap.{get};
 ghost use Rattle.sw_folder.specs.Files.{most_bytes};
-ghost use Rattle.sw_world.specs.declared.op.How.{How};
+ghost use Rattle.sw_world.specs.declared.question.How.{How};
 ghost use Rattle.sw_modules.specs.Loads.{config_of, entry_fault, is_explicit, refused, first_untaken};
 ghost use Rattle.sw_modules.specs.declared.live.Begin.TheVariants.{Answered};
 
@@ -20,7 +20,7 @@ use std::marker::Model;
 use sw_folder::{Folder, ResolveFault, has_extension, is_path};
 use sw_text::{Fault, FaultCode, List, Memory, Name, Shared, Span};
 use sw_values::Value;
-use sw_world::{Answer, Config, Finish, Given, How, Op, SayKind, Saying};
+use sw_world::{Answer, Config, Finish, Given, How, Question, SayKind, Saying};
 
 pub(crate) const MOST_OPEN: usize = 64;
 
@@ -69,8 +69,8 @@ pub struct Live<'a> {
 impl<'a> Model for Live<'a> {
     ghost use Rattle.std.specs.Coded.{codes};
     ghost use Rattle.sw_folder.specs.Files.{files_code};
-    ghost use Rattle.sw_syntax_tree.specs.contracts.expr.ExprKind as expr;
-    ghost use Rattle.sw_syntax_tree.specs.contracts.statement.Statement as statement;
+    ghost use Rattle.sw_tree.specs.contracts.expr.ExprKind as expr;
+    ghost use Rattle.sw_tree.specs.contracts.statement.Statement as statement;
     ghost use Rattle.sw_values.specs.contracts.plain.Plain as plain;
     ghost use Rattle.sw_modules.specs.State.{State};
 
@@ -174,15 +174,15 @@ impl<'a> Live<'a> {
 
     /// The answer to a load, or the module whose body has to run for it. The refusals of a URL of the folder come in
     /// this order: it means no file or several; the module is being loaded; 64 loads are open; the module is loaded and
-    /// a `with` gives values to it; its namespace stands for a module already, or a forward of it brings what another one
-    /// brought from elsewhere. After `Memory` the state is as before.
-    pub fn begin(&mut self, op: &Op) -> Result<Begin, Memory>
+    /// a `with` gives values to it; its namespace stands for a module already, or a forward of it brings what another
+    /// one brought from elsewhere. After `Memory` the state is as before.
+    pub fn begin(&mut self, op: &Question) -> Result<Begin, Memory>
         requires { IsLoad op.now }
         ensures ok { IfOk result (λ begin. begun op.now self.old ≡ (begin, self.new)) }
         ensures opens { IfOk result (λ begin. IsBegun begin self.old self.new) }
         ensures err { OnErr result (self.new ≡ self.old) }
     {
-        let Op::Load {
+        let Question::Load {
             site,
             url,
             span,

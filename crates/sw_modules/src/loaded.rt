@@ -23,8 +23,8 @@ pub struct Loaded {
 impl Model for Loaded {
     ghost use Rattle.std.specs.Prelude.{List, ℕ};
     ghost use Rattle.std.specs.Coded.{codes};
-    ghost use Rattle.sw_syntax_tree.specs.contracts.expr.ExprKind as expr;
-    ghost use Rattle.sw_syntax_tree.specs.contracts.statement.Statement as statement;
+    ghost use Rattle.sw_tree.specs.contracts.expr.ExprKind as expr;
+    ghost use Rattle.sw_tree.specs.contracts.statement.Statement as statement;
     ghost use Rattle.sw_values.specs.contracts.plain.Plain as plain;
     ghost use Rattle.sw_modules.specs.declared.module.Module.{Module};
 

@@ -3,7 +3,7 @@ ghost use Rattle.std.specs.Prelude.{◌≡◌, find, ℕ, List, Some, IfOk};
 ghost use Rattle.std.specs.List.{list_any};
 ghost use Rattle.std.specs.Option.{option_copied, option_map};
 ghost use Rattle.std.specs.Map.{lookup};
-ghost use Rattle.sw_syntax_tree.specs.declared.callable.Kind.{Kind};
+ghost use Rattle.sw_tree.specs.declared.callable.Kind.{Kind};
 ghost use Rattle.sw_modules.specs.Uses.{no_uses};
 ghost use Rattle.sw_modules.specs.State.{uses_in};
 ghost use Rattle.sw_modules.specs.Names.{member_of, forwarded_origin, public_origin, public_of, public_member, is_member, brings, brings_other, star_member, used_member, own_or_used, own_member, loaded_member, found};
@@ -14,8 +14,8 @@ use crate::loads::is_innermost;
 use crate::names::{Found, built_in_member, has_meaning, has_own, is_member, own_member};
 use crate::{Live, Module, Origin, Used, Uses};
 use sw_builtins::find;
-use sw_syntax_tree::Kind;
 use sw_text::{Memory, Name};
+use sw_tree::Kind;
 use sw_world::Answer;
 
 impl<'a> Live<'a> {

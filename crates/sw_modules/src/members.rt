@@ -6,8 +6,8 @@ ghost use Rattle.sw_modules.specs.Uses.{counts_of, first_members};
 
 use crate::RareTable;
 use std::alloc::Global;
-use sw_syntax_tree::Kind;
 use sw_text::{Memory, Name};
+use sw_tree::Kind;
 
 /// Where a member is from: the path of the module that declares it, or the URL of the built-in module that has it, and
 /// its name there.

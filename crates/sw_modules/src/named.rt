@@ -4,10 +4,10 @@ ghost use Rattle.std.specs.Bool.{OnTrue};
 ghost use Rattle.std.specs.List.{All};
 ghost use Rattle.std.specs.Map.{lookup};
 ghost use Rattle.sw_text.specs.Names.{is_private};
-ghost use Rattle.sw_syntax_tree.specs.declared.callable.Kind.TheVariants.{Variable};
+ghost use Rattle.sw_tree.specs.declared.callable.Kind.TheVariants.{Variable};
 ghost use Rattle.sw_values.specs.declared.plain.Plain.{Plain};
 ghost use Rattle.sw_world.specs.Body.{Pair};
-ghost use Rattle.sw_named.specs.Named.{IsNamed};
+ghost use Rattle.sw_world.specs.Named.{IsNamed};
 ghost use Rattle.sw_modules.specs.Names.{found, public_of};
 ghost use Rattle.sw_modules.specs.Outside.{IsAnswer, IsPublic};
 
@@ -15,9 +15,8 @@ use crate::built_ins::is_sass;
 use crate::live::Recent;
 use crate::loads::is_innermost;
 use crate::{Live, Uses, Variables};
-use sw_named::NamedVariables;
 use sw_values::Value;
-use sw_world::Table;
+use sw_world::{NamedVariables, Table};
 
 impl<'a> Live<'a> {
     /// True only where all questions that these variables stand for are answered so. No answer is made, so what is

@@ -8,8 +8,8 @@ ghost use Rattle.sw_modules.specs.Names.{variable_of, callable_of, own_member, b
 use crate::live::Recent;
 use crate::{Module, Variables};
 use sw_builtins::Found as Meaning;
-use sw_syntax_tree::{Callable, Kind};
 use sw_text::{Memory, Name, Shared};
+use sw_tree::{Callable, Kind};
 use sw_world::Answer;
 
 /// What a name means, and the places at which that was found.

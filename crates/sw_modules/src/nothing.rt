@@ -15,6 +15,7 @@ pub struct Nothing {
 }
 
 impl Nothing {
+    /// Both lists, which are empty. `Memory` exactly where none was found.
     pub fn new(alloc: Global) -> Result<Nothing, Memory> {
         Ok(Nothing {
             names: Shared::new(alloc, List::new(alloc))?,

@@ -2,8 +2,8 @@
 use Rattle.std.proofs.Common.{◌≡◌, ◌≢◌, ◌⊎◌, List, [], ◌∷◌, ◌++◌, append_assoc, refl, sym, ◌∙◌, ap, subst, inl, inr, arith}
 use Rattle.std.specs.List.{All, Any, Contains}
 use Rattle.std.proofs.lemmas.List.Elements.{All-contains}
-use Rattle.sw_world.specs.declared.op.Op.{Op}
-use Rattle.sw_world.specs.declared.op.Op.TheVariants as ops
+use Rattle.sw_world.specs.declared.question.Question.{Question}
+use Rattle.sw_world.specs.declared.question.Question.TheVariants as ops
 use Rattle.sw_world.specs.Body.{Pair, Run}
 use Rattle.sw_record.specs.declared.reply.Cause.{Cause}
 use Rattle.sw_record.specs.declared.reply.Cause.TheVariants.{First, Text, Config, Load, Member, Variable, Call}
@@ -31,7 +31,7 @@ ahead (x ∷ xs) (y ∷ ys) p q ps qs e =
 goes_on : (seen xs ys mid qs : List Pair) (p q : Pair) → ys ≡ xs ++ p ∷ mid → seen ≡ ys ++ q ∷ qs → seen ≡ xs ++ p ∷ (mid ++ q ∷ qs)
 goes_on seen xs ys mid qs p q front is = is ∙ ap (λ l. l ++ q ∷ qs) front ∙ append_assoc xs (p ∷ mid) (q ∷ qs)
 
-one_cause_by : (op : Op) (c d : Cause) → IsCauseBy op c → IsCauseBy op d → c ≡ d
+one_cause_by : (op : Question) (c d : Cause) → IsCauseBy op c → IsCauseBy op d → c ≡ d
 one_cause_by (ops.Load site url span how config) c d x y = x ∙ sym y
 one_cause_by (ops.Find site space kind name) c d x y = x ∙ sym y
 one_cause_by (ops.Get owner name) c d x y = x ∙ sym y
@@ -51,7 +51,7 @@ one_answer kept run c d x y =
     by : Ahead x.first.before y.first.before (x.op, x.first.new_answer) (y.op, y.first.new_answer) → c ≡ d
     by (inl same) =
         let same_op : x.op ≡ y.op = ap (λ (p : Pair). p.0) same in
-        one_cause_by y.op c d (subst (λ (o : Op). IsCauseBy o c) same_op x.by) y.by
+        one_cause_by y.op c d (subst (λ (o : Question). IsCauseBy o c) same_op x.by) y.by
     by (inr (inl on)) =
         absurd (not_on kept run y.one x.first.before (x.op, x.first.new_answer) x.furthest y.among y.alike (on.0 ++ (y.op, y.first.old_answer) ∷ y.first.old_rest)
         (goes_on y.one.seen x.first.before y.first.before on.0 y.first.old_rest (x.op, x.first.new_answer) (y.op, y.first.old_answer) on.1 y.first.old_is))

@@ -3,7 +3,7 @@ use Rattle.std.proofs.Common.{◌≡◌, ◌≢◌, ◌⊎◌, ℕ, zero, suc, �
 use Rattle.std.specs.List.{All, Contains}
 use Rattle.std.specs.Option.{option_to_list}
 use Rattle.std.proofs.lemmas.List.Elements.{Contains-push}
-use Rattle.sw_world.specs.declared.op.Op.{Op}
+use Rattle.sw_world.specs.declared.question.Question.{Question}
 use Rattle.sw_world.specs.Body.{Pair, Run}
 use Rattle.sw_record.specs.declared.reply.Cause.{Cause}
 use Rattle.sw_record.specs.declared.reply.Cause.TheVariants.{First, Text, Config, Load, Member, Variable, Call}
@@ -12,7 +12,7 @@ use Rattle.sw_record.specs.Ran.{KeptRuns, IsCauseBy, IsAlike, FirstDiffer, NoneG
 -- a question of the kept run has another answer in this one
 pub record IsAnsweredBy (kept run : Run) (cause : Cause) : Type 0 where
   pub alike : IsAlike kept run
-  pub op : Op
+  pub op : Question
   pub first : FirstDiffer kept.seen run.seen op
   pub by : IsCauseBy op cause
 
@@ -76,7 +76,7 @@ cancel [] p q ps qs e = cc
 cancel (x ∷ xs) p q ps qs e = let rest : xs ++ p ∷ ps ≡ xs ++ q ∷ qs = cc in cancel xs p q ps qs rest
 
 -- the one kept run goes on with the old answer, and no further with the new one
-goes_no_further : (kept run : Run) (op : Op) (first : FirstDiffer kept.seen run.seen op) → NoneGoesOn (kept ∷ []) run first.before (op, first.new_answer)
+goes_no_further : (kept run : Run) (op : Question) (first : FirstDiffer kept.seen run.seen op) → NoneGoesOn (kept ∷ []) run first.before (op, first.new_answer)
 goes_no_further kept run op first =
     one_all (λ (one : Run). IsAlike one run → (rest : List Pair) → one.seen ≢ first.before ++ (op, first.new_answer) ∷ rest) kept
     (λ alike rest goes.

@@ -6,12 +6,12 @@ use Rattle.std.proofs.lemmas.List.{take_more, take_all}
 use Rattle.std.proofs.lemmas.List.Elements.{All-contains, All-push}
 use Rattle.std.proofs.lemmas.Option.{slice_get-get_or}
 use Rattle.sw_values.specs.declared.plain.Plain.{Plain}
-use Rattle.sw_world.specs.declared.op.Op.{Op}
+use Rattle.sw_world.specs.declared.question.Question.{Question}
 use Rattle.sw_world.specs.declared.answer.Answer.{Answer}
-use Rattle.sw_named.specs.declared.variables.NamedVariables.{NamedVariables}
+use Rattle.sw_world.specs.declared.variables.NamedVariables.{NamedVariables}
 use Rattle.sw_world.specs.Questions.{IsLoad}
 use Rattle.sw_world.specs.Body.{Pair}
-use Rattle.sw_named.specs.Named.{IsOfVariable, IsOfOne, IsNamed, IsNamedIn}
+use Rattle.sw_world.specs.Named.{IsOfVariable, IsOfOne, IsNamed, IsNamedIn}
 use Rattle.sw_record.specs.Replay.{AskedAgain}
 use Rattle.sw_record.specs.Tails.{IsTold, TellsUpTo, IsReadAt, IsOfRead, AreGiven, IsGivenAt, AreGivenAt}
 use Rattle.sw_record.proofs.Leading.{asked_more}
@@ -96,10 +96,10 @@ tells_on ns alone seen from at to first second =
 
 -- ---- all are given
 
-pub none_given : {W : Type 0} (gives : W → Op → Answer → W → Type 0) (w : W) → AreGiven gives w []
+pub none_given : {W : Type 0} (gives : W → Question → Answer → W → Type 0) (w : W) → AreGiven gives w []
 none_given gives w pair none = absurd none
 
-pub given_more : {W : Type 0} (gives : W → Op → Answer → W → Type 0) (w : W) (ns : List NamedVariables) (at : ℕ) (n : NamedVariables) → at < length ns → get_or ns at n ≡ n
+pub given_more : {W : Type 0} (gives : W → Question → Answer → W → Type 0) (w : W) (ns : List NamedVariables) (at : ℕ) (n : NamedVariables) → at < length ns → get_or ns at n ≡ n
     → AreGiven gives w (take at ns) → ((pair : Pair) → IsNamed n pair → gives w pair.0 pair.1 w) → AreGiven gives w (take (at + 1) ns)
 given_more {W} gives w ns at n lt is given one pair asked =
     let last : take (at + 1) ns ≡ take at ns ++ n ∷ [] = take_more ns at n lt ∙ ap (λ x. take at ns ++ x ∷ []) is in
@@ -109,17 +109,17 @@ given_more {W} gives w ns at n lt is given one pair asked =
     by (inl first) = given pair first
     by (inr here) = one pair here
 
-pub at_more : {W : Type 0} (gives : W → Op → Answer → W → Type 0) (w : W) (seen : List Pair) (places : List ℕ) (at d : ℕ) → at < length places
+pub at_more : {W : Type 0} (gives : W → Question → Answer → W → Type 0) (w : W) (seen : List Pair) (places : List ℕ) (at d : ℕ) → at < length places
     → AreGivenAt gives w seen (take at places) → IsGivenAt gives w seen (get_or places at d) → AreGivenAt gives w seen (take (at + 1) places)
 at_more gives w seen places at d lt before one =
     subst (λ l. AreGivenAt gives w seen l) (sym (take_more places at d lt)) (All-push (IsGivenAt gives w seen) (take at places) (get_or places at d) before one)
 
-pub at_all : {W : Type 0} (gives : W → Op → Answer → W → Type 0) (w : W) (seen : List Pair) (places : List ℕ) (at : ℕ) → length places ≤ at
+pub at_all : {W : Type 0} (gives : W → Question → Answer → W → Type 0) (w : W) (seen : List Pair) (places : List ℕ) (at : ℕ) → length places ≤ at
     → AreGivenAt gives w seen (take at places) → AreGivenAt gives w seen places
 at_all gives w seen places at le all = subst (λ l. AreGivenAt gives w seen l) (take_all at places le) all
 
 -- a range of which each question is given
-asked_up : {W : Type 0} (gives : W → Op → Answer → W → Type 0) (seen : List Pair) (from d : ℕ) (w : W) → from + d ≤ length seen
+asked_up : {W : Type 0} (gives : W → Question → Answer → W → Type 0) (seen : List Pair) (from d : ℕ) (w : W) → from + d ≤ length seen
     → ((place : ℕ) (pair : Pair) → from ≤ place → place < from + d → slice_get seen place ≡ Some pair → (IsLoad pair.0 → ⊥) × gives w pair.0 pair.1 w)
     → AskedAgain gives seen from (from + d) w w
 asked_up gives seen from zero w within each =
@@ -135,7 +135,7 @@ asked_up {W} gives (x ∷ xs) from (suc d) w within each =
     let next : from + suc d ≡ (from + d) + 1 = omega arith in
     subst (λ n. AskedAgain gives (x ∷ xs) from n w w) (sym next) (asked_more gives (x ∷ xs) from (from + d) (get_or (x ∷ xs) (from + d) x) w w w before here one.0 one.1)
 
-pub asked_tail : {W : Type 0} (gives : W → Op → Answer → W → Type 0) (w : W) (seen : List Pair) (from to : ℕ) (named : List NamedVariables) (alone : List ℕ)
+pub asked_tail : {W : Type 0} (gives : W → Question → Answer → W → Type 0) (w : W) (seen : List Pair) (from to : ℕ) (named : List NamedVariables) (alone : List ℕ)
     → TellsUpTo named alone seen from to → AreGiven gives w named → AreGivenAt gives w seen alone → AskedAgain gives seen from to w w
 asked_tail {W} gives w seen from to named alone tells given given_at =
     let up : from + (to - from) ≡ to = omega (arith, tells.ordered) in

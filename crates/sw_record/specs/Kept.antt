@@ -1,6 +1,6 @@
 -- Runs that are kept (this project's own rule).
 use Rattle.std.specs.Prelude.{◌≡◌, [], Option, Some, None}
-use Rattle.sw_syntax_tree.specs.declared.sheet.Sheet.{Sheet}
+use Rattle.sw_tree.specs.declared.sheet.Sheet.{Sheet}
 use Rattle.sw_css_print.specs.declared.part.Printed.{Printed}
 use Rattle.sw_css_print.specs.Parts.{print_one}
 use Rattle.sw_world.specs.declared.end.End.{End}

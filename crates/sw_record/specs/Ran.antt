@@ -1,8 +1,8 @@
 -- Which bodies a compile runs, and why (this project's own rule): those whose run is none of the kept runs of its path.
 use Rattle.std.specs.Prelude.{◌≡◌, ◌≢◌, ◌⊎◌, ℕ, List, [], ◌∷◌, ◌++◌}
 use Rattle.std.specs.List.{All, Any, Contains}
-use Rattle.sw_world.specs.declared.op.Op.{Op}
-use Rattle.sw_world.specs.declared.op.Op.TheVariants as ops
+use Rattle.sw_world.specs.declared.question.Question.{Question}
+use Rattle.sw_world.specs.declared.question.Question.TheVariants as ops
 use Rattle.sw_world.specs.declared.answer.Answer.{Answer}
 use Rattle.sw_world.specs.Body.{Pair, Run}
 use Rattle.sw_record.specs.declared.reply.Cause.{Cause}
@@ -17,7 +17,7 @@ abbrev pub none_kept : KeptRuns
 none_kept path = []
 
 -- the cause that such a question stands for; an assignment and a message have one answer alone
-abbrev pub IsCauseBy : Op → Cause → Type 0
+abbrev pub IsCauseBy : Question → Cause → Type 0
 IsCauseBy (ops.Load site url span how config) cause = cause ≡ Load
 IsCauseBy (ops.Find site space kind name) cause = cause ≡ Member
 IsCauseBy (ops.Get owner name) cause = cause ≡ Variable
@@ -31,7 +31,7 @@ pub record IsAlike (one other : Run) : Type 0 where
   pub same_config : one.config ≡ other.config
 
 -- the pairs are the same up to a question that has another answer
-pub record FirstDiffer (old new : List Pair) (op : Op) : Type 0 where
+pub record FirstDiffer (old new : List Pair) (op : Question) : Type 0 where
   pub before : List Pair
   pub old_answer : Answer
   pub new_answer : Answer
@@ -51,7 +51,7 @@ pub record IsAnswered (kept : List Run) (run : Run) (cause : Cause) : Type 0 whe
   pub one : Run
   pub among : Contains kept one
   pub alike : IsAlike one run
-  pub op : Op
+  pub op : Question
   pub first : FirstDiffer one.seen run.seen op
   pub furthest : NoneGoesOn kept run first.before (op, first.new_answer)
   pub by : IsCauseBy op cause

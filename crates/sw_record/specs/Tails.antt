@@ -1,16 +1,16 @@
 -- The questions behind the last load of a trace, told by what they name (this project's own rule).
 use Rattle.std.specs.Prelude.{◌≡◌, ◌⊎◌, ℕ, ◌+◌, ◌<◌, ◌≤◌, List, [], length, slice_get, Some}
 use Rattle.std.specs.List.{All, Contains}
-use Rattle.sw_syntax_tree.specs.declared.callable.Kind.TheVariants.{Variable}
+use Rattle.sw_tree.specs.declared.callable.Kind.TheVariants.{Variable}
 use Rattle.sw_values.specs.declared.plain.Plain.{Plain}
-use Rattle.sw_world.specs.declared.op.Op.{Op}
-use Rattle.sw_world.specs.declared.op.Op.TheVariants.{Find, Get}
+use Rattle.sw_world.specs.declared.question.Question.{Question}
+use Rattle.sw_world.specs.declared.question.Question.TheVariants.{Find, Get}
 use Rattle.sw_world.specs.declared.answer.Answer.{Answer}
 use Rattle.sw_world.specs.declared.answer.Answer.TheVariants.{Owner, Value}
-use Rattle.sw_named.specs.declared.variables.NamedVariables.{NamedVariables}
+use Rattle.sw_world.specs.declared.variables.NamedVariables.{NamedVariables}
 use Rattle.sw_world.specs.Questions.{IsLoad}
 use Rattle.sw_world.specs.Body.{Pair}
-use Rattle.sw_named.specs.Named.{IsOfVariable, IsNamedIn}
+use Rattle.sw_world.specs.Named.{IsOfVariable, IsNamedIn}
 use Rattle.sw_record.specs.declared.tail.Tail.{Tail}
 
 -- the question at a place stands for a variable that is named, or its place is told
@@ -39,13 +39,13 @@ IsOfRead site space path name value pair =
     IsOfVariable (record { site = site; space = space; path = path; values = [] }) (name, value) pair
 
 -- all for which these variables stand are answered so, which changes nothing
-abbrev pub AreGiven : {W : Type 0} → (W → Op → Answer → W → Type 0) → W → List NamedVariables → Type 0
+abbrev pub AreGiven : {W : Type 0} → (W → Question → Answer → W → Type 0) → W → List NamedVariables → Type 0
 AreGiven gives w named = (pair : Pair) → IsNamedIn named pair → gives w pair.0 pair.1 w
 
 -- the question at a place is answered so, which changes nothing; it is no load
-abbrev pub IsGivenAt : {W : Type 0} → (W → Op → Answer → W → Type 0) → W → List Pair → ℕ → Type 0
+abbrev pub IsGivenAt : {W : Type 0} → (W → Question → Answer → W → Type 0) → W → List Pair → ℕ → Type 0
 IsGivenAt gives w seen place =
     (pair : Pair) → slice_get seen place ≡ Some pair → (IsLoad pair.0 → ⊥) × gives w pair.0 pair.1 w
 
-abbrev pub AreGivenAt : {W : Type 0} → (W → Op → Answer → W → Type 0) → W → List Pair → List ℕ → Type 0
+abbrev pub AreGivenAt : {W : Type 0} → (W → Question → Answer → W → Type 0) → W → List Pair → List ℕ → Type 0
 AreGivenAt gives w seen places = All (IsGivenAt gives w seen) places

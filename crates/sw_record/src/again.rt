@@ -7,9 +7,8 @@ ghost use Rattle.sw_record.specs.Tails.{IsTail, AreGiven, AreGivenAt, IsGivenAt}
 
 use crate::{Run, Tail};
 use std::alloc::Global;
-use sw_named::{ConfirmsNamed, NamedVariables};
 use sw_text::Memory;
-use sw_world::{Answer, Engine, Op, World};
+use sw_world::{Answer, ConfirmsNamed, Engine, NamedVariables, Question, World};
 
 /// What asking the questions of a kept run again comes to.
 #[derive(Drop)]
@@ -68,7 +67,7 @@ fn begin_of<E: Engine, W: ConfirmsNamed>(run: &Run<E>, from: usize, world: &mut 
 }
 
 /// True only where the questions of a tail are answered as before, which changes nothing. Takes no memory.
-fn is_confirmed<W: ConfirmsNamed>(seen: &[(Op, Answer)], tail: &Tail, world: &mut W) -> bool
+fn is_confirmed<W: ConfirmsNamed>(seen: &[(Question, Answer)], tail: &Tail, world: &mut W) -> bool
     requires { IsTail seen.now tail.now }
     ensures asked { OnTrue result (AskedAgain W.gives seen.now tail.now.from tail.now.to world.old world.old) }
     ensures same { world.new ≡ world.old }
@@ -92,7 +91,7 @@ fn are_confirmed<W: ConfirmsNamed>(named: &[NamedVariables], world: &mut W) -> b
 
 /// True only where the questions at these places are answered as before.
 fn are_confirmed_at<W: ConfirmsNamed>(
-    seen: &[(Op, Answer)],
+    seen: &[(Question, Answer)],
     places: &[usize],
     world: &mut W,
 ) -> bool
@@ -108,7 +107,11 @@ fn are_confirmed_at<W: ConfirmsNamed>(
 }
 
 /// True only where the question at a place is answered as before.
-fn is_confirmed_at<W: ConfirmsNamed>(seen: &[(Op, Answer)], place: usize, world: &mut W) -> bool
+fn is_confirmed_at<W: ConfirmsNamed>(
+    seen: &[(Question, Answer)],
+    place: usize,
+    world: &mut W,
+) -> bool
     ensures given { OnTrue result (IsGivenAt W.gives world.old seen.now place) }
     ensures same { world.new ≡ world.old }
 {
@@ -118,12 +121,12 @@ fn is_confirmed_at<W: ConfirmsNamed>(seen: &[(Op, Answer)], place: usize, world:
     }
 }
 
-// The answer to a question that is answered otherwise than it was kept. It is large to move, so it has a function of its
-// own, and a confirmed answer none.
+// The answer to a question that is answered otherwise than it was kept. It is large to move, so it has a function of
+// its own, and a confirmed answer none.
 #[inline(never)]
 fn other_answer<W: World>(
     alloc: Global,
-    op: &Op,
+    op: &Question,
     kept: &Answer,
     world: &mut W,
 ) -> Result<Option<Answer>, Memory>

@@ -2,11 +2,13 @@
 ghost use Rattle.std.specs.Prelude.{◌≡◌, [], IfOk, IfSome, OnOk};
 
 use sw_text::{List, Memory, Shared};
-use sw_world::{Answer, Given, Op};
+use sw_world::{Answer, Given, Question};
 
 /// The same questions, whose empty configurations are one in memory: asked again, they look at that and not at one of
 /// each.
-pub(crate) fn share_configs(seen: List<(Op, Answer)>) -> Result<List<(Op, Answer)>, Memory>
+pub(crate) fn share_configs(
+    seen: List<(Question, Answer)>,
+) -> Result<List<(Question, Answer)>, Memory>
     ensures { IfOk result (λ same. same ≡ seen) }
 {
     let Some(empty) = empty_config(seen.as_slice())? else {
@@ -20,11 +22,11 @@ pub(crate) fn share_configs(seen: List<(Op, Answer)>) -> Result<List<(Op, Answer
 }
 
 // The first empty configuration of a load.
-fn empty_config(seen: &[(Op, Answer)]) -> Result<Option<Shared<List<Given>>>, Memory>
+fn empty_config(seen: &[(Question, Answer)]) -> Result<Option<Shared<List<Given>>>, Memory>
     ensures { IfOk result (λ found. IfSome found (λ config. config ≡ [])) }
 {
     for at in 0..seen.len() {
-        if let Op::Load { config, .. } = &seen[at].0 {
+        if let Question::Load { config, .. } = &seen[at].0 {
             if config.get().is_empty() {
                 return Ok(Some(config.share()?));
             }
@@ -34,11 +36,11 @@ fn empty_config(seen: &[(Op, Answer)]) -> Result<Option<Shared<List<Given>>>, Me
 }
 
 // Puts an empty configuration in the place of that of a load, where that is empty too.
-fn share_config(empty: &Shared<List<Given>>, op: &mut Op) -> Result<(), Memory>
+fn share_config(empty: &Shared<List<Given>>, op: &mut Question) -> Result<(), Memory>
     requires { empty.now ≡ [] }
     ensures { OnOk result (op.new ≡ op.old) }
 {
-    if let Op::Load { config, .. } = op {
+    if let Question::Load { config, .. } = op {
         if config.get().is_empty() {
             *config = empty.share()?;
         }

@@ -11,9 +11,9 @@ use crate::{Tail, Trace};
 use std::alloc::Global;
 use std::marker::{Model, PhantomData};
 use sw_css_print::{Printed, print_one};
-use sw_syntax_tree::Sheet;
 use sw_text::{Memory, Name, Shared};
-use sw_world::{Answer, Config, End, Engine, Op};
+use sw_tree::Sheet;
+use sw_world::{Answer, Config, End, Engine, Question};
 
 /// A body that ran from its start to its end, with the sheet that it ran. Its questions and its end are those of the
 /// engine's body; where it ended well, its output is kept as it is printed.
@@ -27,8 +27,8 @@ pub struct Run<E: Engine> {
 
 impl<E: Engine> Model for Run<E> {
     ghost use Rattle.std.specs.Coded.{codes};
-    ghost use Rattle.sw_syntax_tree.specs.contracts.expr.ExprKind as expr;
-    ghost use Rattle.sw_syntax_tree.specs.contracts.statement.Statement as statement;
+    ghost use Rattle.sw_tree.specs.contracts.expr.ExprKind as expr;
+    ghost use Rattle.sw_tree.specs.contracts.statement.Statement as statement;
     ghost use Rattle.sw_values.specs.contracts.plain.Plain as plain;
     ghost use Rattle.std.specs.Prelude.{◌≡◌};
     ghost use Rattle.sw_record.specs.Kept.{Kept, IsKept, kept_of, printed_of};
@@ -77,6 +77,7 @@ impl<E: Engine> Run<E> {
         })
     }
 
+    /// The path of the module whose body ran.
     pub fn path(&self) -> &Name
         ensures { result.now ≡ self.now.run.path }
     {
@@ -90,12 +91,14 @@ impl<E: Engine> Run<E> {
         &self.trace.text
     }
 
+    /// The tree that the body ran, shared rather than copied.
     pub fn sheet(&self) -> &Shared<Sheet>
         ensures { result.now ≡ self.now.sheet }
     {
         &self.trace.sheet
     }
 
+    /// The configuration that the body was given, its names in their order.
     pub fn config(&self) -> &Config
         ensures { result.now ≡ self.now.run.config }
     {
@@ -103,7 +106,7 @@ impl<E: Engine> Run<E> {
     }
 
     /// The questions with their answers, in order.
-    pub fn seen(&self) -> &[(Op, Answer)]
+    pub fn seen(&self) -> &[(Question, Answer)]
         ensures seen { result.now ≡ self.now.run.seen }
         ensures is_kept { IsKept E.body self.now }
     {
@@ -117,6 +120,7 @@ impl<E: Engine> Run<E> {
         &self.tail
     }
 
+    /// How the body ended: with what it leaves behind, or with its fault.
     pub fn end(&self) -> &End
         ensures end { result.now ≡ self.now.run.end }
         ensures is_kept { IsKept E.body self.now }

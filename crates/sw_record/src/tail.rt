@@ -1,21 +1,20 @@
 // The questions behind the last load of a trace, as they are asked again at once.
 ghost use Rattle.std.specs.Prelude.{◌≡◌, ◌<◌, ◌≤◌, ◌+◌, ℕ, true, length, slice_get, Some, IfOk, IfSome, OnOk};
-ghost use Rattle.sw_syntax_tree.specs.declared.callable.Kind.TheVariants.{Variable as Variable_kind};
-ghost use Rattle.sw_world.specs.declared.op.Op.TheVariants.{Find, Get};
+ghost use Rattle.sw_tree.specs.declared.callable.Kind.TheVariants.{Variable as Variable_kind};
+ghost use Rattle.sw_world.specs.declared.question.Question.TheVariants.{Find, Get};
 ghost use Rattle.sw_world.specs.declared.answer.Answer.TheVariants.{Owner, Value as Value_answer};
 ghost use Rattle.sw_world.specs.Body.{Pair};
-ghost use Rattle.sw_named.specs.Named.{IsNamedIn};
+ghost use Rattle.sw_world.specs.Named.{IsNamedIn};
 ghost use Rattle.sw_record.specs.Tails.{IsTold, IsTail, TellsUpTo, IsReadAt, IsOfRead};
 
 use std::alloc::Global;
-use sw_named::NamedVariables;
-use sw_syntax_tree::Kind;
 use sw_text::{List, Memory, Name};
+use sw_tree::Kind;
 use sw_values::Value;
-use sw_world::{Answer, Op, Table};
+use sw_world::{Answer, NamedVariables, Question, Table};
 
-/// The questions behind the last load of a trace, from one place up to another: the variables for whose names and values
-/// two questions stand, by the modules that have them, and the places of all other questions.
+/// The questions behind the last load of a trace, from one place up to another: the variables for whose names and
+/// values two questions stand, by the modules that have them, and the places of all other questions.
 #[derive(Drop)]
 pub struct Tail {
     pub(crate) from: usize,
@@ -45,7 +44,7 @@ struct Gathering {
 }
 
 /// The tail of a trace: it begins behind the last load, and ends where a question may change what is outside.
-pub(crate) fn tail_of(alloc: Global, seen: &[(Op, Answer)]) -> Result<Tail, Memory>
+pub(crate) fn tail_of(alloc: Global, seen: &[(Question, Answer)]) -> Result<Tail, Memory>
     ensures { IfOk result (λ tail. IsTail seen.now tail) }
 {
     let from = behind_loads(seen);
@@ -71,7 +70,7 @@ pub(crate) fn tail_of(alloc: Global, seen: &[(Op, Answer)]) -> Result<Tail, Memo
 }
 
 /// The place behind the last load.
-fn behind_loads(seen: &[(Op, Answer)]) -> usize
+fn behind_loads(seen: &[(Question, Answer)]) -> usize
     ensures { result ≤ length seen.now }
 {
     let mut behind = 0;
@@ -84,7 +83,7 @@ fn behind_loads(seen: &[(Op, Answer)]) -> usize
 }
 
 /// The variable that the questions at a place and behind it stand for.
-fn variable_at<'s>(seen: &'s [(Op, Answer)], at: usize) -> Option<ReadVariable<'s>>
+fn variable_at<'s>(seen: &'s [(Question, Answer)], at: usize) -> Option<ReadVariable<'s>>
     requires { at < length seen.now }
     ensures { IfSome result (λ read. IsReadAt seen.now at read.site.now read.space.now read.path.now read.name.now
         read.value.now) }
@@ -93,7 +92,7 @@ fn variable_at<'s>(seen: &'s [(Op, Answer)], at: usize) -> Option<ReadVariable<'
         (
             Some(
                 (
-                    Op::Find {
+                    Question::Find {
                         site,
                         space: Some(space),
                         kind: Kind::Variable,
@@ -102,7 +101,7 @@ fn variable_at<'s>(seen: &'s [(Op, Answer)], at: usize) -> Option<ReadVariable<'
                     Answer::Owner { path, name: own },
                 ),
             ),
-            Some((Op::Get { owner, name: asked }, Answer::Value(value))),
+            Some((Question::Get { owner, name: asked }, Answer::Value(value))),
         ) => {
             if name.same(own) && name.same(asked) && path.same(owner) {
                 Some(ReadVariable {
@@ -125,7 +124,7 @@ impl Gathering {
     fn add_from(
         &mut self,
         alloc: Global,
-        seen: &[(Op, Answer)],
+        seen: &[(Question, Answer)],
         from: usize,
     ) -> Result<usize, Memory>
         requires { from ≤ length seen.now }
@@ -144,7 +143,12 @@ impl Gathering {
 
     /// Adds the question at a place, with the one behind it where both stand for a variable, and tells how many these
     /// are: none where the question may change what is outside.
-    fn add_at(&mut self, alloc: Global, seen: &[(Op, Answer)], at: usize) -> Result<usize, Memory>
+    fn add_at(
+        &mut self,
+        alloc: Global,
+        seen: &[(Question, Answer)],
+        at: usize,
+    ) -> Result<usize, Memory>
         requires { at < length seen.now }
         ensures told { IfOk result (λ step. TellsUpTo self.new.named.items self.new.alone seen.now at (at + step)) }
         ensures keeps { OnOk result ((place : ℕ) (pair : Pair) → IsTold self.old.named.items self.old.alone place pair
@@ -156,7 +160,7 @@ impl Gathering {
             }
         }
         match &seen[at].0 {
-            Op::Find { .. } | Op::Get { .. } => {
+            Question::Find { .. } | Question::Get { .. } => {
                 self.alone.push(at)?;
                 Ok(1)
             }

@@ -1,16 +1,16 @@
 // What is kept of a body that ran.
-use sw_syntax_tree::Sheet;
 use sw_text::{List, Name, Shared};
-use sw_world::{Answer, Config, End, Op};
+use sw_tree::Sheet;
+use sw_world::{Answer, Config, End, Question};
 
-/// The trace of a body that ran from its start to its end: the module with its text, the sheet and the configuration that
-/// it ran, its questions with their answers, in order, and its end.
+/// The trace of a body that ran from its start to its end: the module with its text, the sheet and the configuration
+/// that it ran, its questions with their answers, in order, and its end.
 #[derive(Drop)]
 pub struct Trace {
     pub path: Name,
     pub text: Name,
     pub sheet: Shared<Sheet>,
     pub config: Config,
-    pub seen: List<(Op, Answer)>,
+    pub seen: List<(Question, Answer)>,
     pub end: End,
 }

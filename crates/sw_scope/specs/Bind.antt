@@ -4,8 +4,8 @@ use Rattle.std.specs.Option.{is_some}
 use Rattle.std.specs.List.{list_any}
 use Rattle.std.specs.Map.{lookup}
 use Rattle.indexmap.specs.IndexSet.{insert_key}
-use Rattle.sw_syntax_tree.specs.declared.callable.Param.{Param}
-use Rattle.sw_syntax_tree.specs.declared.callable.Params.{Params}
+use Rattle.sw_tree.specs.declared.callable.Param.{Param}
+use Rattle.sw_tree.specs.declared.callable.Params.{Params}
 use Rattle.sw_values.specs.declared.plain.Plain.{Plain}
 use Rattle.sw_values.specs.declared.plain.Plain.TheVariants as P
 use Rattle.sw_values.specs.Shape.{IsTooLarge}

@@ -12,8 +12,8 @@ use crate::slots::{Slot, Slots, are_filled, filled_slots};
 use crate::table::Table;
 use indexmap::IndexSet;
 use std::alloc::Global;
-use sw_syntax_tree::{Param, Params};
 use sw_text::{List, Memory, Name, Shared};
+use sw_tree::{Param, Params};
 use sw_values::{Node, Value};
 
 /// Which argument fills which parameter. Names are looked up in tables, so it takes a time in proportion to the

@@ -37,7 +37,7 @@ impl Model for Frames {
 }
 
 impl Frames {
-    // No frame. Takes no memory.
+    /// No frame. Takes no memory.
     pub fn new(alloc: Global) -> Frames
         ensures { result ≡ [] }
     {
@@ -47,14 +47,14 @@ impl Frames {
         }
     }
 
-    // How many frames there are: the number of the innermost one.
+    /// How many frames there are: the number of the innermost one.
     pub fn len(&self) -> usize
         ensures { result ≡ length self.now }
     {
         self.marks.len()
     }
 
-    // The value of a name that is seen.
+    /// The value of a name in the innermost frame that is seen and has it; `None` where none has. Takes no memory.
     pub fn look(&self, name: &Name) -> Option<&Value>
         ensures { option_copied result ≡ look_in (seen self.now) name.now }
     {
@@ -64,14 +64,14 @@ impl Frames {
         }
     }
 
-    // Whether all frames that are seen are of flow.
+    /// Whether all frames that are seen are of flow; so it is where there are none. Takes no memory.
     pub fn all_flow(&self) -> bool
         ensures { result ≡ all_flow (seen self.now) }
     {
         flows(self.marks.as_slice())
     }
 
-    // Gives the variable that is seen a value. Where none is seen the value comes back. Takes no memory.
+    /// Gives the variable that is seen a value. Where none is seen the value comes back. Takes no memory.
     pub fn set(&mut self, name: Name, value: Value) -> Option<(Name, Value)>
         ensures set { self.new ≡ set_on self.old (name, value) }
         ensures seen { MatchOption result ((v : Plain) × (look_in (seen self.old) name ≡ Some v))
@@ -86,7 +86,8 @@ impl Frames {
         }
     }
 
-    // A new variable of the innermost frame. After `Memory` all is as before.
+    /// A new variable of the innermost frame. After `Memory`, which comes exactly where none was found,
+    /// all is as before.
     pub fn declare(&mut self, name: Name, value: Value) -> Result<(), Memory>
         ensures ok { OnOk result (self.new ≡ declare_on self.old (name, value)) }
         ensures err { OnErr result (self.new ≡ self.old) }
@@ -94,7 +95,8 @@ impl Frames {
         self.vars.push((name, value))
     }
 
-    // A new frame, which stands on the one of this number. After `Memory` all is as before.
+    /// A new frame, which stands on the one of this number, or on the innermost where that isn't there.
+    /// After `Memory`, which comes exactly where none was found, all is as before.
     pub fn put(&mut self, number: usize, kind: FrameKind) -> Result<(), Memory>
         ensures ok { OnOk result (self.new ≡ put_on self.old number kind) }
         ensures err { OnErr result (self.new ≡ self.old) }
@@ -104,7 +106,7 @@ impl Frames {
         self.marks.push(FrameMark { kind, below, start })
     }
 
-    // Takes the innermost frame away. Takes no memory.
+    /// Takes the innermost frame away with its variables, if one is there. Takes no memory.
     pub fn pop(&mut self)
         ensures { self.new ≡ popped self.old }
     {

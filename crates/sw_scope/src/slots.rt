@@ -5,8 +5,8 @@ ghost use Rattle.sw_scope.specs.Bind.{argument, slot_of, slots_from, is_filled, 
 
 use crate::table::Table;
 use std::alloc::Global;
-use sw_syntax_tree::Param;
 use sw_text::{List, Memory, Name};
+use sw_tree::Param;
 use sw_values::Value;
 
 /// What fills a parameter.

@@ -30,7 +30,7 @@ impl Model for Table {
 }
 
 impl Table {
-    // Takes no memory.
+    /// No variable. Takes no memory.
     pub fn new(alloc: Global) -> Table
         ensures { result ≡ [] }
     {
@@ -39,20 +39,22 @@ impl Table {
         }
     }
 
+    /// The value of a name; `None` where the name has none. Takes no memory.
     pub fn get(&self, name: &Name) -> Option<&Value>
         ensures { option_copied result ≡ lookup (bytes_eq name.now) self.now }
     {
         self.entries.get(name)
     }
 
+    /// Whether a name has a value, which may be null. Takes no memory.
     pub fn has(&self, name: &Name) -> bool
         ensures { result ≡ is_some (lookup (bytes_eq name.now) self.now) }
     {
         self.entries.contains_key(name)
     }
 
-    // Gives a name a value: a name that is there keeps its place, and a new one comes last. After `Memory` all is as
-    // before.
+    /// Gives a name a value: a name that is there keeps its place, and a new one comes last.
+    /// After `Memory`, which comes exactly where none was found, all is as before.
     pub fn add(&mut self, name: Name, value: Value) -> Result<(), Memory>
         ensures ok { OnOk result (self.new ≡ insert_entry bytes_eq self.old name value) }
         ensures err { OnErr result (self.new ≡ self.old) }

@@ -2,11 +2,11 @@
 use Rattle.std.proofs.Common.{◌≡◌, ℕ, zero, suc, ◌+◌, ◌-◌, ◌≤◌, ◌<◌, Bool, true, false, ◌&&◌, List, refl, sym, ◌∙◌, ap, arith}
 use Rattle.std.specs.Prelude.{◌==◌, nat_lt, if◌then◌else◌}
 use Rattle.std.proofs.lemmas.Bool.Decides.{nat_tests}
-use Rattle.sw_scan.specs.Bytes.{sign, byte, is_white}
-use Rattle.sw_scan.specs.Pieces.{trimmed_from, trimmed_end}
-use Rattle.sw_scan.proofs.Bounds.{if_true, if_false, and_left, and_right}
-use Rattle.sw_scan.proofs.PieceLemmas.{trimmed_more, trimmed_stop}
-use Rattle.sw_scan.proofs.Progress.{either}
+use Rattle.sw_text_scan.specs.Bytes.{sign, byte, is_white}
+use Rattle.sw_text_scan.specs.Pieces.{trimmed_from, trimmed_end}
+use Rattle.sw_text_scan.proofs.Bounds.{if_true, if_false, and_left, and_right}
+use Rattle.sw_text_scan.proofs.PieceLemmas.{trimmed_more, trimmed_stop}
+use Rattle.sw_text_scan.proofs.Progress.{either}
 use Rattle.sw_selector.specs.Simples.{argument_end}
 use Rattle.sw_selector.proofs.Kept.{Alike}
 use Rattle.sw_selector.proofs.Local.{white_slash}

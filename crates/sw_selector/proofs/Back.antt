@@ -2,12 +2,12 @@
 use Rattle.std.proofs.Common.{◌≡◌, ℕ, zero, suc, ◌+◌, ◌≤◌, ◌<◌, Bool, true, false, ◌||◌, cond, List, [], ◌∷◌, ◌++◌, length, refl, sym, ◌∙◌, ap, subst, arith, Ok, length-append, append_assoc}
 use Rattle.std.specs.Prelude.{◌==◌, codes}
 use Rattle.std.specs.List.{filter}
-use Rattle.sw_scan.specs.declared.runs.Class.TheVariants as classes
-use Rattle.sw_scan.specs.declared.signs.TheConstants.{END}
-use Rattle.sw_scan.specs.Bytes.{sign, byte, is_white}
-use Rattle.sw_scan.specs.Runs.{next}
-use Rattle.sw_scan.specs.Pieces.{is_cut}
-use Rattle.sw_scan.proofs.Bounds.{if_true, if_false, byte_past, run_step, run_stop}
+use Rattle.sw_text_scan.specs.declared.runs.Class.TheVariants as classes
+use Rattle.sw_text_scan.specs.declared.signs.TheConstants.{END}
+use Rattle.sw_text_scan.specs.Bytes.{sign, byte, is_white}
+use Rattle.sw_text_scan.specs.Runs.{next}
+use Rattle.sw_text_scan.specs.Pieces.{is_cut}
+use Rattle.sw_text_scan.proofs.Bounds.{if_true, if_false, byte_past, run_step, run_stop}
 use Rattle.sw_selector.specs.declared.reader.TheConstants.{LEVELS, MOST_SELECTORS}
 use Rattle.sw_selector.specs.declared.selector.Part.{Part}
 use Rattle.sw_selector.specs.Attributes.{white}

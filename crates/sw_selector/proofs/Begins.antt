@@ -2,12 +2,12 @@
 use Rattle.std.proofs.Common.{◌≡◌, ℕ, ◌+◌, ◌-◌, ◌≤◌, ◌<◌, Bool, true, false, not, ◌&&◌, ◌||◌, List, refl, sym, ◌∙◌, ap, arith}
 use Rattle.std.specs.Prelude.{◌==◌, nat_lt, if◌then◌else◌}
 use Rattle.std.proofs.lemmas.Bool.Decides.{nat_tests}
-use Rattle.sw_scan.specs.declared.runs.Class.TheVariants as classes
-use Rattle.sw_scan.specs.declared.signs.TheConstants.{END, CARRIAGE_RETURN, LINE_FEED}
-use Rattle.sw_scan.specs.Bytes.{sign, byte, is_break, is_white, is_hex_digit, is_name_byte, starts_plainly}
-use Rattle.sw_scan.specs.Runs.{hex_end, white_end, escape_end, next, run_end, starts_at, begins_name}
-use Rattle.sw_scan.proofs.Bounds.{and_left, and_right, if_true, run_step, run_forward}
-use Rattle.sw_scan.proofs.Progress.{either, name_taken}
+use Rattle.sw_text_scan.specs.declared.runs.Class.TheVariants as classes
+use Rattle.sw_text_scan.specs.declared.signs.TheConstants.{END, CARRIAGE_RETURN, LINE_FEED}
+use Rattle.sw_text_scan.specs.Bytes.{sign, byte, is_break, is_white, is_hex_digit, is_name_byte, starts_plainly}
+use Rattle.sw_text_scan.specs.Runs.{hex_end, white_end, escape_end, next, run_end, starts_at, begins_name}
+use Rattle.sw_text_scan.proofs.Bounds.{and_left, and_right, if_true, run_step, run_forward}
+use Rattle.sw_text_scan.proofs.Progress.{either, name_taken}
 use Rattle.sw_selector.proofs.Lexical.{equal, in_or}
 use Rattle.sw_selector.proofs.Characters.{Character, Known, known, character_next, name_not_slash, hex_end_forward, hex_some}
 use Rattle.sw_selector.proofs.Kept.{Alike, first, later}

@@ -2,13 +2,13 @@
 use Rattle.std.proofs.Common.{◌≡◌, ℕ, zero, suc, ◌+◌, ◌-◌, ◌≤◌, ◌<◌, Bool, true, false, not, ◌&&◌, ◌||◌, ◌⊎◌, inl, inr, List, refl, sym, ◌∙◌, ap, arith}
 use Rattle.std.specs.Prelude.{◌==◌}
 use Rattle.std.proofs.lemmas.Bool.Decides.{nat_tests}
-use Rattle.sw_scan.specs.declared.runs.Class.TheVariants as classes
-use Rattle.sw_scan.specs.declared.runs.TheConstants.{MOST_HEX_DIGITS}
-use Rattle.sw_scan.specs.declared.signs.TheConstants.{END, CARRIAGE_RETURN, LINE_FEED}
-use Rattle.sw_scan.specs.Bytes.{sign, byte, is_break, is_white, is_hex_digit, is_name_byte}
-use Rattle.sw_scan.specs.Runs.{hex_from, hex_end, white_end, escape_end, next}
-use Rattle.sw_scan.proofs.Bounds.{and_right, if_true, if_false}
-use Rattle.sw_scan.proofs.Progress.{either}
+use Rattle.sw_text_scan.specs.declared.runs.Class.TheVariants as classes
+use Rattle.sw_text_scan.specs.declared.runs.TheConstants.{MOST_HEX_DIGITS}
+use Rattle.sw_text_scan.specs.declared.signs.TheConstants.{END, CARRIAGE_RETURN, LINE_FEED}
+use Rattle.sw_text_scan.specs.Bytes.{sign, byte, is_break, is_white, is_hex_digit, is_name_byte}
+use Rattle.sw_text_scan.specs.Runs.{hex_from, hex_end, white_end, escape_end, next}
+use Rattle.sw_text_scan.proofs.Bounds.{and_right, if_true, if_false}
+use Rattle.sw_text_scan.proofs.Progress.{either}
 use Rattle.sw_selector.specs.Names.{is_unclosed}
 use Rattle.sw_selector.proofs.Lexical.{equal, split}
 

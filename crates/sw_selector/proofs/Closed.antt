@@ -2,10 +2,10 @@
 use Rattle.std.proofs.Common.{◌≡◌, ℕ, ◌+◌, ◌-◌, ◌≤◌, ◌<◌, Bool, true, false, not, ◌&&◌, List, refl, sym, ◌∙◌, ap, subst, arith, Option, Some, None}
 use Rattle.std.specs.Prelude.{◌==◌, nat_lt}
 use Rattle.std.proofs.lemmas.Bool.Decides.{nat_tests}
-use Rattle.sw_scan.specs.Bytes.{sign, byte, is_letter}
-use Rattle.sw_scan.specs.Runs.{begins_name}
-use Rattle.sw_scan.proofs.Bounds.{if_true}
-use Rattle.sw_scan.proofs.Progress.{either}
+use Rattle.sw_text_scan.specs.Bytes.{sign, byte, is_letter}
+use Rattle.sw_text_scan.specs.Runs.{begins_name}
+use Rattle.sw_text_scan.proofs.Bounds.{if_true}
+use Rattle.sw_text_scan.proofs.Progress.{either}
 use Rattle.sw_selector.specs.Attributes.{white, name_end, word_end, prefix_end, operator_end, value_end, bracket_end, modifier_end, valued_end, operated_end, matched_end, named_end, attribute_end}
 use Rattle.sw_selector.proofs.Lexical.{equal, split, name_forward, white_forward, prefix_forward, name_further}
 use Rattle.sw_selector.proofs.Kept.{Alike}

@@ -1,18 +1,18 @@
 -- What is written of compounds and combinators is these, before what ends a complex selector.
 use Rattle.std.proofs.Common.{◌≡◌, ℕ, ◌+◌, ◌-◌, ◌≤◌, ◌<◌, true, false, List, [], ◌∷◌, ◌++◌, length, refl, sym, ◌∙◌, ap, subst, arith, append_assoc}
 use Rattle.std.specs.Prelude.{codes}
-use Rattle.sw_scan.specs.declared.runs.Class.TheVariants as classes
-use Rattle.sw_scan.specs.Bytes.{sign, byte, is_white}
-use Rattle.sw_scan.specs.Runs.{begins_name, next}
-use Rattle.sw_scan.specs.Pieces.{is_cut, piece}
-use Rattle.sw_scan.proofs.Bounds.{if_true, run_step}
-use Rattle.sw_scan.proofs.Progress.{name_taken}
+use Rattle.sw_text_scan.specs.declared.runs.Class.TheVariants as classes
+use Rattle.sw_text_scan.specs.Bytes.{sign, byte, is_white}
+use Rattle.sw_text_scan.specs.Runs.{begins_name, next}
+use Rattle.sw_text_scan.specs.Pieces.{is_cut, piece}
+use Rattle.sw_text_scan.proofs.Bounds.{if_true, run_step}
+use Rattle.sw_text_scan.proofs.Progress.{name_taken}
 use Rattle.sw_selector.specs.declared.selector.Part.{Part}
 use Rattle.sw_selector.specs.declared.selector.Part.TheVariants as parts
 use Rattle.sw_selector.specs.Attributes.{white, name_end, prefix_end}
 use Rattle.sw_selector.specs.Names.{name_text}
-use Rattle.sw_scan.specs.declared.brackets.Stops.TheVariants as stops
-use Rattle.sw_scan.specs.Brackets.{stop_at}
+use Rattle.sw_text_scan.specs.declared.brackets.Stops.TheVariants as stops
+use Rattle.sw_text_scan.specs.Brackets.{stop_at}
 use Rattle.sw_selector.specs.Simples.{colons_end, argument_text, with_argument, takes_selectors}
 use Rattle.sw_selector.specs.Writing.{part_text, parts_text, list_text}
 use Rattle.sw_selector.specs.Grammar as g

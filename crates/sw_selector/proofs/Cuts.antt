@@ -5,13 +5,13 @@ use Rattle.std.specs.Str.{IsUtf8, IsCharBoundary}
 use Rattle.std.proofs.lemmas.Bool.Decides.{nat_tests}
 use Rattle.std.proofs.lemmas.List.{get_or_default}
 use Rattle.std.proofs.lemmas.Str.{IsCharBoundary-start, IsCharBoundary-after_ascii}
-use Rattle.sw_scan.specs.declared.runs.Class.{Class}
-use Rattle.sw_scan.specs.declared.runs.Class.TheVariants as classes
-use Rattle.sw_scan.specs.declared.signs.TheConstants.{END}
-use Rattle.sw_scan.specs.Bytes.{sign, byte, continues, is_white}
-use Rattle.sw_scan.specs.Runs.{next, run_end}
-use Rattle.sw_scan.specs.Pieces.{is_cut}
-use Rattle.sw_scan.proofs.Bounds.{byte_past, run_step, run_stop, run_forward}
+use Rattle.sw_text_scan.specs.declared.runs.Class.{Class}
+use Rattle.sw_text_scan.specs.declared.runs.Class.TheVariants as classes
+use Rattle.sw_text_scan.specs.declared.signs.TheConstants.{END}
+use Rattle.sw_text_scan.specs.Bytes.{sign, byte, continues, is_white}
+use Rattle.sw_text_scan.specs.Runs.{next, run_end}
+use Rattle.sw_text_scan.specs.Pieces.{is_cut}
+use Rattle.sw_text_scan.proofs.Bounds.{byte_past, run_step, run_stop, run_forward}
 use Rattle.sw_selector.specs.Attributes.{white}
 use Rattle.sw_selector.proofs.Written.{byte_get}
 use Rattle.sw_selector.proofs.Stands.{cut_at}

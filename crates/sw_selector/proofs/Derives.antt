@@ -2,12 +2,12 @@
 use Rattle.std.proofs.Common.{◌≡◌, ℕ, ◌+◌, ◌-◌, ◌≤◌, ◌<◌, Bool, true, false, not, ◌&&◌, ◌||◌, List, [], ◌∷◌, ◌++◌, length, refl, sym, ◌∙◌, ap, subst, arith, Option, Some, None, append_assoc, append-nil}
 use Rattle.std.specs.Prelude.{◌==◌, nat_lt, if◌then◌else◌, unwrap_or}
 use Rattle.std.proofs.lemmas.Bool.Decides.{nat_tests}
-use Rattle.sw_scan.specs.declared.brackets.Stops.TheVariants as stops
-use Rattle.sw_scan.specs.Bytes.{sign, byte}
-use Rattle.sw_scan.specs.Runs.{begins_name}
-use Rattle.sw_scan.specs.Pieces.{piece}
-use Rattle.sw_scan.specs.Brackets.{stop_at}
-use Rattle.sw_scan.proofs.Bounds.{and_left, and_right, if_true, if_false}
+use Rattle.sw_text_scan.specs.declared.brackets.Stops.TheVariants as stops
+use Rattle.sw_text_scan.specs.Bytes.{sign, byte}
+use Rattle.sw_text_scan.specs.Runs.{begins_name}
+use Rattle.sw_text_scan.specs.Pieces.{piece}
+use Rattle.sw_text_scan.specs.Brackets.{stop_at}
+use Rattle.sw_text_scan.proofs.Bounds.{and_left, and_right, if_true, if_false}
 use Rattle.sw_selector.specs.declared.selector.Part.{Part}
 use Rattle.sw_selector.specs.declared.selector.Part.TheVariants as parts
 use Rattle.sw_selector.specs.declared.selector.Combinator.{Combinator}

@@ -2,11 +2,11 @@
 use Rattle.std.proofs.Common.{◌≡◌, ℕ, ◌+◌, ◌<◌, Bool, true, false, ◌||◌, List, [], ◌∷◌, ◌++◌, length, refl, sym, ◌∙◌, ap, subst, arith, Some, None, length-append}
 use Rattle.std.specs.Prelude.{◌==◌}
 use Rattle.std.proofs.lemmas.Bool.Decides.{nat_tests}
-use Rattle.sw_scan.specs.declared.runs.Class.TheVariants as classes
-use Rattle.sw_scan.specs.Bytes.{sign, byte, is_white}
-use Rattle.sw_scan.specs.Runs.{begins_name}
-use Rattle.sw_scan.specs.Pieces.{is_cut}
-use Rattle.sw_scan.proofs.Bounds.{if_true, run_step}
+use Rattle.sw_text_scan.specs.declared.runs.Class.TheVariants as classes
+use Rattle.sw_text_scan.specs.Bytes.{sign, byte, is_white}
+use Rattle.sw_text_scan.specs.Runs.{begins_name}
+use Rattle.sw_text_scan.specs.Pieces.{is_cut}
+use Rattle.sw_text_scan.proofs.Bounds.{if_true, run_step}
 use Rattle.sw_selector.specs.declared.selector.Combinator.{Combinator}
 use Rattle.sw_selector.specs.declared.selector.Combinator.TheVariants as combinators
 use Rattle.sw_selector.specs.declared.selector.Part.{Part}

@@ -2,13 +2,13 @@
 use Rattle.std.proofs.Common.{◌≡◌, ℕ, zero, suc, ◌+◌, ◌-◌, ◌≤◌, ◌<◌, Bool, true, false, not, ◌&&◌, ◌||◌, ◌⊎◌, inl, inr, List, length, refl, sym, ◌∙◌, ap, subst, arith}
 use Rattle.std.specs.Prelude.{◌==◌, nat_lt}
 use Rattle.std.proofs.lemmas.Bool.Decides.{nat_tests}
-use Rattle.sw_scan.specs.declared.runs.Class.TheVariants as classes
-use Rattle.sw_scan.specs.declared.runs.TheConstants.{MOST_HEX_DIGITS}
-use Rattle.sw_scan.specs.declared.signs.TheConstants.{END, CARRIAGE_RETURN, LINE_FEED}
-use Rattle.sw_scan.specs.Bytes.{sign, byte, is_break, is_white, is_hex_digit, is_name_byte}
-use Rattle.sw_scan.specs.Runs.{hex_from, hex_end, run_from, run_end}
-use Rattle.sw_scan.proofs.Bounds.{and_left, if_true, if_false, next_from, run_step, run_stop}
-use Rattle.sw_scan.proofs.Progress.{either}
+use Rattle.sw_text_scan.specs.declared.runs.Class.TheVariants as classes
+use Rattle.sw_text_scan.specs.declared.runs.TheConstants.{MOST_HEX_DIGITS}
+use Rattle.sw_text_scan.specs.declared.signs.TheConstants.{END, CARRIAGE_RETURN, LINE_FEED}
+use Rattle.sw_text_scan.specs.Bytes.{sign, byte, is_break, is_white, is_hex_digit, is_name_byte}
+use Rattle.sw_text_scan.specs.Runs.{hex_from, hex_end, run_from, run_end}
+use Rattle.sw_text_scan.proofs.Bounds.{and_left, if_true, if_false, next_from, run_step, run_stop}
+use Rattle.sw_text_scan.proofs.Progress.{either}
 use Rattle.sw_selector.specs.Names.{is_unclosed, unclosed_from}
 use Rattle.sw_selector.proofs.Lexical.{equal, split}
 use Rattle.sw_selector.proofs.Unclosed.{unclosed_step, unclosed_stop}

@@ -2,13 +2,13 @@
 use Rattle.std.proofs.Common.{◌≡◌, ℕ, ◌+◌, ◌≤◌, ◌<◌, Bool, true, false, not, ◌&&◌, ◌||◌, List, length, refl, sym, ◌∙◌, ap, arith, Option, Some, None}
 use Rattle.std.specs.Prelude.{◌==◌, nat_lt, if◌then◌else◌}
 use Rattle.std.proofs.lemmas.Bool.Decides.{nat_tests}
-use Rattle.sw_scan.specs.declared.runs.Class.TheVariants as classes
-use Rattle.sw_scan.specs.declared.signs.TheConstants.{END}
-use Rattle.sw_scan.specs.Bytes.{sign, byte, is_white, is_letter, is_quote, starts_plainly}
-use Rattle.sw_scan.specs.Runs.{escape_end, begins_name, starts_at, run_end}
-use Rattle.sw_scan.specs.Brackets.{string_end}
-use Rattle.sw_scan.proofs.Bounds.{in_text, run_forward, run_stop, if_false}
-use Rattle.sw_scan.proofs.Progress.{either, name_taken, run_on, run_stops}
+use Rattle.sw_text_scan.specs.declared.runs.Class.TheVariants as classes
+use Rattle.sw_text_scan.specs.declared.signs.TheConstants.{END}
+use Rattle.sw_text_scan.specs.Bytes.{sign, byte, is_white, is_letter, is_quote, starts_plainly}
+use Rattle.sw_text_scan.specs.Runs.{escape_end, begins_name, starts_at, run_end}
+use Rattle.sw_text_scan.specs.Brackets.{string_end}
+use Rattle.sw_text_scan.proofs.Bounds.{in_text, run_forward, run_stop, if_false}
+use Rattle.sw_text_scan.proofs.Progress.{either, name_taken, run_on, run_stops}
 use Rattle.sw_selector.specs.declared.selector.Combinator.{Combinator}
 use Rattle.sw_selector.specs.Attributes.{white, name_end, word_end, prefix_end, is_operator_sign, operator_end, value_end, bracket_end, modifier_end, valued_end, operated_end, matched_end, named_end, attribute_end}
 use Rattle.sw_selector.specs.Simples.{colons_end}

@@ -2,13 +2,13 @@
 use Rattle.std.proofs.Common.{◌≡◌, ℕ, ◌+◌, ◌-◌, ◌≤◌, ◌<◌, Bool, true, false, not, ◌&&◌, ◌||◌, List, refl, sym, ◌∙◌, ap, subst, arith, Option, Some, None}
 use Rattle.std.specs.Prelude.{◌==◌, if◌then◌else◌}
 use Rattle.std.proofs.lemmas.Bool.Decides.{nat_tests}
-use Rattle.sw_scan.specs.declared.runs.Class.{Class}
-use Rattle.sw_scan.specs.declared.runs.Class.TheVariants as classes
-use Rattle.sw_scan.specs.Bytes.{sign, byte, is_white, is_letter, is_name_byte, is_quote}
-use Rattle.sw_scan.specs.Runs.{next, run_end, begins_name}
-use Rattle.sw_scan.specs.Brackets.{string_end}
-use Rattle.sw_scan.proofs.Bounds.{if_true, if_false, and_left, and_right, run_forward}
-use Rattle.sw_scan.proofs.Progress.{run_stops}
+use Rattle.sw_text_scan.specs.declared.runs.Class.{Class}
+use Rattle.sw_text_scan.specs.declared.runs.Class.TheVariants as classes
+use Rattle.sw_text_scan.specs.Bytes.{sign, byte, is_white, is_letter, is_name_byte, is_quote}
+use Rattle.sw_text_scan.specs.Runs.{next, run_end, begins_name}
+use Rattle.sw_text_scan.specs.Brackets.{string_end}
+use Rattle.sw_text_scan.proofs.Bounds.{if_true, if_false, and_left, and_right, run_forward}
+use Rattle.sw_text_scan.proofs.Progress.{run_stops}
 use Rattle.sw_selector.specs.Attributes.{white, name_end, word_end, prefix_end, is_operator_sign, operator_end, value_end, bracket_end, modifier_end, valued_end, operated_end, matched_end, named_end}
 use Rattle.sw_selector.proofs.Lexical.{split, begins_word, name_none, white_none, white_forward, name_forward, value_ahead, operator_ahead}
 use Rattle.sw_selector.proofs.Begins.{begins_kept}

@@ -2,12 +2,12 @@
 use Rattle.std.proofs.Common.{◌≡◌, ℕ, ◌+◌, ◌-◌, ◌≤◌, ◌<◌, Bool, true, false, ◌&&◌, ◌||◌, List, length, refl, sym, ◌∙◌, ap, subst, arith, Some}
 use Rattle.std.specs.Prelude.{◌==◌, nat_lt, nat_le, slice_range, if◌then◌else◌}
 use Rattle.std.proofs.lemmas.Bool.Decides.{nat_tests}
-use Rattle.sw_scan.specs.declared.runs.Class.TheVariants as classes
-use Rattle.sw_scan.specs.Bytes.{sign, byte, continues}
-use Rattle.sw_scan.specs.Runs.{begins_name, next}
-use Rattle.sw_scan.specs.Pieces.{is_cut, piece}
-use Rattle.sw_scan.proofs.Bounds.{if_true, if_false, and_left}
-use Rattle.sw_scan.proofs.Progress.{name_taken}
+use Rattle.sw_text_scan.specs.declared.runs.Class.TheVariants as classes
+use Rattle.sw_text_scan.specs.Bytes.{sign, byte, continues}
+use Rattle.sw_text_scan.specs.Runs.{begins_name, next}
+use Rattle.sw_text_scan.specs.Pieces.{is_cut, piece}
+use Rattle.sw_text_scan.proofs.Bounds.{if_true, if_false, and_left}
+use Rattle.sw_text_scan.proofs.Progress.{name_taken}
 use Rattle.sw_selector.specs.declared.selector.Part.{Part}
 use Rattle.sw_selector.specs.declared.selector.Part.TheVariants as parts
 use Rattle.sw_selector.specs.Attributes.{name_end, prefix_end, attribute_end}

@@ -2,14 +2,14 @@
 use Rattle.std.proofs.Common.{◌≡◌, ℕ, zero, suc, ◌+◌, ◌-◌, ◌≤◌, ◌<◌, Bool, true, false, ◌&&◌, List, [], ◌++◌, length, take, drop, refl, sym, ◌∙◌, ap, subst, arith, Some, length-append}
 use Rattle.std.specs.Prelude.{nat_lt, nat_le, codes, slice_range, if◌then◌else◌}
 use Rattle.std.proofs.lemmas.Bool.Decides.{nat_tests}
-use Rattle.sw_scan.specs.declared.brackets.Stops.TheVariants as stops
-use Rattle.sw_scan.specs.declared.runs.Class.TheVariants as classes
-use Rattle.sw_scan.specs.Bytes.{sign, byte, continues, is_white}
-use Rattle.sw_scan.specs.Runs.{begins_name, next}
-use Rattle.sw_scan.specs.Pieces.{is_cut, piece}
-use Rattle.sw_scan.specs.Brackets.{stopped, scan_step, scan_by, stop_at, stop_behind}
-use Rattle.sw_scan.proofs.Bounds.{if_true, if_false, run_step, run_stop, run_forward}
-use Rattle.sw_scan.proofs.StopLemmas.{stops_by_step}
+use Rattle.sw_text_scan.specs.declared.brackets.Stops.TheVariants as stops
+use Rattle.sw_text_scan.specs.declared.runs.Class.TheVariants as classes
+use Rattle.sw_text_scan.specs.Bytes.{sign, byte, continues, is_white}
+use Rattle.sw_text_scan.specs.Runs.{begins_name, next}
+use Rattle.sw_text_scan.specs.Pieces.{is_cut, piece}
+use Rattle.sw_text_scan.specs.Brackets.{stopped, scan_step, scan_by, stop_at, stop_behind}
+use Rattle.sw_text_scan.proofs.Bounds.{if_true, if_false, run_step, run_stop, run_forward}
+use Rattle.sw_text_scan.proofs.StopLemmas.{stops_by_step}
 use Rattle.sw_selector.specs.declared.selector.Part.{Part}
 use Rattle.sw_selector.specs.declared.selector.Part.TheVariants as parts
 use Rattle.sw_selector.specs.Attributes.{white, name_end}

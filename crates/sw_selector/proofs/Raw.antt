@@ -2,12 +2,12 @@
 use Rattle.std.proofs.Common.{◌≡◌, ℕ, zero, suc, ◌+◌, ◌-◌, ◌≤◌, ◌<◌, Bool, true, false, not, ◌&&◌, ◌||◌, inl, inr, List, [], ◌∷◌, length, refl, sym, ◌∙◌, ap, arith, Some, None}
 use Rattle.std.specs.Prelude.{◌==◌, nat_lt, nat_le}
 use Rattle.std.proofs.lemmas.Bool.Decides.{nat_tests}
-use Rattle.sw_scan.specs.declared.brackets.Stops.TheVariants as stops
-use Rattle.sw_scan.specs.declared.signs.TheConstants.{END, CARRIAGE_RETURN, LINE_FEED}
-use Rattle.sw_scan.specs.Bytes.{sign, byte, is_break, is_white, is_hex_digit, is_quote}
-use Rattle.sw_scan.specs.Runs.{escape_end, hex_end}
-use Rattle.sw_scan.specs.Brackets.{stops_by, closing, is_closing, over, string_end, Scan, at_place, scan_step, stopped, stop_behind}
-use Rattle.sw_scan.proofs.Bounds.{if_false, and_left}
+use Rattle.sw_text_scan.specs.declared.brackets.Stops.TheVariants as stops
+use Rattle.sw_text_scan.specs.declared.signs.TheConstants.{END, CARRIAGE_RETURN, LINE_FEED}
+use Rattle.sw_text_scan.specs.Bytes.{sign, byte, is_break, is_white, is_hex_digit, is_quote}
+use Rattle.sw_text_scan.specs.Runs.{escape_end, hex_end}
+use Rattle.sw_text_scan.specs.Brackets.{stops_by, closing, is_closing, over, string_end, Scan, at_place, scan_step, stopped, stop_behind}
+use Rattle.sw_text_scan.proofs.Bounds.{if_false, and_left}
 use Rattle.sw_selector.proofs.Lexical.{equal}
 use Rattle.sw_selector.proofs.Characters.{Character, Known, known, slash_next, character_next, hex_some, hex_last, hex_not_white, name_not_slash}
 use Rattle.sw_selector.proofs.Kept.{Alike, fewer, later, character_kept, hex_end_alike}

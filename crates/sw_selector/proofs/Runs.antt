@@ -2,12 +2,12 @@
 use Rattle.std.proofs.Common.{◌≡◌, ℕ, zero, suc, ◌+◌, ◌-◌, ◌≤◌, ◌<◌, Bool, true, false, not, ◌&&◌, ◌||◌, inl, List, refl, sym, ◌∙◌, ap, subst, arith}
 use Rattle.std.specs.Prelude.{◌==◌, nat_lt, if◌then◌else◌}
 use Rattle.std.proofs.lemmas.Bool.Decides.{nat_tests}
-use Rattle.sw_scan.specs.declared.runs.Class.{Class}
-use Rattle.sw_scan.specs.declared.runs.Class.TheVariants as classes
-use Rattle.sw_scan.specs.declared.signs.TheConstants.{END, CARRIAGE_RETURN, LINE_FEED}
-use Rattle.sw_scan.specs.Bytes.{sign, byte, is_break, is_white, is_name_byte}
-use Rattle.sw_scan.specs.Runs.{white_end, escape_end, text_next, next, run_end}
-use Rattle.sw_scan.proofs.Bounds.{if_true, if_false, run_step, run_stop, run_forward}
+use Rattle.sw_text_scan.specs.declared.runs.Class.{Class}
+use Rattle.sw_text_scan.specs.declared.runs.Class.TheVariants as classes
+use Rattle.sw_text_scan.specs.declared.signs.TheConstants.{END, CARRIAGE_RETURN, LINE_FEED}
+use Rattle.sw_text_scan.specs.Bytes.{sign, byte, is_break, is_white, is_name_byte}
+use Rattle.sw_text_scan.specs.Runs.{white_end, escape_end, text_next, next, run_end}
+use Rattle.sw_text_scan.proofs.Bounds.{if_true, if_false, run_step, run_stop, run_forward}
 use Rattle.sw_selector.proofs.Lexical.{equal, split}
 use Rattle.sw_selector.proofs.Characters.{is_pair, Known, known, slash_next, character_next, white_pair, white_one, white_zero}
 use Rattle.sw_selector.proofs.Kept.{Alike, first, later, fewer, character_kept}

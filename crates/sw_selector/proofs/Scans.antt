@@ -2,15 +2,15 @@
 use Rattle.std.proofs.Common.{◌≡◌, ℕ, zero, suc, ◌+◌, ◌-◌, ◌≤◌, ◌<◌, true, false, List, [], ◌∷◌, ◌++◌, length, take, refl, sym, ◌∙◌, ap, subst, arith, Option, Some, None}
 use Rattle.std.specs.Prelude.{◌==◌, nat_lt, if◌then◌else◌}
 use Rattle.std.proofs.lemmas.Bool.Decides.{nat_tests}
-use Rattle.sw_scan.specs.declared.brackets.Stops.TheVariants as stops
-use Rattle.sw_scan.specs.declared.runs.Class.TheVariants as classes
-use Rattle.sw_scan.specs.declared.signs.TheConstants.{END}
-use Rattle.sw_scan.specs.Bytes.{sign, byte, is_quote}
-use Rattle.sw_scan.specs.Runs.{escape_end, run_end}
-use Rattle.sw_scan.specs.Brackets.{closing, is_closing, innermost, over, string_end, Scan, at_place, past_string, scan_step, stopped, scan_by, scan_from, stop_behind}
-use Rattle.sw_scan.proofs.Bounds.{if_true, if_false, run_forward}
-use Rattle.sw_scan.proofs.Progress.{either}
-use Rattle.sw_scan.proofs.StopLemmas.{stops_by_step}
+use Rattle.sw_text_scan.specs.declared.brackets.Stops.TheVariants as stops
+use Rattle.sw_text_scan.specs.declared.runs.Class.TheVariants as classes
+use Rattle.sw_text_scan.specs.declared.signs.TheConstants.{END}
+use Rattle.sw_text_scan.specs.Bytes.{sign, byte, is_quote}
+use Rattle.sw_text_scan.specs.Runs.{escape_end, run_end}
+use Rattle.sw_text_scan.specs.Brackets.{closing, is_closing, innermost, over, string_end, Scan, at_place, past_string, scan_step, stopped, scan_by, scan_from, stop_behind}
+use Rattle.sw_text_scan.proofs.Bounds.{if_true, if_false, run_forward}
+use Rattle.sw_text_scan.proofs.Progress.{either}
+use Rattle.sw_text_scan.proofs.StopLemmas.{stops_by_step}
 use Rattle.sw_selector.proofs.Lexical.{split}
 use Rattle.sw_selector.proofs.Characters.{escape_none}
 use Rattle.sw_selector.proofs.Local.{some_is}

@@ -3,13 +3,13 @@ use Rattle.std.proofs.Common.{◌≡◌, ℕ, ◌+◌, ◌-◌, ◌≤◌, ◌<�
 use Rattle.std.specs.Prelude.{◌==◌, nat_le, slice_range, codes, if◌then◌else◌}
 use Rattle.std.proofs.lemmas.Bool.Decides.{nat_tests}
 use Rattle.std.proofs.Math.Seq.{drop-append_seam, take-append_seam}
-use Rattle.sw_scan.specs.declared.runs.Class.TheVariants as classes
-use Rattle.sw_scan.specs.declared.signs.TheConstants.{LINE_FEED}
-use Rattle.sw_scan.specs.Bytes.{sign, byte, continues}
-use Rattle.sw_scan.specs.Runs.{run_from, run_end, next, begins_name}
-use Rattle.sw_scan.specs.Pieces.{is_cut, piece}
-use Rattle.sw_scan.proofs.Bounds.{if_true, if_false, and_right, run_onward, next_from}
-use Rattle.sw_scan.proofs.Progress.{run_on, run_stops}
+use Rattle.sw_text_scan.specs.declared.runs.Class.TheVariants as classes
+use Rattle.sw_text_scan.specs.declared.signs.TheConstants.{LINE_FEED}
+use Rattle.sw_text_scan.specs.Bytes.{sign, byte, continues}
+use Rattle.sw_text_scan.specs.Runs.{run_from, run_end, next, begins_name}
+use Rattle.sw_text_scan.specs.Pieces.{is_cut, piece}
+use Rattle.sw_text_scan.proofs.Bounds.{if_true, if_false, and_right, run_onward, next_from}
+use Rattle.sw_text_scan.proofs.Progress.{run_on, run_stops}
 use Rattle.sw_selector.specs.Attributes.{name_end}
 use Rattle.sw_selector.specs.Names.{unclosed_from, ends_unclosed, name_text}
 use Rattle.sw_selector.specs.Laws.{parts_names}

@@ -2,9 +2,9 @@
 use Rattle.std.proofs.Common.{◌≡◌, ℕ, zero, suc, ◌+◌, ◌-◌, ◌≤◌, ◌<◌, Bool, true, false, List, length, refl, sym, ◌∙◌, ap, arith}
 use Rattle.std.specs.Prelude.{nat_lt, if◌then◌else◌}
 use Rattle.std.proofs.lemmas.Bool.Decides.{nat_tests}
-use Rattle.sw_scan.specs.declared.runs.Class.TheVariants as classes
-use Rattle.sw_scan.specs.Runs.{next}
-use Rattle.sw_scan.proofs.Bounds.{next_from, next_within, if_true, if_false}
+use Rattle.sw_text_scan.specs.declared.runs.Class.TheVariants as classes
+use Rattle.sw_text_scan.specs.Runs.{next}
+use Rattle.sw_text_scan.proofs.Bounds.{next_from, next_within, if_true, if_false}
 use Rattle.sw_selector.specs.Names.{is_unclosed, unclosed_from}
 
 module _ (bs : List ℕ) where

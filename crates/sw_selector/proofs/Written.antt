@@ -4,13 +4,13 @@ use Rattle.std.specs.Prelude.{◌==◌, nat_le, slice_get, slice_range, unwrap_o
 use Rattle.std.proofs.lemmas.Bool.Decides.{nat_tests}
 use Rattle.std.proofs.lemmas.Option.{unwrap_or-slice_get}
 use Rattle.std.proofs.lemmas.List.{get_or-take, get_or-drop, get_or_append_left, get_or-append-add, length-take-le, length-drop}
-use Rattle.sw_scan.specs.declared.runs.Class.TheVariants as classes
-use Rattle.sw_scan.specs.declared.signs.TheConstants.{END, LINE_FEED}
-use Rattle.sw_scan.specs.Bytes.{sign, byte, byte_in, continues, is_name_byte}
-use Rattle.sw_scan.specs.Runs.{escape_end, run_from, run_end, next, begins_name}
-use Rattle.sw_scan.specs.Pieces.{is_cut, piece}
-use Rattle.sw_scan.proofs.Bounds.{if_true, if_false, run_onward, next_from}
-use Rattle.sw_scan.proofs.Progress.{name_taken, run_on, run_stops}
+use Rattle.sw_text_scan.specs.declared.runs.Class.TheVariants as classes
+use Rattle.sw_text_scan.specs.declared.signs.TheConstants.{END, LINE_FEED}
+use Rattle.sw_text_scan.specs.Bytes.{sign, byte, byte_in, continues, is_name_byte}
+use Rattle.sw_text_scan.specs.Runs.{escape_end, run_from, run_end, next, begins_name}
+use Rattle.sw_text_scan.specs.Pieces.{is_cut, piece}
+use Rattle.sw_text_scan.proofs.Bounds.{if_true, if_false, run_onward, next_from}
+use Rattle.sw_text_scan.proofs.Progress.{name_taken, run_on, run_stops}
 use Rattle.sw_selector.specs.Attributes.{name_end}
 use Rattle.sw_selector.specs.Names.{unclosed_from, ends_unclosed, name_text}
 use Rattle.sw_selector.specs.Laws.{parts_names, kept_name, KeepsName}

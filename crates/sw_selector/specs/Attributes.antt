@@ -1,9 +1,9 @@
 -- Where attribute selectors and namespace prefixes end (Selectors Level 4). A modifier is one letter.
 use Rattle.std.specs.Prelude.{ℕ, ◌+◌, List, Option, Some, None, Bool, not, ◌&&◌, ◌||◌, ◌==◌, if◌then◌else◌}
-use Rattle.sw_scan.specs.declared.runs.Class.TheVariants as classes
-use Rattle.sw_scan.specs.Bytes.{sign, is_quote, byte, is_letter}
-use Rattle.sw_scan.specs.Runs.{run_end, begins_name}
-use Rattle.sw_scan.specs.Brackets.{string_end}
+use Rattle.sw_text_scan.specs.declared.runs.Class.TheVariants as classes
+use Rattle.sw_text_scan.specs.Bytes.{sign, is_quote, byte, is_letter}
+use Rattle.sw_text_scan.specs.Runs.{run_end, begins_name}
+use Rattle.sw_text_scan.specs.Brackets.{string_end}
 
 -- behind white space
 abbrev pub white : List ℕ → ℕ → ℕ

@@ -1,12 +1,12 @@
 -- What a list of selectors is (Selectors Level 4, and Sass for `&`, `%name` and combinators in front), row by row. A
 -- row says that what stands from one place of a text to another is such a thing, and what it reads as.
 use Rattle.std.specs.Prelude.{◌≡◌, ℕ, zero, suc, ◌+◌, ◌<◌, List, [], ◌∷◌, ◌++◌, Some, true, false, ◌==◌}
-use Rattle.sw_scan.specs.declared.brackets.Stops.TheVariants as stops
-use Rattle.sw_scan.specs.declared.signs.TheConstants.{END}
-use Rattle.sw_scan.specs.Bytes.{sign, byte}
-use Rattle.sw_scan.specs.Runs.{begins_name}
-use Rattle.sw_scan.specs.Pieces.{piece}
-use Rattle.sw_scan.specs.Brackets.{stop_at}
+use Rattle.sw_text_scan.specs.declared.brackets.Stops.TheVariants as stops
+use Rattle.sw_text_scan.specs.declared.signs.TheConstants.{END}
+use Rattle.sw_text_scan.specs.Bytes.{sign, byte}
+use Rattle.sw_text_scan.specs.Runs.{begins_name}
+use Rattle.sw_text_scan.specs.Pieces.{piece}
+use Rattle.sw_text_scan.specs.Brackets.{stop_at}
 use Rattle.sw_selector.specs.declared.selector.Part.{Part}
 use Rattle.sw_selector.specs.declared.selector.Part.TheVariants as parts
 use Rattle.sw_selector.specs.declared.selector.Combinator.{Combinator}

@@ -2,10 +2,10 @@
 use Rattle.std.specs.Prelude.{◌≡◌, ◌+◌, ◌*◌, ◌<◌, ◌≤◌, ◌↔◌, ◌++◌, ◌||◌, ◌==◌, ℕ, List, [], ◌∷◌, map, length, Bool, true, not, Ok, Err}
 use Rattle.std.specs.List.{flat_map, filter}
 use Rattle.std.specs.Str.{IsUtf8}
-use Rattle.sw_scan.specs.declared.signs.TheConstants.{LINE_FEED}
-use Rattle.sw_scan.specs.Bytes.{sign, byte, is_name_byte}
-use Rattle.sw_scan.specs.Runs.{begins_name}
-use Rattle.sw_scan.specs.Pieces.{is_cut}
+use Rattle.sw_text_scan.specs.declared.signs.TheConstants.{LINE_FEED}
+use Rattle.sw_text_scan.specs.Bytes.{sign, byte, is_name_byte}
+use Rattle.sw_text_scan.specs.Runs.{begins_name}
+use Rattle.sw_text_scan.specs.Pieces.{is_cut}
 use Rattle.sw_selector.specs.declared.fault.SelectorFault.TheVariants.{BadSelector, TooLarge}
 use Rattle.sw_selector.specs.declared.holds.Sought.TheVariants as soughts
 use Rattle.sw_selector.specs.declared.reader.TheConstants.{LEVELS, MOST_SELECTORS}

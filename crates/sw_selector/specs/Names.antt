@@ -2,10 +2,10 @@
 -- point"). Where a name ends in one without it, a space is added, so that nothing that is written behind the name joins
 -- it.
 use Rattle.std.specs.Prelude.{ℕ, zero, suc, ◌-◌, List, ◌++◌, length, Bool, false, ◌&&◌, ◌==◌, nat_lt, codes, if◌then◌else◌}
-use Rattle.sw_scan.specs.declared.runs.Class.TheVariants as classes
-use Rattle.sw_scan.specs.Bytes.{sign, byte, is_hex_digit}
-use Rattle.sw_scan.specs.Runs.{escape_end, next}
-use Rattle.sw_scan.specs.Pieces.{piece}
+use Rattle.sw_text_scan.specs.declared.runs.Class.TheVariants as classes
+use Rattle.sw_text_scan.specs.Bytes.{sign, byte, is_hex_digit}
+use Rattle.sw_text_scan.specs.Runs.{escape_end, next}
+use Rattle.sw_text_scan.specs.Pieces.{piece}
 
 -- the name character at i is a hexadecimal escape that no white space closes: its last byte is a digit
 unfoldable pub is_unclosed : List ℕ → ℕ → Bool

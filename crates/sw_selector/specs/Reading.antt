@@ -2,10 +2,10 @@
 -- as one and one at the end as none; in a pseudo's argument each comma counts. A combinator may stand in front of a
 -- complex selector, and none at its end.
 use Rattle.std.specs.Prelude.{◌≡◌, ℕ, zero, suc, ◌+◌, List, [], ◌∷◌, ◌++◌, length, Option, Some, None, Result, Ok, Err, Bool, true, false, ◌&&◌, ◌||◌, ◌==◌, nat_lt, if◌then◌else◌}
-use Rattle.sw_scan.specs.declared.signs.TheConstants.{END}
-use Rattle.sw_scan.specs.declared.runs.Class.TheVariants as classes
-use Rattle.sw_scan.specs.Bytes.{sign, byte}
-use Rattle.sw_scan.specs.Runs.{run_end, begins_name}
+use Rattle.sw_text_scan.specs.declared.signs.TheConstants.{END}
+use Rattle.sw_text_scan.specs.declared.runs.Class.TheVariants as classes
+use Rattle.sw_text_scan.specs.Bytes.{sign, byte}
+use Rattle.sw_text_scan.specs.Runs.{run_end, begins_name}
 use Rattle.sw_selector.specs.declared.reader.TheConstants.{LEVELS, MOST_SELECTORS}
 use Rattle.sw_selector.specs.declared.fault.SelectorFault.{SelectorFault}
 use Rattle.sw_selector.specs.declared.fault.SelectorFault.TheVariants.{BadSelector, NoParent, TooLarge, Memory}

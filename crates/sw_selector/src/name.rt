@@ -1,11 +1,11 @@
 // Names as they are kept.
 ghost use Rattle.std.specs.Prelude.{◌≡◌, IfOk};
-ghost use Rattle.sw_scan.specs.Pieces.{piece};
+ghost use Rattle.sw_text_scan.specs.Pieces.{piece};
 ghost use Rattle.sw_selector.specs.Names.{is_unclosed, ends_unclosed, name_text};
 
 use std::alloc::Global;
-use sw_scan::{Class, byte_at, escape_end, is_hex_digit, next_at, piece, signs};
 use sw_text::{Memory, Name};
+use sw_text_scan::{Class, byte_at, escape_end, is_hex_digit, next_at, piece, signs};
 
 #[tactic(auto, unfolding(crate::specs::Names::is_unclosed))]
 fn is_unclosed(bytes: &[u8], at: usize) -> bool

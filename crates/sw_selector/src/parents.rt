@@ -73,6 +73,7 @@ fn ends_in_name(complex: &[Part]) -> bool
     }
 }
 
+/// Whether the last part is the combinator that is written as white space; in the empty selector none is.
 #[tactic(auto, unfolding(crate::specs::Nesting::ends_in_space))]
 pub fn ends_in_space(complex: &[Part]) -> bool
     ensures { result ≡ ends_in_space complex.now }
@@ -92,6 +93,7 @@ fn ends_with(ends: Ends, complex: &[Part]) -> Ends
     }
 }
 
+/// How these parents begin and end. Of no parents, all end in a name and none has a combinator in front.
 #[tactic(auto, unfolding(crate::specs::Nesting::ends_of))]
 pub fn ends_of(list: &[Complex]) -> Ends
     ensures { result ≡ ends_of list.now }

@@ -12,8 +12,8 @@ use crate::simple::{
 use crate::turn::{Before, Turn, combinator_of, ends_complex, is_joined, is_simple};
 use crate::{Combinator, Complex, Part, SelectorFault, Selectors};
 use std::alloc::Global;
-use sw_scan::{Class, begins_name, byte_at, run_end, signs};
 use sw_text::{List, Name, Shared};
+use sw_text_scan::{Class, begins_name, byte_at, run_end, signs};
 
 /// At most so many pseudos with selectors stand in each other.
 pub const LEVELS: u8 = 128;

@@ -7,8 +7,8 @@ use crate::attribute::{attribute_end, name_end, prefix_end, white};
 use crate::name::{name_text, text_of};
 use crate::{Part, SelectorFault};
 use std::alloc::Global;
-use sw_scan::{Stops, begins_name, byte_at, piece, signs, stop_at, trimmed_end};
 use sw_text::{Memory, Name};
+use sw_text_scan::{Stops, begins_name, byte_at, piece, signs, stop_at, trimmed_end};
 
 #[tactic(auto, unfolding(crate::specs::Simples::text_at))]
 fn text_at(
@@ -36,6 +36,8 @@ pub fn class_at(alloc: Global, text: &str, at: usize) -> Result<(Part, usize), S
     Ok((Part::Named(name), to))
 }
 
+/// The placeholder whose `%` stands at `at`, and the place behind it. `BadSelector` where no name follows;
+/// `Memory` exactly where none was found.
 pub fn placeholder_at(alloc: Global, text: &str, at: usize) -> Result<(Part, usize), SelectorFault>
     requires { at < length text.now }
     ensures { IsRead result (placeholder_at text.now at) }
@@ -68,6 +70,8 @@ pub fn type_at(alloc: Global, text: &str, at: usize) -> Result<(Part, usize), Se
     type_behind(alloc, text, at, prefix_end(text.as_bytes(), at))
 }
 
+/// The attribute whose `[` stands at `at`, as written, and the place behind it. `BadSelector` where it is none
+/// (docs/LANGUAGE.md, "Selectors"); `Memory` exactly where none was found.
 pub fn attribute_at(alloc: Global, text: &str, at: usize) -> Result<(Part, usize), SelectorFault>
     requires { at < length text.now }
     ensures { IsRead result (attribute_at text.now at) }

@@ -3,7 +3,7 @@ ghost use Rattle.std.specs.Prelude.{◌≡◌};
 ghost use Rattle.sw_selector.specs.Reading.{is_simple, is_joined, combinator_of, ends_complex};
 
 use crate::{Combinator, Part};
-use sw_scan::signs;
+use sw_text_scan::signs;
 
 /// What stands before a place in a complex selector.
 #[derive(Clone, Copy, Debug, PartialEq, Eq)]
@@ -20,6 +20,7 @@ pub enum Turn {
     Takes(Part, Before, usize),
 }
 
+/// Whether a simple selector stands before the place.
 pub fn is_simple(before: Before) -> bool
     ensures { result ≡ is_simple before }
 {
@@ -29,6 +30,7 @@ pub fn is_simple(before: Before) -> bool
     }
 }
 
+/// Whether a combinator stands before the place, which a compound has to follow.
 pub fn is_joined(before: Before) -> bool
     ensures { result ≡ is_joined before }
 {

@@ -85,6 +85,8 @@ fn write_sign(out: &mut String, first: bool, sign: &str) -> Result<(), Memory>
     Ok(())
 }
 
+/// Writes a part behind what is written; a sign that comes first in its selector has no space before it.
+/// After `Memory`, which comes exactly where none was found, a part of it may be written.
 #[cycle(write)]
 #[tactic(auto, using(crate::proofs::Unrolled::text_pseudo, crate::proofs::Unrolled::text_parent, crate::proofs::Unrolled::text_placeholder, crate::proofs::Unrolled::text_combinator, crate::proofs::Unrolled::text_named, crate::proofs::Unrolled::text_closed))]
 pub fn write_part(alloc: Global, out: &mut String, first: bool, part: &Part) -> Result<(), Memory>

@@ -2,11 +2,11 @@
 use Rattle.std.proofs.Common.{◌≡◌, ℕ, ◌+◌, ◌-◌, ◌<◌, Bool, true, false, not, ◌&&◌, ◌||◌, List, ◌++◌, refl, sym, ◌∙◌, ap, arith, length, Some, Result}
 use Rattle.std.specs.Prelude.{◌==◌, if◌then◌else◌}
 use Rattle.std.proofs.lemmas.Bool.Decides.{nat_tests}
-use Rattle.sw_scan.specs.declared.runs.Class.TheVariants as classes
-use Rattle.sw_scan.specs.Bytes.{sign, byte, is_white, is_quote, is_digit, is_letter, is_hex_digit, starts_plainly, is_name_byte, opens_at, begins_silent, begins_loud}
-use Rattle.sw_scan.specs.Runs.{next, run_end, escape_end, begins_name}
-use Rattle.sw_scan.specs.Words.{is_u, begins_number, begins_range, begins_url}
-use Rattle.sw_scan.proofs.Bounds.{if_true, if_false, run_stop, and_left, and_right}
+use Rattle.sw_text_scan.specs.declared.runs.Class.TheVariants as classes
+use Rattle.sw_text_scan.specs.Bytes.{sign, byte, is_white, is_quote, is_digit, is_letter, is_hex_digit, starts_plainly, is_name_byte, opens_at, begins_silent, begins_loud}
+use Rattle.sw_text_scan.specs.Runs.{next, run_end, escape_end, begins_name}
+use Rattle.sw_text_scan.specs.Words.{is_u, begins_number, begins_range, begins_url}
+use Rattle.sw_text_scan.proofs.Bounds.{if_true, if_false, run_stop, and_left, and_right}
 use Rattle.sw_tokens.specs.declared.token.Token.{Token}
 use Rattle.sw_tokens.specs.declared.token.TokenKind.TheVariants as kinds
 use Rattle.sw_tokens.specs.declared.token.Syntax.{Syntax}

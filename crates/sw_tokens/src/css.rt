@@ -1,8 +1,8 @@
 // What begins at a place of a text of plain CSS.
 ghost use Rattle.std.specs.Prelude.{◌≡◌, ◌+◌, ◌<◌, ◌≤◌, length, IfOk};
 ghost use Rattle.std.specs.Str.{IsCharBoundary};
-ghost use Rattle.sw_scan.specs.Bytes.{byte};
-ghost use Rattle.sw_scan.specs.Runs.{run_end};
+ghost use Rattle.sw_text_scan.specs.Bytes.{byte};
+ghost use Rattle.sw_text_scan.specs.Runs.{run_end};
 ghost use Rattle.sw_tokens.specs.Pieces.{css_quote, css_loud, css_piece};
 
 use crate::decoded::decoded;
@@ -10,11 +10,11 @@ use crate::pieces::{Before, Change, Piece, made, made_white, word_piece};
 use crate::skips::Inside;
 use crate::token::TokenKind;
 use std::alloc::Global;
-use sw_scan::signs::FIRST_WIDE;
-use sw_scan::{
+use sw_text::Memory;
+use sw_text_scan::signs::FIRST_WIDE;
+use sw_text_scan::{
     Class, begins_loud, begins_silent, byte_at, ends_loud, is_quote, is_white, opens_at, run_end,
 };
-use sw_text::Memory;
 
 /// Where what a string of plain CSS holds from a place on ends: at its quote, a line break or the end of the text.
 fn css_text_end(text: &str, quote: u8, from: usize) -> usize

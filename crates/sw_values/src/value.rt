@@ -183,6 +183,7 @@ impl Value {
         }
     }
 
+    /// What the value weighs with all that is in it, from 1 to 1,048,576. It is kept, so that nothing is walked.
     pub fn weight(&self) -> u32
         ensures weight { result ≡ weigh self.now }
         ensures light { result ≤ most }
@@ -190,6 +191,7 @@ impl Value {
         self.weight
     }
 
+    /// How deep the value nests, up to 1,000. It is kept, so that nothing is walked.
     pub fn nesting(&self) -> u16
         ensures nesting { result ≡ nest self.now }
         ensures flat { result ≤ deepest }

@@ -28,6 +28,7 @@ impl Model for Written {
 }
 
 impl Written {
+    /// The empty text, which isn't too long. Takes no memory.
     pub fn new(alloc: Global) -> Written
         ensures { result ≡ Some [] }
     {

@@ -7,9 +7,9 @@ use Rattle.sw_text.specs.declared.fault.Fault.{Fault}
 use Rattle.sw_text.specs.Faults.{number_of}
 use Rattle.sw_folder.specs.declared.edit.EditFault.{EditFault}
 use Rattle.sw_folder.specs.declared.edit.EditFault.TheVariants.{BadPath, TooLong, TooManyFiles, NotText, NoSuchFile, Memory}
-use Rattle.sw_world.specs.declared.op.SayKind.{SayKind}
-use Rattle.sw_world.specs.declared.op.SayKind.TheVariants.{Warn, Debug, Fatal}
-use Rattle.sw_world.specs.declared.op.Saying.{Saying}
+use Rattle.sw_world.specs.declared.question.SayKind.{SayKind}
+use Rattle.sw_world.specs.declared.question.SayKind.TheVariants.{Warn, Debug, Fatal}
+use Rattle.sw_world.specs.declared.question.Saying.{Saying}
 use Rattle.sw_record.specs.declared.reply.Cause.{Cause}
 use Rattle.sw_record.specs.declared.reply.Cause.TheVariants.{First, Text, Config, Load, Member, Variable, Call}
 use Rattle.sw_record.specs.declared.reply.Outcome.{Outcome}

@@ -2,6 +2,8 @@
 ghost use Rattle.std.specs.Prelude.{◌≡◌, ◌≤◌, IsTrue};
 ghost use Rattle.sw_wire.specs.Numbers.{number_of, number_from, can_follow};
 
+/// The number that one to seven digits write, at most 9,999,999. None for another byte, a needless leading zero, no
+/// digit or more than seven (docs/PROTOCOL.md, The script of a session).
 pub fn read_number(digits: &[u8]) -> Option<u32>
     ensures { result ≡ number_of digits.now }
 {

@@ -33,8 +33,8 @@ pub fn write_reply(alloc: Global, reply: &Reply, out: &mut Vec<u8>) -> Result<()
     }
 }
 
-/// Writes the reply to a compile as `write_reply` does, but for the bytes of a long CSS and the line feed behind them: it
-/// gives these bytes, which are sent from where they stand, and not copied.
+/// Writes the reply to a compile as `write_reply` does, but for the bytes of a long CSS and the line feed behind them:
+/// it gives these bytes, which are sent from where they stand, and not copied.
 pub fn write_front<'r>(
     alloc: Global,
     reply: &'r Reply,

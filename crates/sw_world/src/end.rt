@@ -1,10 +1,10 @@
 // How bodies end, and where they stop.
 ghost use Rattle.std.specs.Prelude.{◌≡◌, IfOk};
 
-use crate::{Op, Table};
+use crate::{Question, Table};
 use sw_css_tree::CssTree;
-use sw_syntax_tree::Callable;
 use sw_text::{Fault, List, Memory, Name, Shared};
+use sw_tree::Callable;
 use sw_values::Value;
 
 /// The names and values with which a module is configured; each name once.
@@ -33,7 +33,7 @@ pub enum End {
 #[derive(Drop)]
 pub enum Turn {
     /// It waits for the answer to this load.
-    Load(Op),
+    Load(Question),
     Ended(End),
 }
 

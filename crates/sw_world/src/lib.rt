@@ -1,23 +1,28 @@
 //! What a module's body asks of the outside, what it is answered, and how it ends; what answers questions (`World`,
-//! `Hosts`) and what runs bodies (`Engine`). Questions go up from the evaluator, answers come down.
+//! `Hosts`), who confirms kept answers (`Confirms`, `ConfirmsNamed`), and what runs bodies (`Engine`). Questions go up
+//! from the evaluator, answers come down.
 #![tactic(auto)]
 
 mod answer;
+mod confirms;
 mod end;
 mod engine;
 mod hosts;
-mod op;
 mod parts;
+mod question;
 mod share;
 mod table;
+mod variables;
 mod world;
 
 pub use answer::Answer;
+pub use confirms::ConfirmsNamed;
 pub use end::{Config, End, Finish, Turn};
 pub use engine::Engine;
 pub use hosts::{Hosts, NoHosts};
-pub use op::{Filter, Given, How, Member, Op, SayKind, Saying};
 pub use parts::share_pairs;
+pub use question::{Filter, Given, How, Member, Question, SayKind, Saying};
 pub use share::Share;
 pub use table::{Table, find_in};
+pub use variables::NamedVariables;
 pub use world::{Confirms, World};

@@ -33,6 +33,7 @@ impl Pairs {
         self.keys.get().len()
     }
 
+    /// Whether there are no keys. Takes no memory.
     pub fn is_empty(&self) -> bool
         ensures { result ≡ is_empty self.now }
     {

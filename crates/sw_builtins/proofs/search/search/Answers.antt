@@ -2,7 +2,7 @@ use Rattle.std.proofs.Common.{ℕ, List, Bor, rules, sym, ◌∙◌}
 use Rattle.std.specs.Ordering.{nat_cmp}
 use Rattle.std.specs.Cmp.Lexicographic.{slice_cmp}
 use Rattle.std.proofs.lemmas.Fn.{always_returns_same}
-use Rattle.sw_syntax_tree.specs.declared.callable.Kind.{Kind}
+use Rattle.sw_tree.specs.declared.callable.Kind.{Kind}
 use Rattle.sw_builtins.specs.declared.built_in.Found.{Found}
 use Rattle.sw_builtins.proofs.Searching.{present, none_found}
 use Rattle.sw_builtins.proofs.search.search.Goals as goal

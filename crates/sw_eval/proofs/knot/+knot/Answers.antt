@@ -1,6 +1,6 @@
 use Rattle.std.proofs.Common.{◌≡◌, arith}
 use Rattle.sw_eval.specs.Means.{value_to, does_to, enter_to}
-use Rattle.sw_talk.proofs.Steps.{did_plain}
+use Rattle.sw_eval_questions.proofs.Steps.{did_plain}
 use Rattle.sw_eval.proofs.Depth.{one_level, one_level_enter, one_level_does}
 use Rattle.sw_eval.proofs.knot.+knot.Goals as goal
 

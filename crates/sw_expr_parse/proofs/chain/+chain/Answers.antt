@@ -1,12 +1,12 @@
 use Rattle.std.proofs.Common.{◌≡◌, ◌<◌, ℕ, [], ◌∷◌, true, false, length, refl, sym, subst, arith, add-one}
 use Rattle.std.proofs.lemmas.Result.{err_from_is_err_and}
 use Rattle.std.proofs.lemmas.List.{map-append}
-use Rattle.sw_grammar.proofs.Loops.{at_first, loop_step, loop_end, loop_fails, goes_forward}
-use Rattle.sw_grammar.specs.Grammar.{Got}
-use Rattle.sw_syntax.specs.Parts.{Values}
-use Rattle.sw_syntax.specs.Expressions.{link, chain}
-use Rattle.sw_syntax.specs.Reads.{reader}
-use Rattle.sw_syntax.proofs.Decided.{fit, links}
+use Rattle.sw_parse_grammar.proofs.Loops.{at_first, loop_step, loop_end, loop_fails, goes_forward}
+use Rattle.sw_parse_grammar.specs.Grammar.{Got}
+use Rattle.sw_parse_table.specs.Parts.{Values}
+use Rattle.sw_parse_table.specs.Expressions.{link, chain}
+use Rattle.sw_parse_table.specs.Reads.{reader}
+use Rattle.sw_parse_table.proofs.Decided.{fit, links}
 use Rattle.sw_expr_parse.proofs.Climb.{chain_same, chain_links, chain_fails, chain_links_fail}
 use Rattle.sw_expr_parse.proofs.chain.+chain.Goals as goal
 

@@ -1,8 +1,8 @@
 use Rattle.std.proofs.Common.{◌≡◌, ◌+◌, ◌-◌, ◌*◌, ◌∷◌, [], length, map}
-use Rattle.sw_grammar.specs.Grammar.{many, prepend, Got}
-use Rattle.sw_syntax.specs.Parts.{Links, Values}
-use Rattle.sw_syntax.specs.Expressions.{link, chain}
-use Rattle.sw_syntax.specs.Reads.{reader}
+use Rattle.sw_parse_grammar.specs.Grammar.{many, prepend, Got}
+use Rattle.sw_parse_table.specs.Parts.{Links, Values}
+use Rattle.sw_parse_table.specs.Expressions.{link, chain}
+use Rattle.sw_parse_table.specs.Reads.{reader}
 use Rattle.sw_expr_parse.proofs.chain.+chain.Given as goal
 
 abbrev pub decreases-chain_at : goal.decreases-chain_at

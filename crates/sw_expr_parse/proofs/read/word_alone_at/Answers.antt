@@ -1,9 +1,9 @@
 use Rattle.std.proofs.Common.{◌+◌, [], ◌∷◌, ap, ◌∙◌}
-use Rattle.sw_grammar.specs.Grammar.{Got}
-use Rattle.sw_syntax_tree.specs.declared.expr.ExprKind.TheVariants as exprs
-use Rattle.sw_syntax_tree.specs.declared.text.Text.{Text}
-use Rattle.sw_syntax.specs.Parts.{Values}
-use Rattle.sw_syntax.specs.Values.{expression}
+use Rattle.sw_parse_grammar.specs.Grammar.{Got}
+use Rattle.sw_tree.specs.declared.expr.ExprKind.TheVariants as exprs
+use Rattle.sw_tree.specs.declared.text.Text.{Text}
+use Rattle.sw_parse_table.specs.Parts.{Values}
+use Rattle.sw_parse_table.specs.Values.{expression}
 use Rattle.sw_expr_parse.proofs.Alone.{value_alone}
 use Rattle.sw_expr_parse.proofs.read.word_alone_at.Goals as goal
 

@@ -1,9 +1,9 @@
 use Rattle.std.proofs.Common.{◌<◌, true, false, length, refl, sym, arith}
 use Rattle.std.proofs.lemmas.Result.{err_from_is_err_and}
 use Rattle.std.proofs.lemmas.List.{map-append}
-use Rattle.sw_grammar.proofs.Loops.{at_first, loop_step, loop_end, loop_fails, goes_forward}
-use Rattle.sw_syntax.specs.Expressions.{space_item}
-use Rattle.sw_syntax.proofs.Decided.{fit, loops}
+use Rattle.sw_parse_grammar.proofs.Loops.{at_first, loop_step, loop_end, loop_fails, goes_forward}
+use Rattle.sw_parse_table.specs.Expressions.{space_item}
+use Rattle.sw_parse_table.proofs.Decided.{fit, loops}
 use Rattle.sw_expr_parse.proofs.Repeated.{item_read, item_fails}
 use Rattle.sw_expr_parse.proofs.space.space_items_at.Goals as goal
 

@@ -1,8 +1,8 @@
 use Rattle.std.proofs.Common.{◌≡◌, ◌-◌, length, map}
-use Rattle.sw_grammar.specs.Grammar.{many, prepend}
-use Rattle.sw_syntax.specs.Parts.{Values}
-use Rattle.sw_syntax.specs.Expressions.{space_item}
-use Rattle.sw_syntax.specs.Reads.{reader}
+use Rattle.sw_parse_grammar.specs.Grammar.{many, prepend}
+use Rattle.sw_parse_table.specs.Parts.{Values}
+use Rattle.sw_parse_table.specs.Expressions.{space_item}
+use Rattle.sw_parse_table.specs.Reads.{reader}
 use Rattle.sw_expr_parse.proofs.space.space_items_at.Given as goal
 
 abbrev pub invariant-items : goal.invariant-items

@@ -1,4 +1,4 @@
-use Rattle.sw_syntax.specs.Parts.{Value, SpaceList, Sum}
+use Rattle.sw_parse_table.specs.Parts.{Value, SpaceList, Sum}
 use Rattle.sw_expr_parse.proofs.Forms.{form_read}
 use Rattle.sw_expr_parse.proofs.whole.read_form.Goals as goal
 

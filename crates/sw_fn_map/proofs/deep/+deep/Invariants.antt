@@ -1,5 +1,5 @@
 use Rattle.std.proofs.Common.{◌≡◌, ◌+◌, ◌*◌, ◌++◌, drop, Ok}
-use Rattle.sw_fn.specs.Answers.{with}
+use Rattle.sw_fn_call.specs.Answers.{with}
 use Rattle.sw_fn_map.specs.Deep.{deep_pairs, deep_merged}
 use Rattle.sw_fn_map.proofs.deep.+deep.Given as goal
 

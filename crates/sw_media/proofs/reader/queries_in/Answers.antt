@@ -1,6 +1,6 @@
 use Rattle.std.proofs.Common.{◌≡◌, ℕ, ◌+◌, ◌-◌, List, [], ◌∷◌, ◌++◌, Some, length, sym, ◌∙◌, ap, arith}
-use Rattle.sw_scan.specs.declared.signs.TheConstants.{END}
-use Rattle.sw_scan.specs.Bytes.{sign, byte}
+use Rattle.sw_text_scan.specs.declared.signs.TheConstants.{END}
+use Rattle.sw_text_scan.specs.Bytes.{sign, byte}
 use Rattle.sw_media.specs.declared.query.Query.{Query}
 use Rattle.sw_media.specs.Words.{white}
 use Rattle.sw_media.specs.Reading.{query_at, queries_in, conditions_in, list_from}

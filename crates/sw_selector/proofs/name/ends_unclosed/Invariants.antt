@@ -1,6 +1,6 @@
 use Rattle.std.proofs.Common.{◌≡◌, ◌-◌, length}
-use Rattle.sw_scan.specs.declared.runs.Class.TheVariants as classes
-use Rattle.sw_scan.specs.Runs.{next}
+use Rattle.sw_text_scan.specs.declared.runs.Class.TheVariants as classes
+use Rattle.sw_text_scan.specs.Runs.{next}
 use Rattle.sw_selector.specs.Names.{unclosed_from, ends_unclosed}
 use Rattle.sw_selector.proofs.name.ends_unclosed.Given as goal
 

@@ -1,5 +1,5 @@
 use Rattle.std.proofs.Common.{◌≡◌, ℕ, ◌+◌, ◌-◌, List, Some, true, length, sym, ◌∙◌, ap, arith}
-use Rattle.sw_scan.specs.Bytes.{sign, byte}
+use Rattle.sw_text_scan.specs.Bytes.{sign, byte}
 use Rattle.sw_selector.specs.declared.selector.Part.{Part}
 use Rattle.sw_selector.specs.Simples.{takes_selectors}
 use Rattle.sw_selector.specs.Reading.{argument_at, complex_from, complex_at, turn_at, list_from, selectors_in}

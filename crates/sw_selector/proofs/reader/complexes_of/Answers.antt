@@ -1,6 +1,6 @@
 use Rattle.std.proofs.Common.{◌≡◌, ℕ, ◌+◌, ◌-◌, List, Some, length, sym, ◌∙◌, ap, arith}
-use Rattle.sw_scan.specs.declared.signs.TheConstants.{END}
-use Rattle.sw_scan.specs.Bytes.{sign, byte}
+use Rattle.sw_text_scan.specs.declared.signs.TheConstants.{END}
+use Rattle.sw_text_scan.specs.Bytes.{sign, byte}
 use Rattle.sw_selector.specs.declared.selector.Part.{Part}
 use Rattle.sw_selector.specs.Reading.{complex_at, whole_from, complexes_of, selectors_in, commas_end}
 use Rattle.sw_selector.proofs.Loops.{handed_on, is_byte, is_other, whole_fails, whole_ends, whole_wrong, whole_goes}

@@ -1,7 +1,7 @@
 use Rattle.std.proofs.Common.{List, ℕ, sym, ap, subst, ◌∙◌, arith}
 use Rattle.std.specs.Str.{IsCharBoundary}
-use Rattle.sw_scan.specs.declared.runs.Class.TheVariants as classes
-use Rattle.sw_scan.specs.Runs.{run_end}
+use Rattle.sw_text_scan.specs.declared.runs.Class.TheVariants as classes
+use Rattle.sw_text_scan.specs.Runs.{run_end}
 use Rattle.sw_tokens.proofs.Cuts.{IsText, css_text_cut}
 use Rattle.sw_tokens.proofs.css.css_text_end.Goals as goal
 

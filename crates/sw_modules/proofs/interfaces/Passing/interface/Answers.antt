@@ -1,6 +1,6 @@
 use Rattle.std.proofs.Common.{◌≡◌, ◌++◌, ℕ, List, ap, ◌∙◌}
 use Rattle.std.specs.Map.{keys_of}
-use Rattle.sw_syntax_tree.specs.declared.callable.Kind.TheVariants.{Variable, Function, Mixin}
+use Rattle.sw_tree.specs.declared.callable.Kind.TheVariants.{Variable, Function, Mixin}
 use Rattle.sw_values.specs.declared.plain.Plain.{Plain}
 use Rattle.sw_modules.specs.declared.members.Entry.{Entry}
 use Rattle.sw_modules.specs.Interfaces.{own_entries, unhidden, passed}

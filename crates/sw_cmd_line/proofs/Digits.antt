@@ -1,0 +1,17 @@
+-- The digits of a number, one after another.
+use Rattle.std.proofs.Common.{◌≡◌, ℕ, ◌+◌, ◌-◌, ◌*◌, ◌≤◌, ◌<◌, true, false, List, length, drop, get_or, None, Some, refl}
+use Rattle.std.proofs.lemmas.List.{drop_more, drop_all}
+use Rattle.sw_cmd_line.specs.Forms.{number_from, can_follow}
+
+pub number_stops : (n : ℕ) (digits : List ℕ) (i : ℕ) → i < length digits → can_follow n (get_or digits i 0) ≡ false → number_from n (drop i digits) ≡ None
+unfolding number_from
+number_stops n digits i lt e = rw (drop_more digits i 0 lt, e) refl
+
+pub number_goes_on : (n : ℕ) (digits : List ℕ) (i : ℕ) → i < length digits → can_follow n (get_or digits i 0) ≡ true
+    → number_from n (drop i digits) ≡ number_from (10 * n + (get_or digits i 0 - 48)) (drop (i + 1) digits)
+unfolding number_from
+number_goes_on n digits i lt e = rw (drop_more digits i 0 lt, e) refl
+
+pub number_is : (n : ℕ) (digits : List ℕ) (i : ℕ) → length digits ≤ i → number_from n (drop i digits) ≡ Some n
+unfolding number_from
+number_is n digits i le = rw (drop_all i digits le) refl

@@ -1,0 +1,21 @@
+use Rattle.std.proofs.lemmas.Result.{err_from_is_err_and}
+use Rattle.sw_cmd_protocol.specs.Heard.{told_of}
+use Rattle.sw_cmd_protocol.proofs.Writing.{appends_none}
+use Rattle.sw_cmd_protocol.proofs.Fronts.{line_stops, turn_answers, turn_stops, if_ok, if_err}
+use Rattle.sw_cmd_protocol.proofs.service.Service.turn.Goals as goal
+
+pub returns-in_err-line-clause-err : goal.returns-in_err-line-clause-err
+returns-in_err-line-clause-err g c =
+    let q = err_from_is_err_and c.from_residual.result c.from_residual.ensures.1 in
+    let e = c.in_err-line.ensures.err in
+    rw (q.1, q.2) (line_stops g.P.Protocol.rules _ e.0 _ _ _ _ _ e.1 (appends_none _) e.2)
+
+pub returns-clause-ok : goal.returns-clause-ok
+returns-clause-ok g c =
+    let r = c.in_ok-line.ensures.ok in
+    if_ok c.turn.result (λ reply. turn_answers g.P.Protocol.rules c.line.new.line.items c.line.new.self (g.S.Source.left c.line.new.source) _ _ _ _ r.0 r.1 (told_of reply)) c.turn.ensures.ok
+
+pub returns-clause-err : goal.returns-clause-err
+returns-clause-err g c =
+    let r = c.in_ok-line.ensures.ok in
+    if_err c.turn.result (turn_stops g.P.Protocol.rules c.line.new.line.items c.line.new.self (g.S.Source.left c.line.new.source) _ _ _ _ r.0 r.1) c.turn.ensures.err

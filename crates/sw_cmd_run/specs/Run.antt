@@ -1,0 +1,73 @@
+-- What the program does, by the words of its command line. This project's own rule.
+use Rattle.std.specs.Prelude.{◌≡◌, ℕ, List, [], Option, None, Some}
+use Rattle.sw_io.specs.Disks.{Course}
+use Rattle.sw_cmd_line.specs.Forms.{Form, Target, Session, Once, Poll, Make}
+use Rattle.sw_modules.specs.Fresh.{Setting}
+use Rattle.sw_record.specs.declared.reply.Reply.{Reply}
+use Rattle.sw_cmd_protocol.specs.Heard.{Hearing}
+use Rattle.sw_cmd_session.specs.Served as session
+use Rattle.sw_cmd_disk_compile.specs.declared.ending.Ending.{Ending}
+use Rattle.sw_cmd_disk_compile.specs.Once as once
+use Rattle.sw_cmd_workload.specs.declared.ending.Ending.{Ending as Made}
+use Rattle.sw_cmd_workload.specs.Ends as make
+use Rattle.sw_cmd_run.specs.Served as poll
+
+-- what is around the program: the bytes left in the source, those written into the sink, what the disk tells of each
+-- folder, and the paths of the bodies that ran
+pub record Surroundings : Type 0 where
+  pub left : Option (List ℕ)
+  pub written : Option (List ℕ)
+  pub course : List ℕ → Option Course
+  pub ran : List (List ℕ)
+
+abbrev pub surroundings : Option (List ℕ) → Option (List ℕ) → (List ℕ → Option Course) → List (List ℕ) → Surroundings
+surroundings left written course ran = record { left = left; written = written; course = course; ran = ran }
+
+-- nothing was read, written or run
+pub record DoesNothing (status : ℕ) (old new : Surroundings) : Type 0 where
+  pub seven : status ≡ 7
+  pub left : new.left ≡ old.left
+  pub written : new.written ≡ old.written
+  pub course : new.course ≡ old.course
+  pub ran : new.ran ≡ old.ran
+
+-- a session without functions of a host, in which the disk isn't asked
+pub record Serves {State : Type 0} (setting : Setting) (hears : Hearing Reply State) (status : ℕ)
+    (old new : Surroundings) (before now : State) : Type 0 where
+  pub served : session.ServedWith setting hears status (session.surroundings old.left old.written old.ran [])
+      (session.surroundings new.left new.written new.ran []) before now
+  pub course : new.course ≡ old.course
+
+-- one compile of a disk's folder, without a look at the source
+pub record CompilesOnce {State : Type 0} (setting : Setting) (target : Target) (hears : Hearing Reply State)
+    (status : ℕ) (old new : Surroundings) (before now : State) : Type 0 where
+  pub ending : Ending
+  pub ends : once.EndsBy ending setting target hears
+      (once.surroundings (old.course target.dir) old.written old.ran)
+      (once.surroundings (new.course target.dir) new.written new.ran) before now
+  pub tells : status ≡ once.status_of ending
+  pub left : new.left ≡ old.left
+
+-- a made workload, without a look at the source or the disk
+pub record Makes {State : Type 0} (setting : Setting) (number : ℕ) (hears : Hearing Reply State) (status : ℕ)
+    (old new : Surroundings) (before now : State) : Type 0 where
+  pub ending : Made
+  pub ends : make.EndsBy ending setting number hears (make.standing old.ran before) (make.standing new.ran now)
+      old.written new.written
+  pub tells : status ≡ make.status_of ending
+  pub left : new.left ≡ old.left
+  pub course : new.course ≡ old.course
+
+-- the words are in this form, and this came of them; words in no form are status 7
+abbrev pub Runs : {State : Type 0} → Setting → Hearing Reply State → Option Form → ℕ → Surroundings → Surroundings
+    → State → State → Type 0
+Runs setting hears None status old new before now = DoesNothing status old new × (now ≡ before)
+Runs setting hears (Some Session) status old new before now = Serves setting hears status old new before now
+Runs setting hears (Some (Once target)) status old new before now =
+    CompilesOnce setting target hears status old new before now
+Runs setting hears (Some (Poll target)) status old new before now =
+    poll.ServedWith setting target hears status
+    (poll.surroundings old.left old.written (old.course target.dir) old.ran)
+    (poll.surroundings new.left new.written (new.course target.dir) new.ran) before now
+Runs setting hears (Some (Make number)) status old new before now =
+    Makes setting number hears status old new before now

@@ -1,0 +1,4 @@
+mod Going
+mod Parts
+mod Summing
+mod Uses

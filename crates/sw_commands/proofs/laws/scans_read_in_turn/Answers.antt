@@ -1,5 +1,0 @@
-use Rattle.sw_commands.proofs.Following.{in_turn}
-use Rattle.sw_commands.proofs.laws.scans_read_in_turn.Goals as goal
-
-pub returns : goal.returns
-returns c = in_turn

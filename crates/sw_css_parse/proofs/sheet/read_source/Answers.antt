@@ -1,5 +1,0 @@
-use Rattle.sw_css_parse.proofs.Whole.{got_sheet}
-use Rattle.sw_css_parse.proofs.sheet.read_source.Goals as goal
-
-pub returns-in_ok-new-in-Ok : goal.returns-in_ok-new-in-Ok
-returns-in_ok-new-in-Ok c = rw c.in_ok-new-in-Ok.ensures (got_sheet _ _ _ c.in-Ok.ensures)

@@ -1,5 +1,0 @@
-use Rattle.sw_css_parse.proofs.Whole.{sheet_is_read, sheet_is_deep}
-use Rattle.sw_css_parse.proofs.sheet.sheets_are_of_the_grammar.Goals as goal
-
-pub returns : goal.returns
-returns c = record { grammar = sheet_is_read; depth = sheet_is_deep }

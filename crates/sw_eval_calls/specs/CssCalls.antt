@@ -1,0 +1,32 @@
+-- Calls that are written out as functions of CSS (the Sass specification on plain CSS functions).
+use Rattle.std.specs.Prelude.{ℕ, Bool, true, false, not, ◌||◌, List, [], ◌∷◌, ◌++◌, codes, Ok}
+use Rattle.sw_text.specs.declared.place.Span.{Span}
+use Rattle.sw_values.specs.declared.plain.Plain.{Plain}
+use Rattle.sw_scope.specs.declared.passed.Passed.{Passed}
+use Rattle.sw_scope.specs.Bind.{is_empty}
+use Rattle.sw_eval_literals.specs.Answers.{Answer, with}
+use Rattle.sw_eval_literals.specs.Literals.{string_value}
+use Rattle.sw_eval_literals.specs.Texts.{css_text, joined}
+
+-- an argument was passed by its name, or no parameters take the arguments
+abbrev pub names_any : Passed → Bool
+names_any p = p.faulty || not (is_empty p.named)
+
+abbrev pub comma_behind : List (List ℕ) → List (List ℕ)
+comma_behind [] = []
+comma_behind (text ∷ texts) = codes ", " ∷ []
+
+-- the texts of arguments behind those that are done, with a comma between two
+abbrev pub argument_texts : List (List ℕ) → List Plain → Span → Answer (List (List ℕ))
+argument_texts done [] at = Ok done
+argument_texts done (v ∷ vs) at =
+    with (css_text true v at) (λ text. argument_texts ((done ++ comma_behind done) ++ text ∷ []) vs at)
+
+abbrev pub whole_call : List ℕ → List (List ℕ) → List (List ℕ)
+whole_call name arguments = (name ∷ codes "(" ∷ []) ++ arguments ++ codes ")" ∷ []
+
+-- the call of a function of this name, as an unquoted string
+unfoldable pub css_call : List ℕ → List Plain → Span → Answer Plain
+css_call name vs at =
+    with (argument_texts [] vs at)
+    (λ texts. with (joined (whole_call name texts) at) (λ text. string_value text false at))

@@ -1,0 +1,4 @@
+pub mod Layers
+pub mod CssCalls
+pub mod Contents
+pub mod Passing

@@ -1,0 +1,13 @@
+use Rattle.sw_eval_expressions.specs.Calls.{built_in_call}
+use Rattle.sw_eval_questions.proofs.Steps.{did_err, did_then}
+use Rattle.sw_eval_expressions.proofs.calls.built_in_call.Goals as goal
+
+pub returns-in_err-passed : goal.returns-in_err-passed
+unfolding built_in_call
+returns-in_err-passed g c =
+    did_err _ (rw c.deeper.ensures at c.in_err-passed.ensures) c.from_residual.ensures
+
+pub returns : goal.returns
+unfolding built_in_call
+returns g c =
+    did_then _ (rw c.deeper.ensures at c.in_ok-passed.ensures) c.built_in_called.ensures

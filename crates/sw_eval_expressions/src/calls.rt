@@ -1,0 +1,101 @@
+// Calls of functions.
+ghost use Rattle.sw_eval_walk.specs.Going.{Goes_on};
+ghost use Rattle.sw_eval_expressions.specs.Calls.{sheet_call, built_in_call, built_in_by, call_value};
+
+use crate::choosing::has_spread;
+use crate::functions::{css_called, if_called};
+use sw_builtins::BuiltIn;
+use sw_eval_questions::{Stop, stopped};
+use sw_eval_state::{Called, Found, function_entry, returned};
+use sw_eval_walk::{Below, Body, Level, Walk, arguments_of};
+use sw_text::Span;
+use sw_tree::{Argument, Callee};
+use sw_values::Value;
+use sw_world::World;
+
+// The call of a function of a sheet.
+fn sheet_call<W: World, B: Below<W>>(
+    walk: &mut Walk,
+    level: Level<B>,
+    function: &Found,
+    arguments: &[Argument],
+    at: &Span,
+    world: &mut W,
+) -> Result<Value, Stop>
+    requires { B.fits level.below }
+    ensures { Goes_on W.gives (sheet_call (B.values level.below) (B.bodies level.below) level.parens function.now
+        arguments.now at.now) walk.old world.old result walk.new world.new }
+{
+    let passed = arguments_of(walk, level.deeper(), arguments, world)?;
+    let entry = stopped(function_entry(walk.alloc, function, &passed, at))?;
+    let callable = function.callable.get();
+    let body = Body {
+        start: &entry,
+        params: callable.params.items.as_slice(),
+        block: callable.block.as_slice(),
+    };
+    let value = level.below.enter(walk, at, body, world)?;
+    returned(value, at)
+}
+
+// A built-in function, which is given its arguments.
+fn built_in_call<W: World, B: Below<W>>(
+    walk: &mut Walk,
+    level: Level<B>,
+    function: BuiltIn,
+    arguments: &[Argument],
+    at: &Span,
+    world: &mut W,
+) -> Result<Value, Stop>
+    requires { B.fits level.below }
+    ensures { Goes_on W.gives (built_in_call (B.values level.below) (B.bodies level.below) level.parens function
+        arguments.now at.now) walk.old world.old result walk.new world.new }
+{
+    let passed = arguments_of(walk, level.deeper(), arguments, world)?;
+    walk.built_in_called(function, &passed, at, world)
+}
+
+// Of the arguments of `if()` it is given one at most, unless a value is written with `...`.
+fn built_in_by<W: World, B: Below<W>>(
+    walk: &mut Walk,
+    level: Level<B>,
+    function: BuiltIn,
+    arguments: &[Argument],
+    at: &Span,
+    world: &mut W,
+) -> Result<Value, Stop>
+    requires { B.fits level.below }
+    ensures { Goes_on W.gives (built_in_by (B.values level.below) (B.bodies level.below) level.parens function
+        arguments.now at.now) walk.old world.old result walk.new world.new }
+{
+    match function {
+        BuiltIn::If => {
+            if has_spread(arguments) {
+                return built_in_call(walk, level, function, arguments, at, world);
+            }
+            if_called(walk, level, arguments, at, world)
+        }
+        _ => built_in_call(walk, level, function, arguments, at, world),
+    }
+}
+
+// A call, which stands here.
+pub(crate) fn call<W: World, B: Below<W>>(
+    walk: &mut Walk,
+    level: Level<B>,
+    callee: &Callee,
+    arguments: &[Argument],
+    at: &Span,
+    world: &mut W,
+) -> Result<Value, Stop>
+    requires { B.fits level.below }
+    ensures { Goes_on W.gives (call_value (B.values level.below) (B.bodies level.below) level.parens callee.now
+        arguments.now at.now) walk.old world.old result walk.new world.new }
+{
+    let called = walk.called(callee, at, world)?;
+    match &called {
+        Called::Sheet(function) => sheet_call(walk, level, function, arguments, at, world),
+        Called::BuiltIn(function) => built_in_by(walk, level, *function, arguments, at, world),
+        Called::Css => css_called(walk, level, callee, arguments, at, world),
+    }
+}

@@ -1,0 +1,71 @@
+-- `min` and `max` in special text, a piece at a time.
+use Rattle.std.proofs.Common.{◌≡◌, ℕ, ◌+◌, ◌<◌, ◌≤◌, Bool, true, false, not, ◌&&◌, List, [], ◌∷◌, ◌++◌, length, length-drop, drop, get_or, Result, Ok, Err, refl, sym, ◌∙◌, ap, arith}
+use Rattle.std.specs.Prelude.{IsErr, IsErrAnd, if◌then◌else◌, slice_get}
+use Rattle.sw_text.specs.declared.fault.Fault.{Fault}
+use Rattle.sw_text.specs.declared.place.Span.{Span}
+use Rattle.sw_tree.specs.declared.text.Piece.{Piece}
+use Rattle.sw_values.specs.declared.plain.Plain.{Plain}
+use Rattle.sw_scope.specs.declared.passed.Passed.{Passed}
+use Rattle.sw_builtins.specs.declared.built_in.BuiltIn.{BuiltIn}
+use Rattle.sw_eval_literals.specs.declared.refused.Refused.{Refused}
+use Rattle.sw_eval_literals.specs.declared.refused.Refused.TheVariants as R
+use Rattle.sw_eval_literals.specs.Answers.{Answer, Returns}
+use Rattle.sw_eval_calls.proofs.Items.{next_item, drop_all}
+use Rattle.sw_eval_built_in_calls.specs.BuiltIns.{built_in_value}
+use Rattle.sw_eval_raw_text.specs.Imports.{is_text}
+use Rattle.sw_eval_raw_text.specs.Special.{fits, lists_values, piece_text, had, written_pieces, written_out, passed_of, or_written, extremum_value}
+use Rattle.sw_eval_calls.proofs.Answering.{refused_then}
+
+-- ---- which calls are computed
+
+more_of : (is_behind : Bool) (p : Piece) (rest : List Piece) → 0 < length rest → lists_values is_behind (p ∷ rest) ≡ (fits is_behind false p && lists_values (not is_behind) rest)
+more_of is_behind p [] lt = absurd (omega arith)
+more_of is_behind p (q ∷ rest) lt = refl
+
+piece_more : (ps : List Piece) (i : ℕ) (p : Piece) (is_behind : Bool) → i + 1 < length ps → p ≡ get_or ps i p
+    → lists_values is_behind (drop i ps) ≡ (fits is_behind false p && lists_values (not is_behind) (drop (i + 1) ps))
+piece_more ps i p is_behind lt is =
+    ap (lists_values is_behind) (next_item ps i p (omega arith) is) ∙ more_of is_behind p (drop (i + 1) ps) (omega (arith, length-drop (i + 1) ps))
+
+pub piece_wrong : (ps : List Piece) (i : ℕ) (p : Piece) (is_behind : Bool) → i + 1 < length ps → p ≡ get_or ps i p → fits is_behind false p ≡ false → lists_values is_behind (drop i ps) ≡ false
+piece_wrong ps i p is_behind lt is e = piece_more ps i p is_behind lt is ∙ ap (λ (b : Bool). b && lists_values (not is_behind) (drop (i + 1) ps)) e
+
+pub piece_on : (ps : List Piece) (i : ℕ) (p : Piece) (is_behind : Bool) → i + 1 < length ps → p ≡ get_or ps i p → fits is_behind false p ≡ true
+    → lists_values (not is_behind) (drop (i + 1) ps) ≡ lists_values is_behind (drop i ps)
+piece_on ps i p is_behind lt is e = sym (piece_more ps i p is_behind lt is ∙ ap (λ (b : Bool). b && lists_values (not is_behind) (drop (i + 1) ps)) e)
+
+pub last_piece : (ps : List Piece) (i : ℕ) (p : Piece) (is_behind : Bool) → i + 1 ≡ length ps → p ≡ get_or ps i p → lists_values is_behind (drop i ps) ≡ fits is_behind true p
+last_piece ps i p is_behind e is = rw (next_item ps i p (omega arith) is, drop_all ps (i + 1) (omega arith)) refl
+
+-- ---- what they give
+
+one_at_most : (b : Bool) (n : ℕ) → (if b then n else n + 1) ≤ n + 1
+one_at_most true n = omega arith
+one_at_most false n = omega arith
+
+pub had_one : (p : Piece) (n : ℕ) → had p n ≤ n + 1
+had_one p n = one_at_most (is_text p) n
+
+pub written_next : (done : List (List ℕ)) (ps : List Piece) (vs : List Plain) (i next : ℕ) (p : Piece) (text : List ℕ) → i < length ps → p ≡ get_or ps i p → piece_text p (slice_get vs next) ≡ Ok text
+    → written_pieces done (drop i ps) vs next ≡ written_pieces (done ++ text ∷ []) (drop (i + 1) ps) vs (had p next)
+written_next done ps vs i next p text lt is e = rw (next_item ps i p lt is, e) refl
+
+pub written_refused : (done : List (List ℕ)) (ps : List Piece) (vs : List Plain) (i next : ℕ) (p : Piece) (e : Refused) (r : Result (List (List ℕ)) Refused) → i < length ps → p ≡ get_or ps i p
+    → Returns {A = List ℕ} (Err e) (piece_text p (slice_get vs next)) → IsErr r × IsErrAnd r (λ x. x ≡ e) → Returns r (written_pieces done (drop i ps) vs next)
+written_refused done ps vs i next p e r lt is gave q =
+    rw (next_item ps i p lt is) (refused_then (piece_text p (slice_get vs next)) (λ text. written_pieces (done ++ text ∷ []) (drop (i + 1) ps) vs (had p next)) e r gave q)
+
+pub written_end : (done : List (List ℕ)) (ps : List Piece) (vs : List Plain) (i next : ℕ) → length ps ≤ i → written_pieces done (drop i ps) vs next ≡ Ok done
+written_end done ps vs i next le = rw (drop_all ps i le) refl
+
+pub as_computed : (f : BuiltIn) (ps : List Piece) (vs : List Plain) (p : Passed) (at : Span) (v : Plain) → p ≡ passed_of vs → built_in_value f p at ≡ Ok v → extremum_value f ps vs at ≡ Ok v
+unfolding extremum_value
+as_computed f ps vs p at v same is =
+    ap (λ (r : Answer Plain). or_written r ps vs at) (ap (λ (q : Passed). built_in_value f q at) (sym same) ∙ is)
+
+pub as_written : (f : BuiltIn) (ps : List Piece) (vs : List Plain) (p : Passed) (at : Span) (e : Refused) (fault : Fault) → p ≡ passed_of vs → e ≡ R.Fault fault → Returns {A = Plain} (Err e) (built_in_value f p at)
+    → extremum_value f ps vs at ≡ written_out ps vs at
+unfolding extremum_value
+as_written f ps vs p at (R.Fault fault) other same is gave =
+    ap (λ (r : Answer Plain). or_written r ps vs at) (ap (λ (q : Passed). built_in_value f q at) (sym same) ∙ gave)
+as_written f ps vs p at R.Memory other same is gave = absurd cc

@@ -1,0 +1,156 @@
+-- What stands behind `@import`, step by step.
+use Rattle.std.proofs.Common.{◌≡◌, ℕ, zero, suc, ◌+◌, ◌-◌, ◌<◌, ◌≤◌, true, false, List, [], ◌∷◌, ◌++◌, length, drop, get_or, Option, Some, None, Result, Ok, Err, refl, sym, ◌∙◌, ap, arith, append_assoc, append-nil}
+use Rattle.std.specs.Prelude.{nat_le, if◌then◌else◌, IsErr, IsErrAnd}
+use Rattle.std.proofs.lemmas.Bool.Decides.{nat_tests}
+use Rattle.sw_text.specs.declared.place.Span.{Span}
+use Rattle.sw_tree.specs.declared.text.Piece.{Piece}
+use Rattle.sw_text_scan.proofs.Bounds.{if_true, if_false}
+use Rattle.sw_text_scan.specs.Pieces.{piece}
+use Rattle.sw_eval_literals.specs.declared.refused.Refused.{Refused}
+use Rattle.sw_eval_literals.specs.Answers.{Returns}
+use Rattle.sw_eval_calls.proofs.Items.{next_item, drop_all}
+use Rattle.sw_eval_raw_text.specs.Imports.{piece_template, templates, is_text, inserted_one, inserted_of, is_cut, step_on, on_from, cut_in, next_cut, parts_by, parts_in, is_mark, mark_step, mark_in, place_for, with_first, pieces_by, pieces_in, filled_in, filled_from}
+use Rattle.sw_eval_literals.specs.Trimming.{trimmed}
+use Rattle.sw_eval_raw_text.specs.declared.imports.Step.{Step}
+use Rattle.sw_eval_calls.proofs.Answering.{refused_then}
+
+-- ---- templates
+
+pub template_next : (done : List (List ℕ)) (ps : List Piece) (i : ℕ) (p : Piece) → i < length ps → p ≡ get_or ps i p
+    → (done ++ piece_template p ∷ []) ++ templates (drop (i + 1) ps) ≡ done ++ templates (drop i ps)
+template_next done ps i p lt is =
+    rw (next_item ps i p lt is) (append_assoc done (piece_template p ∷ []) (templates (drop (i + 1) ps)))
+
+pub templates_end : (done : List (List ℕ)) (ps : List Piece) (i : ℕ) → length ps ≤ i → done ++ templates (drop i ps) ≡ done
+templates_end done ps i le = rw (drop_all ps i le) (append-nil done)
+
+pub none_more : (done : List (List ℕ)) (p : Piece) (text : List ℕ) → is_text p ≡ true → done ≡ done ++ inserted_one p text
+none_more done p text e = sym (ap (λ (xs : List (List ℕ)). done ++ xs) (if_true (is_text p) [] (text ∷ []) e) ∙ append-nil done)
+
+pub one_more : (done : List (List ℕ)) (p : Piece) (text : List ℕ) → is_text p ≡ false → done ++ text ∷ [] ≡ done ++ inserted_one p text
+one_more done p text e = sym (ap (λ (xs : List (List ℕ)). done ++ xs) (if_false (is_text p) [] (text ∷ []) e))
+
+pub inserted_next : (done : List (List ℕ)) (ps : List Piece) (texts : List (List ℕ)) (i : ℕ) (p : Piece) (text : List ℕ) → i < length ps → i < length texts → p ≡ get_or ps i p → text ≡ get_or texts i text
+    → (done ++ inserted_one p text) ++ inserted_of (drop (i + 1) ps) (drop (i + 1) texts) ≡ done ++ inserted_of (drop i ps) (drop i texts)
+inserted_next done ps texts i p text lt more is has =
+    rw (next_item ps i p lt is, next_item texts i text more has)
+    (append_assoc done (inserted_one p text) (inserted_of (drop (i + 1) ps) (drop (i + 1) texts)))
+
+none_inserted : (ps : List Piece) → inserted_of ps [] ≡ []
+none_inserted [] = refl
+none_inserted (p ∷ ps) = refl
+
+pub inserted_none : (done : List (List ℕ)) (ps : List Piece) (texts : List (List ℕ)) (i : ℕ) → length texts ≤ i → done ++ inserted_of (drop i ps) (drop i texts) ≡ done
+inserted_none done ps texts i le = rw (drop_all texts i le, none_inserted (drop i ps)) (append-nil done)
+
+pub inserted_end : (done : List (List ℕ)) (ps : List Piece) (texts : List (List ℕ)) (i : ℕ) → length ps ≤ i → done ++ inserted_of (drop i ps) (drop i texts) ≡ done
+inserted_end done ps texts i le = rw (drop_all ps i le) (append-nil done)
+
+-- ---- parts
+
+any_default : (xs : List (List ℕ)) (i : ℕ) → i < length xs → (d e : List ℕ) → get_or xs i d ≡ get_or xs i e
+any_default [] i lt d e = absurd (omega arith)
+any_default (x ∷ xs) zero lt d e = refl
+any_default (x ∷ xs) (suc i) lt d e = any_default xs i (omega arith) d e
+
+module _ (bs : List ℕ) where
+  pub cut_found : (n depth at : ℕ) → 0 < n → is_cut bs depth at ≡ true → cut_in n bs depth at ≡ Some at
+  cut_found zero depth at z e = absurd (omega arith)
+  cut_found (suc n) depth at z e = if_true (is_cut bs depth at) (Some at) (on_from (cut_in n bs) (step_on bs depth at)) e
+
+  pub cut_lost : (n depth at : ℕ) → 0 < n → is_cut bs depth at ≡ false → step_on bs depth at ≡ None → cut_in n bs depth at ≡ None
+  cut_lost zero depth at z e f = absurd (omega arith)
+  cut_lost (suc n) depth at z e f =
+      if_false (is_cut bs depth at) (Some at) (on_from (cut_in n bs) (step_on bs depth at)) e ∙ ap (on_from (cut_in n bs)) f
+
+  pub cut_on : (n depth at : ℕ) (step : Step) → 0 < n → is_cut bs depth at ≡ false → step_on bs depth at ≡ Some step
+      → cut_in n bs depth at ≡ cut_in (n - 1) bs step.depth step.to
+  cut_on zero depth at step z e f = absurd (omega arith)
+  cut_on (suc n) depth at step z e f =
+      if_false (is_cut bs depth at) (Some at) (on_from (cut_in n bs) (step_on bs depth at)) e
+      ∙ ap (on_from (cut_in n bs)) f
+      ∙ ap (λ (k : ℕ). cut_in k bs step.depth step.to) less
+    where
+      less : n ≡ suc n - 1
+      less = omega arith
+
+  pub part_last : (n : ℕ) (done : List (List ℕ)) (from : ℕ) → 0 < n → next_cut bs from ≡ None
+      → done ++ trimmed bs from (length bs) ∷ [] ≡ done ++ parts_in n bs from
+  part_last zero done from z e = absurd (omega arith)
+  part_last (suc n) done from z e = ap (λ (cut : Option ℕ). done ++ parts_by (parts_in n bs) bs from cut) (sym e)
+
+  pub part_next : (n : ℕ) (done : List (List ℕ)) (from comma : ℕ) → 0 < n → next_cut bs from ≡ Some comma
+      → (done ++ trimmed bs from comma ∷ []) ++ parts_in (n - 1) bs (comma + 1) ≡ done ++ parts_in n bs from
+  part_next zero done from comma z e = absurd (omega arith)
+  part_next (suc n) done from comma z e =
+      append_assoc done (trimmed bs from comma ∷ []) (parts_in (suc n - 1) bs (comma + 1))
+      ∙ ap (λ (k : ℕ). done ++ trimmed bs from comma ∷ parts_in k bs (comma + 1)) less
+      ∙ ap (λ (cut : Option ℕ). done ++ parts_by (parts_in n bs) bs from cut) (sym e)
+    where
+      less : suc n - 1 ≡ n
+      less = omega arith
+
+  -- ---- values in parts
+
+  pub mark_past : (n at : ℕ) → length bs ≤ at → mark_in n bs at ≡ None
+  mark_past zero at le = refl
+  mark_past (suc n) at le =
+      if_true (nat_le (length bs) at) None (if is_mark bs at then Some at else mark_in n bs (at + mark_step bs at)) (grind (arith, nat_tests))
+
+  pub mark_found : (n at : ℕ) → 0 < n → at < length bs → is_mark bs at ≡ true → mark_in n bs at ≡ Some at
+  mark_found zero at z lt e = absurd (omega arith)
+  mark_found (suc n) at z lt e =
+      if_false (nat_le (length bs) at) None (if is_mark bs at then Some at else mark_in n bs (at + mark_step bs at)) (grind (arith, nat_tests))
+      ∙ if_true (is_mark bs at) (Some at) (mark_in n bs (at + mark_step bs at)) e
+
+  pub mark_on : (n at : ℕ) → 0 < n → at < length bs → is_mark bs at ≡ false → mark_in n bs at ≡ mark_in (n - 1) bs (at + mark_step bs at)
+  mark_on zero at z lt e = absurd (omega arith)
+  mark_on (suc n) at z lt e =
+      if_false (nat_le (length bs) at) None (if is_mark bs at then Some at else mark_in n bs (at + mark_step bs at)) (grind (arith, nat_tests))
+      ∙ if_false (is_mark bs at) (Some at) (mark_in n bs (at + mark_step bs at)) e
+      ∙ ap (λ (k : ℕ). mark_in k bs (at + mark_step bs at)) less
+    where
+      less : n ≡ suc n - 1
+      less = omega arith
+
+  module _ (values : List (List ℕ)) where
+    pub rest_is : (n taken from : ℕ) → 0 < n → place_for bs values taken from ≡ None → pieces_in n bs values taken from ≡ (piece bs from (length bs) ∷ [], taken)
+    rest_is zero taken from z e = absurd (omega arith)
+    rest_is (suc n) taken from z e = ap (pieces_by (pieces_in n bs values) bs values taken from) e
+
+    pub goes_on : (n taken from place : ℕ) (value : List ℕ) → 0 < n → place_for bs values taken from ≡ Some place → value ≡ get_or values taken value → taken < length values
+        → pieces_in n bs values taken from ≡ with_first (piece bs from place) value (pieces_in (n - 1) bs values (taken + 1) (place + 3))
+    goes_on zero taken from place value z e is lt = absurd (omega arith)
+    goes_on (suc n) taken from place value z e is lt =
+        ap (pieces_by (pieces_in n bs values) bs values taken from) e
+        ∙ ap (λ (v : List ℕ). with_first (piece bs from place) v (pieces_in n bs values (taken + 1) (place + 3))) (any_default values taken lt [] value ∙ sym is)
+        ∙ ap (λ (k : ℕ). with_first (piece bs from place) value (pieces_in k bs values (taken + 1) (place + 3))) less
+      where
+        less : n ≡ suc n - 1
+        less = omega arith
+
+    pub marks_next : (done more made : List (List ℕ)) (n taken from place : ℕ) (value : List ℕ) → 0 < n → place_for bs values taken from ≡ Some place → value ≡ get_or values taken value → taken < length values
+        → more ≡ done ++ piece bs from place ∷ [] → made ≡ more ++ value ∷ []
+        → made ++ (pieces_in (n - 1) bs values (taken + 1) (place + 3)).0 ≡ done ++ (pieces_in n bs values taken from).0
+    marks_next done more made n taken from place value z e is lt first both =
+        let rest : List (List ℕ) × ℕ = pieces_in (n - 1) bs values (taken + 1) (place + 3) in
+        ap (λ (xs : List (List ℕ)). xs ++ rest.0) (both ∙ ap (λ (xs : List (List ℕ)). xs ++ value ∷ []) first)
+        ∙ append_assoc (done ++ piece bs from place ∷ []) (value ∷ []) rest.0
+        ∙ append_assoc done (piece bs from place ∷ []) (value ∷ rest.0)
+        ∙ ap (λ (r : List (List ℕ) × ℕ). done ++ r.0) (sym (goes_on n taken from place value z e is lt))
+
+    pub taken_next : (n taken from place : ℕ) (value : List ℕ) → 0 < n → place_for bs values taken from ≡ Some place → value ≡ get_or values taken value → taken < length values
+        → (pieces_in (n - 1) bs values (taken + 1) (place + 3)).1 ≡ (pieces_in n bs values taken from).1
+    taken_next n taken from place value z e is lt = ap (λ (r : List (List ℕ) × ℕ). r.1) (sym (goes_on n taken from place value z e is lt))
+
+pub filled_next : (done parts values : List (List ℕ)) (i taken : ℕ) (at : Span) (part : List ℕ) (text : List ℕ) (next : ℕ) → i < length parts → part ≡ get_or parts i part → filled_in part values taken at ≡ Ok (text, next)
+    → filled_from done (drop i parts) values taken at ≡ filled_from (done ++ text ∷ []) (drop (i + 1) parts) values next at
+filled_next done parts values i taken at part text next lt is e = rw (next_item parts i part lt is, e) refl
+
+pub filled_refused : (done parts values : List (List ℕ)) (i taken : ℕ) (at : Span) (part : List ℕ) (e : Refused) (r : Result (List (List ℕ)) Refused) → i < length parts → part ≡ get_or parts i part
+    → Returns {A = List ℕ × ℕ} (Err e) (filled_in part values taken at) → IsErr r × IsErrAnd r (λ x. x ≡ e) → Returns r (filled_from done (drop i parts) values taken at)
+filled_refused done parts values i taken at part e r lt is gave p =
+    rw (next_item parts i part lt is) (refused_then (filled_in part values taken at) (λ t. filled_from (done ++ t.0 ∷ []) (drop (i + 1) parts) values t.1 at) e r gave p)
+
+pub filled_end : (done parts values : List (List ℕ)) (i taken : ℕ) (at : Span) → length parts ≤ i → filled_from done (drop i parts) values taken at ≡ Ok done
+filled_end done parts values i taken at le = rw (drop_all parts i le) refl

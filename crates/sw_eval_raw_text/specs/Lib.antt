@@ -1,0 +1,3 @@
+pub mod Imports
+pub mod Spacing
+pub mod Special

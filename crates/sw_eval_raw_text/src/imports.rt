@@ -1,0 +1,417 @@
+// What stands behind `@import`.
+ghost use Rattle.std.specs.Prelude.{◌≡◌, ◌<◌, ◌≤◌, ◌+◌, ◌++◌, ◌∷◌, [], true, nat_eq, length, IfOk, OnOk, IfSome};
+ghost use Rattle.std.specs.List.{ends_with};
+ghost use Rattle.sw_text_scan.specs.Brackets.{over};
+ghost use Rattle.sw_text_scan.specs.Pieces.{piece};
+ghost use Rattle.sw_eval_raw_text.specs.Imports.{piece_template, templates, template_of, template, is_text, inserted_one, inserted_of, begins_part, is_cut, is_opening, is_closing, behind, step_on, next_cut, parts_of, has_scheme, is_remote, is_web, is_plain, all_plain, is_mark, mark_step, next_mark, place_for, part_pieces, filled_in, filled_all};
+ghost use Rattle.sw_eval_literals.specs.Answers.{Returns};
+
+use std::alloc::Global;
+use sw_eval_literals::{Refused, add_trimmed, joined};
+use sw_text::{List, Memory, Name, Span};
+use sw_text_scan::{
+    Class, begins_url, byte_at, escape_end, is_quote, piece, run_end, signs, string_end,
+};
+use sw_tree::{Parts, Piece};
+
+// ---- templates
+
+// A text, or what stands for a value.
+fn piece_template(alloc: Global, one: &Piece) -> Result<Name, Memory>
+    ensures { IfOk result (λ text. text ≡ piece_template one.now) }
+{
+    match one {
+        Piece::Text(text) => text.share(),
+        Piece::Inserted(_) => Name::new(alloc, "#{}"),
+        Piece::Value(_) => Name::new(alloc, "#{}"),
+    }
+}
+
+#[tactic(auto, using(crate::proofs::Imported::template_next, crate::proofs::Imported::templates_end))]
+fn templates(alloc: Global, all: &[Piece]) -> Result<List<Name>, Memory>
+    ensures { IfOk result (λ texts. texts ≡ templates all.now) }
+{
+    let mut done = List::new(alloc);
+    'all: for one in all {
+        let text = piece_template(alloc, one)?;
+        done.push(text)?;
+    }
+    Ok(done)
+}
+
+fn template_of(alloc: Global, all: &[Piece], at: &Span) -> Result<Name, Refused>
+    ensures { Returns result (template_of all.now at.now) }
+{
+    let texts = templates(alloc, all)?;
+    joined(alloc, texts.as_slice(), at)
+}
+
+/// A text as it was before the values in it were known, with `#{}` for each.
+pub fn template(alloc: Global, parts: &Parts, at: &Span) -> Result<Name, Refused>
+    ensures { Returns result (template parts.now at.now) }
+{
+    match parts {
+        Parts::Plain(text) => Ok(text.share()?),
+        Parts::Mixed(all) => template_of(alloc, all.as_slice(), at),
+    }
+}
+
+// Whether a piece is no value.
+pub(crate) fn is_text(one: &Piece) -> bool
+    ensures { result ≡ is_text one.now }
+{
+    match one {
+        Piece::Text(_) => true,
+        Piece::Inserted(_) => false,
+        Piece::Value(_) => false,
+    }
+}
+
+// The text of a piece behind others, where it is that of a value.
+#[tactic(auto, using(crate::proofs::Imported::none_more, crate::proofs::Imported::one_more))]
+fn add_inserted(values: &mut List<Name>, one: &Piece, text: &Name) -> Result<(), Memory>
+    ensures { OnOk result (values.new ≡ values.old ++ inserted_one one.now text.now) }
+{
+    if is_text(one) {
+        return Ok(());
+    }
+    values.push(text.share()?)
+}
+
+/// Of the texts of pieces those of values.
+#[tactic(auto, using(crate::proofs::Imported::inserted_next, crate::proofs::Imported::inserted_none, crate::proofs::Imported::inserted_end))]
+pub fn inserted_of(alloc: Global, all: &[Piece], texts: &[Name]) -> Result<List<Name>, Memory>
+    ensures { IfOk result (λ values. values ≡ inserted_of all.now texts.now) }
+{
+    let mut values = List::new(alloc);
+    'all: for place in 0..all.len() {
+        if place >= texts.len() {
+            return Ok(values);
+        }
+        add_inserted(&mut values, &all[place], &texts[place])?;
+    }
+    Ok(values)
+}
+
+// ---- parts
+
+// A place in a text, and how many brackets are open there.
+#[derive(Clone, Copy, Debug)]
+pub(crate) struct Step {
+    pub depth: usize,
+    pub to: usize,
+}
+
+// Whether a string or `url(` stands at a place.
+fn begins_part(bytes: &[u8], at: usize) -> bool
+    ensures { result ≡ begins_part bytes.now at }
+{
+    at < bytes.len() && (is_quote(byte_at(bytes, at)) || begins_url(bytes, at))
+}
+
+/// Whether a byte is an opening bracket.
+pub(crate) fn is_opening(byte: u16) -> bool
+    ensures { result ≡ is_opening byte }
+{
+    byte == signs::OPEN_PAREN || byte == signs::OPEN_BRACKET || byte == signs::OPEN_BRACE
+}
+
+/// Whether a byte is a closing bracket.
+pub(crate) fn is_closing(byte: u16) -> bool
+    ensures { result ≡ is_closing byte }
+{
+    byte == signs::CLOSE_PAREN || byte == signs::CLOSE_BRACKET || byte == signs::CLOSE_BRACE
+}
+
+// The place behind one escape, or one byte.
+#[tactic(auto, unfolding(sw_text_scan::specs::Brackets::over))]
+fn over(bytes: &[u8], at: usize) -> usize
+    requires { at < length bytes.now }
+    ensures { result ≡ over bytes.now at }
+{
+    let end = escape_end(bytes, at);
+    if at < end { end } else { at + 1 }
+}
+
+fn behind(depth: usize, to: Option<usize>) -> Option<Step>
+    ensures step { result ≡ behind depth to }
+    ensures depth { IfSome result (λ step. step.depth ≡ depth) }
+{
+    match to {
+        None => None,
+        Some(to) => Some(Step { depth, to }),
+    }
+}
+
+// One step on, where so many brackets are open; none where a string isn't closed.
+fn step_on(bytes: &[u8], depth: usize, at: usize) -> Option<Step>
+    requires { depth ≤ length bytes.now }
+    ensures step { result ≡ step_on bytes.now depth at }
+    ensures deeper { IfSome result (λ step. step.depth ≤ depth + 1) }
+{
+    let byte = byte_at(bytes, at);
+    if byte == signs::END {
+        return None;
+    }
+    if is_opening(byte) {
+        return behind(depth + 1, Some(at + 1));
+    }
+    if is_closing(byte) {
+        return behind(depth.saturating_sub(1), Some(at + 1));
+    }
+    if is_quote(byte) {
+        return behind(depth, string_end(bytes, byte as u8, at));
+    }
+    behind(depth, Some(over(bytes, at)))
+}
+
+// Whether a comma stands at a place, outside brackets, behind which a part begins.
+fn is_cut(bytes: &[u8], depth: usize, at: usize) -> bool
+    ensures test { result ≡ is_cut bytes.now depth at }
+    ensures within { result ≡ true → at < length bytes.now }
+{
+    depth == 0
+        && byte_at(bytes, at) == signs::COMMA
+        && begins_part(bytes, run_end(bytes, Class::White, at + 1))
+}
+
+// The next such comma from a place on, outside strings.
+#[tactic(auto, using(crate::proofs::Imported::cut_found, crate::proofs::Imported::cut_lost))]
+fn next_cut(bytes: &[u8], from: usize) -> Option<usize>
+    ensures place { result ≡ next_cut bytes.now from }
+    ensures within { IfSome result (λ at. at < length bytes.now) }
+{
+    let mut depth = 0;
+    let mut at = from;
+    // each step takes at least one byte
+    'steps: for _step in 0..bytes.len() + 1 {
+        if is_cut(bytes, depth, at) {
+            return Some(at);
+        }
+        match step_on(bytes, depth, at) {
+            None => return None,
+            Some(step) => {
+                depth = step.depth;
+                at = step.to;
+            }
+        }
+    }
+    None
+}
+
+/// The parts of a template: it is cut at each comma, outside strings and brackets, behind which a string or `url(`
+/// stands.
+#[tactic(auto, using(crate::proofs::Imported::part_last, crate::proofs::Imported::part_next))]
+pub fn parts_of(alloc: Global, text: &str) -> Result<List<Name>, Memory>
+    ensures { IfOk result (λ parts. parts ≡ parts_of text.now) }
+{
+    let bytes = text.as_bytes();
+    let mut parts = List::new(alloc);
+    let mut from = 0;
+    // each part but the last ends with a comma
+    'parts: for _part in 0..bytes.len() + 1 {
+        match next_cut(bytes, from) {
+            None => {
+                add_trimmed(alloc, &mut parts, text, from, bytes.len())?;
+                return Ok(parts);
+            }
+            Some(comma) => {
+                add_trimmed(alloc, &mut parts, text, from, comma)?;
+                from = comma + 1;
+            }
+        }
+    }
+    Ok(parts)
+}
+
+fn has_scheme(url: &str) -> bool
+    ensures { result ≡ has_scheme url.now }
+{
+    url.starts_with("http://") || url.starts_with("https://")
+}
+
+// Whether a URL names a host.
+fn is_remote(url: &str) -> bool
+    ensures { result ≡ is_remote url.now }
+{
+    has_scheme(url) || url.starts_with("//")
+}
+
+fn ends_with(url: &str, ending: &str) -> bool
+    ensures { result ≡ ends_with nat_eq url.now ending.now }
+{
+    url.ends_with(ending)
+}
+
+// Whether the text of a string's URL is one of CSS.
+fn is_web(url: &str) -> bool
+    ensures { result ≡ is_web url.now }
+{
+    is_remote(url) || ends_with(url, ".css")
+}
+
+/// Whether a part is plain CSS: `url(..)`, a string with such a URL, or one with more behind it.
+pub fn is_plain(part: &str) -> bool
+    ensures { result ≡ is_plain part.now }
+{
+    let bytes = part.as_bytes();
+    if bytes.is_empty() {
+        return false;
+    }
+    if begins_url(bytes, 0) {
+        return true;
+    }
+    let quote = byte_at(bytes, 0);
+    if !is_quote(quote) {
+        return false;
+    }
+    match string_end(bytes, quote as u8, 0) {
+        None => false,
+        Some(end) => end < bytes.len() || is_web(piece(part, 1, end.saturating_sub(1))),
+    }
+}
+
+/// Whether all parts are plain CSS.
+pub fn all_plain(parts: &[Name]) -> bool
+    ensures { result ≡ all_plain parts.now }
+{
+    'parts: for part in parts {
+        if !is_plain(part.as_str()) {
+            return false;
+        }
+    }
+    true
+}
+
+// ---- values in parts
+
+// Whether a value is to stand at a place.
+fn is_mark(bytes: &[u8], at: usize) -> bool
+    ensures test { result ≡ is_mark bytes.now at }
+    ensures within { result ≡ true → at < length bytes.now }
+{
+    byte_at(bytes, at) == signs::HASH && byte_at(bytes, at + 1) == signs::OPEN_BRACE
+}
+
+// How many bytes stand before the next place that may be one: a `#` behind a `\` is text.
+fn mark_step(bytes: &[u8], at: usize) -> usize
+    ensures { result ≡ mark_step bytes.now at }
+{
+    if byte_at(bytes, at) == signs::BACKSLASH {
+        2
+    } else {
+        1
+    }
+}
+
+// The next place from a place on where a value is to stand.
+#[tactic(auto, using(crate::proofs::Imported::mark_past, crate::proofs::Imported::mark_found, crate::proofs::Imported::mark_on))]
+fn next_mark(bytes: &[u8], from: usize) -> Option<usize>
+    ensures place { result ≡ next_mark bytes.now from }
+    ensures within { IfSome result (λ at. at < length bytes.now) }
+{
+    let mut at = from;
+    // each step takes at least one byte
+    'steps: for _step in 0..bytes.len() {
+        if at >= bytes.len() {
+            return None;
+        }
+        if is_mark(bytes, at) {
+            return Some(at);
+        }
+        at += mark_step(bytes, at);
+    }
+    None
+}
+
+// The place of the next value in a part, where one is left.
+fn place_for(bytes: &[u8], values: &[Name], taken: usize, from: usize) -> Option<usize>
+    ensures place { result ≡ place_for bytes.now values.now taken from }
+    ensures within { IfSome result (λ at. at < length bytes.now) }
+    ensures left { IfSome result (λ _. taken < length values.now) }
+{
+    if taken >= values.len() {
+        return None;
+    }
+    next_mark(bytes, from)
+}
+
+// Puts what stands between two places behind pieces.
+fn add_piece(
+    alloc: Global,
+    pieces: &mut List<Name>,
+    part: &str,
+    from: usize,
+    to: usize,
+) -> Result<(), Memory>
+    ensures { OnOk result (pieces.new ≡ pieces.old ++ piece part.now from to ∷ []) }
+{
+    let text = Name::new(alloc, piece(part, from, to))?;
+    pieces.push(text)
+}
+
+// The pieces of a part with values in it, and behind it how many of them were taken.
+fn part_pieces(
+    alloc: Global,
+    part: &str,
+    values: &[Name],
+    taken: usize,
+) -> Result<(List<Name>, usize), Memory>
+    ensures pieces { IfOk result (λ r. r.0 ≡ (part_pieces part.now values.now taken).0) }
+    ensures taken { IfOk result (λ r. r.1 ≡ (part_pieces part.now values.now taken).1) }
+{
+    let bytes = part.as_bytes();
+    let mut pieces = List::new(alloc);
+    let mut from = 0;
+    let mut next = taken;
+    'marks: for _mark in 0..bytes.len() + 1 {
+        match place_for(bytes, values, next, from) {
+            None => {
+                add_piece(alloc, &mut pieces, part, from, bytes.len())?;
+                return Ok((pieces, next));
+            }
+            Some(mark) => {
+                add_piece(alloc, &mut pieces, part, from, mark)?;
+                let value = values[next].share()?;
+                pieces.push(value)?;
+                next += 1;
+                from = mark + 3;
+            }
+        }
+    }
+    Ok((pieces, next))
+}
+
+// A part with these values in it, and behind it how many of them were taken.
+fn filled_in(
+    alloc: Global,
+    part: &str,
+    values: &[Name],
+    taken: usize,
+    at: &Span,
+) -> Result<(Name, usize), Refused>
+    ensures { Returns result (filled_in part.now values.now taken at.now) }
+{
+    let (pieces, next) = part_pieces(alloc, part, values, taken)?;
+    let text = joined(alloc, pieces.as_slice(), at)?;
+    Ok((text, next))
+}
+
+/// The parts with the values in them.
+pub fn filled_all(
+    alloc: Global,
+    parts: &[Name],
+    values: &[Name],
+    at: &Span,
+) -> Result<List<Name>, Refused>
+    ensures { Returns result (filled_all parts.now values.now at.now) }
+{
+    let mut done = List::new(alloc);
+    let mut taken = 0;
+    'parts: for part in parts {
+        let (text, next) = filled_in(alloc, part.as_str(), values, taken, at)?;
+        done.push(text)?;
+        taken = next;
+    }
+    Ok(done)
+}

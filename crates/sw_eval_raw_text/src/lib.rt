@@ -1,0 +1,10 @@
+//! Raw text with values in it: the parts of an `@import`, and the text of special functions. Texts and their values
+//! flow in from the evaluation, the text that is written or a value flows out.
+#![tactic(auto)]
+
+mod imports;
+mod spacing;
+mod special;
+
+pub use imports::{all_plain, filled_all, inserted_of, parts_of, template};
+pub use special::{extremum, extremum_value, plain_special, special_value};

@@ -1,0 +1,8 @@
+use Rattle.std.proofs.Common.{refl}
+use Rattle.sw_eval_state.proofs.called.member_by.Goals as goal
+
+pub returns-in-Callable : goal.returns-in-Callable
+returns-in-Callable c = λ s. rw c.in-Callable.is refl
+
+pub returns-in-BuiltIn : goal.returns-in-BuiltIn
+returns-in-BuiltIn c = λ s. rw c.in-BuiltIn.is (c.built_in_by.ensures s)

@@ -1,0 +1,49 @@
+-- What statements put out, and where (this project's own rules on limits and places of faults).
+use Rattle.std.specs.Prelude.{ℕ, nat_le, if◌then◌else◌, List, length, Option, Some, None}
+use Rattle.sw_text.specs.declared.fault.FaultCode.TheVariants as C
+use Rattle.sw_text.specs.declared.place.Span.{Span}
+use Rattle.sw_values.specs.declared.plain.Plain.{Plain}
+use Rattle.sw_eval_literals.specs.Texts.{declaration_text}
+use Rattle.sw_css_tree.specs.declared.block.Line.TheVariants as L
+use Rattle.sw_css_tree.specs.Output.{Output, is_open, rule_opened, lined, grown, most as most_bytes}
+use Rattle.sw_eval_questions.specs.Talk.{Gives, Fails, bind}
+use Rattle.sw_eval_questions.specs.Asking.{fault}
+use Rattle.sw_eval_questions.specs.Refusals.{answer}
+use Rattle.sw_eval_state.specs.Eval.{Eval}
+
+-- what follows belongs to this statement; in an open rule it belongs to the rule's
+unfoldable pub numbered : ℕ → Output → Output
+numbered number out = if is_open out then out else record out { statement = number }
+
+-- the output is this one now, where its bytes aren't too many
+abbrev pub output_is : Output → Span → Eval (Unit {0})
+output_is out at s =
+    if nat_le out.bytes most_bytes then Gives (tt, record s { css = out }) else Fails (fault C.TooLarge at)
+
+-- a rule with these selectors is open
+unfoldable pub opened : List ℕ → Span → Eval (Unit {0})
+opened selectors at s = output_is (rule_opened s.css selectors) at s
+
+-- a line of the open rule
+abbrev pub lining : List ℕ → List ℕ → Span → Eval (Unit {0})
+lining property text at s = output_is (lined s.css (L.Declaration property text)) at s
+
+unfoldable pub declaring : List ℕ → List ℕ → Span → Eval (Unit {0})
+declaring property text at s = if is_open s.css then lining property text at s else Fails (fault C.BadPlace at)
+
+-- nothing where there is no text
+abbrev pub declaring_by : List ℕ → Option (List ℕ) → Span → Eval (Unit {0})
+declaring_by property (Some text) at s = declaring property text at s
+declaring_by property None at s = Gives (tt, s)
+
+-- a declaration of this value, whose expression stands at the first place and whose statement at the second
+unfoldable pub written : List ℕ → Plain → Span → Span → Eval (Unit {0})
+written property v value_at at s = bind (answer (declaration_text v value_at) s) (λ t. declaring_by property t.0 at t.1)
+
+-- a comment is a line where it stands
+unfoldable pub commented : List ℕ → Span → Eval (Unit {0})
+commented text at s = output_is (lined s.css (L.Comment text)) at s
+
+-- the bytes of a message count as those of the output do
+unfoldable pub noted : List ℕ → Span → Eval (Unit {0})
+noted text at s = output_is (grown s.css (length text)) at s

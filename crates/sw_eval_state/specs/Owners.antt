@@ -1,0 +1,48 @@
+-- What answers about variables say (the Sass specification on modules; the places of faults are this project's own).
+use Rattle.std.specs.Prelude.{ℕ, Bool, true, false, List}
+use Rattle.sw_text.specs.declared.fault.FaultCode.{FaultCode}
+use Rattle.sw_text.specs.declared.fault.FaultCode.TheVariants as C
+use Rattle.sw_text.specs.declared.place.Span.{Span}
+use Rattle.sw_values.specs.declared.plain.Plain.{Plain}
+use Rattle.sw_values.specs.declared.value.Node.{Node}
+use Rattle.sw_values.specs.declared.value.Node.TheVariants as nodes
+use Rattle.sw_values.specs.Shape.{node_of}
+use Rattle.sw_world.specs.declared.answer.Answer.{Answer}
+use Rattle.sw_world.specs.declared.answer.Answer.TheVariants.{Owner, BuiltIn, NoNamespace, NoMember, LeftOut, Conflict, Value}
+use Rattle.sw_eval_questions.specs.Talk.{Gives, Fails}
+use Rattle.sw_eval_questions.specs.Asking.{fault}
+use Rattle.sw_eval_state.specs.Eval.{Eval}
+
+-- the number of the owner that was answered, or what the name and its namespace are refused with
+abbrev pub owner : FaultCode → Span → Span → ℕ → Answer → Eval ℕ
+owner unknown at space_at n (Owner path name) s = Gives (n, s)
+owner unknown at space_at n NoNamespace s = Fails (fault C.UnknownNamespace space_at)
+owner unknown at space_at n LeftOut s = Fails (fault C.LeftOut at)
+owner unknown at space_at n Conflict s = Fails (fault C.MemberConflict at)
+owner unknown at space_at n _ s = Fails (fault unknown at)
+
+-- the owner of a variable that is assigned; one of a built-in module can't be
+abbrev pub target : Span → Span → Span → ℕ → Answer → Eval ℕ
+target at name_at space_at n (BuiltIn home name) s = Fails (fault C.NotConfigurable at)
+target at name_at space_at n answer s = owner C.UnknownMember name_at space_at n answer s
+
+abbrev pub got : Span → Answer → Eval Plain
+got at (Value v) s = Gives (v, s)
+got at _ s = Fails (fault C.UnknownVariable at)
+
+abbrev pub null_by : Node → Bool
+null_by (nodes.Number _) = false
+null_by (nodes.Text _ _) = false
+null_by (nodes.Colour _) = false
+null_by (nodes.List _ _ _) = false
+null_by (nodes.Map _) = false
+null_by (nodes.Bool _) = false
+null_by nodes.Null = true
+null_by (nodes.Args _ _) = false
+
+abbrev pub is_null : Plain → Bool
+is_null v = null_by (node_of v)
+
+abbrev pub is_absent : Answer → Bool
+is_absent NoMember = true
+is_absent _ = false

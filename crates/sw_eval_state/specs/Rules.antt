@@ -1,0 +1,84 @@
+-- Rules, and properties nested in each other (the Sass specification on style rules and declarations; limits and places
+-- of faults are this project's own).
+use Rattle.std.specs.Prelude.{ℕ, ◌-◌, Bool, true, if◌then◌else◌, List, [], ◌∷◌, ◌++◌, codes, length, take, Option, Some, None, Ok}
+use Rattle.sw_text.specs.declared.place.Span.{Span}
+use Rattle.sw_selector.specs.Writing.{text_of}
+use Rattle.sw_css_tree.specs.Output.{closed, last}
+use Rattle.sw_eval_literals.specs.Answers.{Answer}
+use Rattle.sw_eval_literals.specs.Texts.{joined}
+use Rattle.sw_eval_questions.specs.Talk.{Gives, bind}
+use Rattle.sw_eval_questions.specs.Refusals.{answer}
+use Rattle.sw_eval_state.specs.Output.{opened}
+use Rattle.sw_eval_state.specs.Selecting.{Selectors, selected}
+use Rattle.sw_eval_state.specs.Eval.{Eval}
+use Rattle.sw_eval_keyframes.specs.Keyframes.{keyframe_text}
+use Rattle.sw_eval_state.specs.Nestings.{are_keyframes}
+use Rattle.sw_eval_state.specs.declared.nesting.Nesting.{Nesting}
+use Rattle.sw_eval_state.specs.declared.nesting.Rules.TheVariants as R
+use Rattle.sw_eval_state.specs.declared.state.State.{State}
+
+-- ---- what statements are nested in
+
+-- what follows is nested in this
+unfoldable pub nested : Nesting → State → State
+nested nesting s = record s { nesting = nesting; outer = s.outer ++ s.nesting ∷ [] }
+
+abbrev pub or_now : Nesting → Option Nesting → Nesting
+or_now nesting None = nesting
+or_now nesting (Some before) = before
+
+-- what follows is nested in what it was nested in before
+unfoldable pub unnested : State → State
+unnested s = record s { nesting = or_now s.nesting (last s.outer); outer = take (length s.outer - 1) s.outer }
+
+-- ---- rules
+
+abbrev pub in_rule : Selectors → Nesting → Nesting
+in_rule selectors n = record n { parents = Some selectors; rules = R.Nested; in_rule = true }
+
+abbrev pub in_frame : Nesting → Nesting
+in_frame n = record n { in_rule = true }
+
+-- a rule is open, in which `&` is these selectors; it stands here
+unfoldable pub rule_opening : Selectors → Span → Eval (Unit {0})
+rule_opening selectors at s =
+    bind (opened (text_of selectors) at s) (λ u. Gives (tt, nested (in_rule selectors u.1.nesting) u.1))
+
+-- one of keyframes, which don't nest
+unfoldable pub frame_entered : List ℕ → Span → Span → Eval (Unit {0})
+frame_entered text text_at at s =
+    bind (answer (keyframe_text text text_at) s)
+    (λ t. bind (opened t.0 at t.1) (λ u. Gives (tt, nested (in_frame u.1.nesting) u.1)))
+
+unfoldable pub style_entered : Bool → List ℕ → Span → Span → Eval (Unit {0})
+style_entered at_root text text_at at s =
+    bind (selected at_root text text_at s) (λ q. rule_opening q.0 at q.1)
+
+-- a rule is open, in `@at-root` or not, whose selectors have this text, which stands at the first place; the rule stands
+-- at the second
+unfoldable pub rule_entered : Bool → List ℕ → Span → Span → Eval (Unit {0})
+rule_entered at_root text text_at at s =
+    if are_keyframes s.nesting.rules then frame_entered text text_at at s
+    else style_entered at_root text text_at at s
+
+-- it is closed
+unfoldable pub rule_left : State → State
+rule_left s = unnested (record s { css = closed s.css })
+
+-- ---- nested properties
+
+-- the name of a property among those of another one
+abbrev pub named_by : Option (List ℕ) → List ℕ → Span → Answer (List ℕ)
+named_by None name at = Ok name
+named_by (Some prefix) name at = joined (prefix ∷ codes "-" ∷ name ∷ []) at
+
+-- the whole name of a property, which is written here
+unfoldable pub full_name : List ℕ → Span → Eval (List ℕ)
+full_name name at s = answer (named_by s.nesting.prefix name at) s
+
+abbrev pub with_prefix : List ℕ → Nesting → Nesting
+with_prefix name n = record n { prefix = Some name }
+
+-- among the properties of this name
+unfoldable pub prefixed : List ℕ → State → State
+prefixed name s = nested (with_prefix name s.nesting) s

@@ -1,0 +1,85 @@
+// What answers about variables say.
+ghost use Rattle.std.specs.Prelude.{◌≡◌};
+ghost use Rattle.sw_eval_questions.specs.Did.{IsReturn};
+ghost use Rattle.sw_eval_state.specs.Owners.{owner, target, got, null_by, is_null, is_absent};
+ghost use Rattle.sw_eval_state.specs.declared.state.State.{State};
+
+use crate::faults::fails;
+use sw_eval_questions::Stop;
+use sw_text::{FaultCode, Span};
+use sw_values::{Node, Value};
+use sw_world::Answer;
+
+/// The number of the owner that an answer names.
+pub fn owner(
+    unknown: FaultCode,
+    at: &Span,
+    space_at: &Span,
+    number: usize,
+    answer: &Answer,
+) -> Result<usize, Stop>
+    ensures { (s : State) → IsReturn result s (owner unknown at.now space_at.now number answer.now s) }
+{
+    match answer {
+        Answer::Owner { .. } => Ok(number),
+        Answer::NoNamespace => fails(FaultCode::UnknownNamespace, space_at),
+        Answer::LeftOut => fails(FaultCode::LeftOut, at),
+        Answer::Conflict => fails(FaultCode::MemberConflict, at),
+        _ => fails(unknown, at),
+    }
+}
+
+/// The owner of a variable that is assigned.
+pub fn target(
+    at: &Span,
+    name_at: &Span,
+    space_at: &Span,
+    number: usize,
+    answer: &Answer,
+) -> Result<usize, Stop>
+    ensures { (s : State) → IsReturn result s (target at.now name_at.now space_at.now number answer.now s) }
+{
+    match answer {
+        Answer::BuiltIn { .. } => fails(FaultCode::NotConfigurable, at),
+        _ => owner(FaultCode::UnknownMember, name_at, space_at, number, answer),
+    }
+}
+
+/// The value that an answer holds.
+pub fn got(at: &Span, answer: Answer) -> Result<Value, Stop>
+    ensures { (s : State) → IsReturn result s (got at.now answer s) }
+{
+    match answer {
+        Answer::Value(value) => Ok(value),
+        _ => fails(FaultCode::UnknownVariable, at),
+    }
+}
+
+/// Whether a value is null.
+pub fn is_null(value: &Value) -> bool
+    ensures { result ≡ is_null value.now }
+{
+    null_by(value.node())
+}
+
+fn null_by(node: &Node) -> bool
+    ensures { result ≡ null_by node.now }
+{
+    match node {
+        Node::Null => true,
+        Node::Number(_)
+        | Node::Text { .. }
+        | Node::Colour(_)
+        | Node::List { .. }
+        | Node::Map(_)
+        | Node::Bool(_)
+        | Node::Args { .. } => false,
+    }
+}
+
+/// Whether an answer tells that there is no such member.
+pub fn is_absent(answer: &Answer) -> bool
+    ensures { result ≡ is_absent answer.now }
+{
+    matches!(answer, Answer::NoMember)
+}

@@ -1,0 +1,10 @@
+use Rattle.sw_eval_questions.proofs.Steps.{did_value}
+use Rattle.sw_eval_statements.proofs.includes.default_value.Goals as goal
+
+pub returns-in-Some : goal.returns-in-Some
+returns-in-Some g c =
+    rw c.in-Some.is (rw c.outside.ensures at c.plain_value.ensures)
+
+pub returns-in-None : goal.returns-in-None
+returns-in-None g c =
+    rw (c.in-None.is, c.null.ensures) (did_value _ c.args.walk.now.state _ _)

@@ -1,0 +1,19 @@
+use Rattle.sw_eval_statements.specs.Loops.{each_over}
+use Rattle.sw_eval_questions.proofs.Steps.{no_memory_by, gives_state, did_value, did_err, did_then}
+use Rattle.sw_eval_statements.proofs.loops.each_over.Goals as goal
+
+pub returns-in_err-enter : goal.returns-in_err-enter
+returns-in_err-enter g c = no_memory_by _ _ _ _ _ _ _ _ c.in_err-enter.ensures c.from_residual.ensures
+
+pub returns-in_err-declare_nulls : goal.returns-in_err-declare_nulls
+returns-in_err-declare_nulls g c = no_memory_by _ _ _ _ _ _ _ _ c.in_err-declare_nulls.ensures c.from_residual-in_err-declare_nulls.ensures
+
+pub returns-in_err-value : goal.returns-in_err-value
+unfolding each_over
+returns-in_err-value g c =
+    rw (gives_state c.in_ok-enter.ensures, rw c.as_slice.ensures at (gives_state c.in_ok-declare_nulls.ensures)) (did_err _ c.in_err-value.ensures c.from_residual-in_err-value.ensures)
+
+pub returns : goal.returns
+unfolding each_over
+returns g c =
+    rw (gives_state c.in_ok-enter.ensures, rw c.as_slice.ensures at (gives_state c.in_ok-declare_nulls.ensures)) (did_then _ c.in_ok-value.ensures (rw c.leave.ensures (did_value _ _ _ _)))

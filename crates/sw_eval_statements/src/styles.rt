@@ -1,0 +1,172 @@
+// Rules and declarations.
+ghost use Rattle.sw_eval_walk.specs.Going.{Goes_on};
+ghost use Rattle.sw_eval_statements.specs.Styles.{property, valued, declaration, custom, maybe_valued, nested_block, rule, properties};
+
+use crate::flow::framed;
+use crate::texts::{raw_text, statement_text};
+use sw_eval_questions::Stop;
+use sw_eval_state::fails;
+use sw_eval_walk::{Below, Level, Walk, value_of};
+use sw_scope::FrameKind;
+use sw_text::{FaultCode, Name, Span};
+use sw_tree::{Custom, Declaration, Expr, Properties, Rule, Statement, Text};
+use sw_values::Value;
+use sw_world::World;
+
+// The whole name of a property.
+fn property<W: World, B: Below<W>>(
+    walk: &mut Walk,
+    below: B,
+    it: &Text,
+    world: &mut W,
+) -> Result<Name, Stop>
+    requires { B.fits below }
+    ensures { Goes_on W.gives (property (B.values below) it.now) walk.old world.old result walk.new world.new }
+{
+    let name = statement_text(walk, below, it, world)?;
+    walk.state.full_name(walk.alloc, name, &it.span)
+}
+
+// A value that is written as a property; the statement stands here.
+fn valued<W: World, B: Below<W>>(
+    walk: &mut Walk,
+    below: B,
+    name: &Name,
+    e: &Expr,
+    at: &Span,
+    world: &mut W,
+) -> Result<(), Stop>
+    requires { B.fits below }
+    ensures { Goes_on W.gives (valued (B.values below) name.now e.now at.now) walk.old world.old result walk.new
+        world.new }
+{
+    let value = value_of(walk, Level::outside(below), e, world)?;
+    let name = name.share()?;
+    walk.state.written(walk.alloc, name, &value, &e.span, at)
+}
+
+// A declaration, which stands in a rule or an at-rule.
+pub(crate) fn declaration<W: World, B: Below<W>>(
+    walk: &mut Walk,
+    below: B,
+    statement: &Declaration,
+    world: &mut W,
+) -> Result<Option<Value>, Stop>
+    requires { B.fits below }
+    ensures { Goes_on W.gives (declaration (B.values below) statement.now) walk.old world.old result
+        walk.new world.new }
+{
+    if !walk.state.nesting.takes_lines() {
+        return fails(FaultCode::BadPlace, &statement.span);
+    }
+    let name = property(walk, below, &statement.property, world)?;
+    valued(walk, below, &name, &statement.value, &statement.span, world)?;
+    Ok(None)
+}
+
+// A custom property is its text.
+pub(crate) fn custom<W: World, B: Below<W>>(
+    walk: &mut Walk,
+    below: B,
+    statement: &Custom,
+    world: &mut W,
+) -> Result<Option<Value>, Stop>
+    requires { B.fits below }
+    ensures { Goes_on W.gives (custom (B.values below) statement.now) walk.old world.old result walk.new world.new }
+{
+    if !walk.state.nesting.takes_lines() {
+        return fails(FaultCode::BadPlace, &statement.span);
+    }
+    let name = property(walk, below, &statement.property, world)?;
+    let text = raw_text(walk, below, &statement.value, world)?;
+    walk.state.declaring(name, text, &statement.span)?;
+    Ok(None)
+}
+
+// The value of nested properties, where there is one.
+fn maybe_valued<W: World, B: Below<W>>(
+    walk: &mut Walk,
+    below: B,
+    name: &Name,
+    e: &Option<Expr>,
+    at: &Span,
+    world: &mut W,
+) -> Result<(), Stop>
+    requires { B.fits below }
+    ensures { Goes_on W.gives (maybe_valued (B.values below) name.now e.now at.now) walk.old world.old result
+        walk.new world.new }
+{
+    match e {
+        Some(e) => valued(walk, below, name, e, at, world),
+        None => Ok(()),
+    }
+}
+
+// The block of what was opened last, in a frame of its own; that is closed then.
+pub(crate) fn nested_block<W: World, B: Below<W>>(
+    walk: &mut Walk,
+    below: B,
+    block: &[Statement],
+    world: &mut W,
+) -> Result<Option<Value>, Stop>
+    requires { B.fits below }
+    ensures { Goes_on W.gives (nested_block (B.statements below) block.now) walk.old world.old result walk.new
+        world.new }
+{
+    let value = framed(walk, below, FrameKind::Block, block, world)?;
+    walk.state.leave_rule();
+    Ok(value)
+}
+
+// A rule, which doesn't stand among nested properties.
+pub(crate) fn rule<W: World, B: Below<W>>(
+    walk: &mut Walk,
+    below: B,
+    statement: &Rule,
+    world: &mut W,
+) -> Result<Option<Value>, Stop>
+    requires { B.fits below }
+    ensures { Goes_on W.gives (rule (B.values below) (B.statements below) statement.now) walk.old world.old result
+        walk.new world.new }
+{
+    if walk.state.nesting.prefix.is_some() {
+        return fails(FaultCode::BadPlace, &statement.span);
+    }
+    let text = statement_text(walk, below, &statement.selector, world)?;
+    walk.state.enter_rule(
+        walk.alloc,
+        false,
+        &text,
+        &statement.selector.span,
+        &statement.span,
+    )?;
+    nested_block(walk, below, statement.block.as_slice(), world)
+}
+
+// Nested properties: the value, and then those in the block.
+pub(crate) fn properties<W: World, B: Below<W>>(
+    walk: &mut Walk,
+    below: B,
+    statement: &Properties,
+    world: &mut W,
+) -> Result<Option<Value>, Stop>
+    requires { B.fits below }
+    ensures { Goes_on W.gives (properties (B.values below) (B.statements below) statement.now) walk.old world.old
+        result walk.new world.new }
+{
+    if !walk.state.nesting.takes_lines() {
+        return fails(FaultCode::BadPlace, &statement.span);
+    }
+    let name = property(walk, below, &statement.property, world)?;
+    maybe_valued(walk, below, &name, &statement.value, &statement.span, world)?;
+    walk.state.enter_properties(name)?;
+    let value = framed(
+        walk,
+        below,
+        FrameKind::Block,
+        statement.block.as_slice(),
+        world,
+    )?;
+    walk.state.unnest();
+    Ok(value)
+}

@@ -1,0 +1,70 @@
+// Functions of the host, and calls that are written out.
+ghost use Rattle.sw_tree.specs.declared.text.Parts.{out-Parts};
+ghost use Rattle.sw_eval_walk.specs.Going.{Goes_on};
+ghost use Rattle.sw_eval_walk.specs.Hosts.{hosted, hosted_by, css_value};
+
+use crate::walk::Walk;
+use sw_eval_calls::css_call;
+use sw_eval_questions::{Stop, stopped};
+use sw_text::{List, Name, Shared, Span};
+use sw_tree::{Callee, Parts};
+use sw_values::Value;
+use sw_world::{Answer, World};
+
+impl Walk {
+    // What the host's function of a name gives, where there is one.
+    fn hosted<W: World>(
+        &mut self,
+        name: &Name,
+        values: &Shared<List<Value>>,
+        at: &Span,
+        world: &mut W,
+    ) -> Result<Option<Value>, Stop>
+        ensures { Goes_on W.gives (hosted name.now values.now at.now) self.old world.old result self.new world.new }
+    {
+        let name = Name::dashed(self.alloc, name.as_str())?;
+        let a = self.ask_call(name, values.share()?, at, world)?;
+        match a.1 {
+            Answer::Hosted(given) => Ok(given),
+            _ => Ok(None),
+        }
+    }
+
+    // A name in which a value stands is no host's.
+    fn hosted_by<W: World>(
+        &mut self,
+        parts: &Parts,
+        name: &Name,
+        values: &Shared<List<Value>>,
+        at: &Span,
+        world: &mut W,
+    ) -> Result<Option<Value>, Stop>
+        ensures { Goes_on W.gives (hosted_by (out-Parts parts.now) name.now values.now at.now) self.old world.old
+            result self.new world.new }
+    {
+        match parts {
+            Parts::Plain(_) => self.hosted(name, values, at, world),
+            Parts::Mixed(_) => Ok(None),
+        }
+    }
+
+    /// What the host's function gives for the values, or without one the call as an unquoted string. A name with `#{}`
+    /// is no host's, and isn't asked for.
+    pub fn css_value<W: World>(
+        &mut self,
+        callee: &Callee,
+        name: Name,
+        values: List<Value>,
+        at: &Span,
+        world: &mut W,
+    ) -> Result<Value, Stop>
+        ensures { Goes_on W.gives (css_value callee.now name values at.now) self.old world.old result self.new
+            world.new }
+    {
+        let values = Shared::new(self.alloc, values)?;
+        if let Some(value) = self.hosted_by(&callee.name.parts, &name, &values, at, world)? {
+            return Ok(value);
+        }
+        stopped(css_call(self.alloc, name, values.get().as_slice(), at))
+    }
+}

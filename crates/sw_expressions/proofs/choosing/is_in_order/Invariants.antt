@@ -1,6 +1,0 @@
-use Rattle.std.proofs.Common.{◌≡◌, false, drop}
-use Rattle.sw_expressions.specs.Choosing.{ordered}
-use Rattle.sw_expressions.proofs.choosing.is_in_order.Given as goal
-
-abbrev pub invariant-arguments : goal.invariant-arguments
-invariant-arguments l = ordered false l.arguments ≡ ordered l.named (drop l.one-index l.arguments)

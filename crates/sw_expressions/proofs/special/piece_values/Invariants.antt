@@ -1,9 +1,0 @@
-use Rattle.std.proofs.Common.{[], drop}
-use Rattle.sw_talk.specs.Ran.{Ran}
-use Rattle.sw_expressions.specs.Special.{piece_values}
-use Rattle.sw_talk.specs.Did.{stand}
-use Rattle.sw_expressions.proofs.special.piece_values.Given as goal
-
-abbrev pub invariant-loop-one : goal.invariant-loop-one
-invariant-loop-one g l =
-    Ran g.W.World.gives (piece_values (g.B.Below.values l.level.below) l.level.parens l.all [] l.fn.walk.state) (stand l.fn.walk.asked) l.fn.world (piece_values (g.B.Below.values l.level.below) l.level.parens (drop l.one-index l.all) l.done l.walk.state) (stand l.walk.asked) l.world

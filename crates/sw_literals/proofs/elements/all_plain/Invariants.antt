@@ -1,7 +1,0 @@
-use Rattle.std.proofs.Common.{◌≡◌, drop}
-use Rattle.sw_literals.specs.Elements.{all_plain}
-use Rattle.sw_literals.proofs.Parts.{behind}
-use Rattle.sw_literals.proofs.elements.all_plain.Given as goal
-
-abbrev pub invariant-values : goal.invariant-values
-invariant-values l = all_plain l.values l.at ≡ behind l.all (all_plain (drop l.value-index l.values) l.at)

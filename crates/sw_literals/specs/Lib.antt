@@ -1,9 +1,0 @@
-pub mod Answers
-pub mod Literals
-pub mod Quotients
-pub mod Operations
-pub mod Lists
-pub mod Maps
-pub mod Texts
-pub mod Counting
-pub mod Elements

@@ -1,6 +1,0 @@
-use Rattle.std.proofs.Common.{◌≡◌, ◌++◌, codes, string_bytes}
-use Rattle.sw_made.specs.Texts.{uses}
-use Rattle.sw_made.proofs.texts.main_text.Given as goal
-
-abbrev pub invariant-parts : goal.invariant-parts
-invariant-parts l = string_bytes l.text ≡ codes "@use \"lib\";" ++ uses l.place

@@ -1,0 +1,34 @@
+use Rattle.std.proofs.Common.{◌+◌, length, sym, ap, ◌∙◌, List, arith}
+use Rattle.std.proofs.lemmas.Result.{err_from_is_err_and}
+use Rattle.sw_parse_grammar.specs.Grammar.{group, Got}
+use Rattle.sw_parse_grammar.specs.declared.ReadError.TheVariants as ends
+use Rattle.sw_parse_grammar.proofs.Loops.{read_act, fails_act, group_got, group_unclosed, group_fails}
+use Rattle.sw_parse_terminals.specs.declared.terminal.Terminal.TheVariants as T
+use Rattle.sw_parse_terminals.specs.Numbers.{just}
+use Rattle.sw_parse_table.specs.Sets.{parens_opening}
+use Rattle.sw_parse_table.specs.Sources.{text_of}
+use Rattle.sw_parse_table.specs.Table.{forms}
+use Rattle.sw_parse_table.specs.Parts.{Part, Inside}
+use Rattle.sw_parse_table.specs.Values.{to_parens}
+use Rattle.sw_parse_table.specs.Expressions.{parens}
+use Rattle.sw_parse_expr_operands.proofs.group.parens_at.Goals as goal
+
+pub returns-in_err-inner : goal.returns-in_err-inner
+unfolding parens
+returns-in_err-inner g c =
+    let p = err_from_is_err_and c.from_residual.result c.from_residual.ensures.1 in
+    rw (p.1, p.2) (fails_act (forms c.args.source.now) (text_of c.args.source.now) (length c.args.source.now.lexemes.now) c.args.levels (to_parens c.args.source.now) (group parens_opening Inside (just T.ParenEnd)) c.args.at _
+    (group_fails (forms c.args.source.now) (text_of c.args.source.now) (length c.args.source.now.lexemes.now) c.args.levels parens_opening (just T.ParenEnd) Inside c.args.at _ (omega arith) (sym c.if-not-is_paren.ensures.test) c.in_err-inner.ensures))
+
+pub returns-then-not-is_at : goal.returns-then-not-is_at
+unfolding parens
+returns-then-not-is_at g c =
+    rw c.given_up.ensures (fails_act (forms c.args.source.now) (text_of c.args.source.now) (length c.args.source.now.lexemes.now) c.args.levels (to_parens c.args.source.now) (group parens_opening Inside (just T.ParenEnd)) c.args.at (ends.Unexpected _)
+    (group_unclosed (forms c.args.source.now) (text_of c.args.source.now) (length c.args.source.now.lexemes.now) c.args.levels parens_opening (just T.ParenEnd) Inside c.args.at _ _ (omega arith) (sym c.if-not-is_paren.ensures.test) c.in_ok-inner.ensures (sym c.if-not-is_at.ensures.test)))
+
+pub returns : goal.returns
+unfolding parens
+returns g c =
+    read_act (forms c.args.source.now) (text_of c.args.source.now) (length c.args.source.now.lexemes.now) c.args.levels (to_parens c.args.source.now) (group parens_opening Inside (just T.ParenEnd)) c.args.at _ _
+    (group_got (forms c.args.source.now) (text_of c.args.source.now) (length c.args.source.now.lexemes.now) c.args.levels parens_opening (just T.ParenEnd) Inside c.args.at _ _ (omega arith) (sym c.if-not-is_paren.ensures.test) c.in_ok-inner.ensures (sym c.if-not-is_at.ensures.test))
+    ∙ ap (λ (x : List Part). Got x (c.in_ok-inner.place + 1)) c.in_ok-value.ensures.made

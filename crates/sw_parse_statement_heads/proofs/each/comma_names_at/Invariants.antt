@@ -1,0 +1,14 @@
+use Rattle.std.proofs.Common.{◌≡◌, ◌-◌, length, map}
+use Rattle.sw_parse_grammar.specs.Grammar.{many, prepend}
+use Rattle.sw_parse_table.specs.Parts.{Place}
+use Rattle.sw_parse_table.specs.Reads.{reader}
+use Rattle.sw_parse_statement_heads.specs.Heads.{comma_name}
+use Rattle.sw_parse_statement_heads.proofs.each.comma_names_at.Given as goal
+
+abbrev pub invariant-items : goal.invariant-items
+invariant-items l =
+    prepend (map Place l.list) (reader l.source l.levels (many (comma_name l.source)) l.place)
+    ≡ reader l.source l.levels (many (comma_name l.source)) l.at
+
+abbrev pub decreases-items : goal.decreases-items
+decreases-items l = length l.source.lexemes.now - l.place

@@ -1,0 +1,36 @@
+use Rattle.std.proofs.Common.{◌<◌, true, false, length, refl, sym, arith}
+use Rattle.std.proofs.lemmas.Result.{err_from_is_err_and}
+use Rattle.sw_parse_grammar.proofs.Loops.{at_first}
+use Rattle.sw_parse_grammar.proofs.Seps.{sep_step, sep_last, sep_end, sep_fails, sep_forward}
+use Rattle.sw_parse_terminals.specs.declared.terminal.Terminal.TheVariants.{Comma}
+use Rattle.sw_parse_terminals.specs.Numbers.{just}
+use Rattle.sw_parse_table.specs.Statements.{param}
+use Rattle.sw_parse_table.proofs.Decided.{fit}
+use Rattle.sw_parse_statement_heads.proofs.CallableChoices.{more_params}
+use Rattle.sw_parse_statement_heads.proofs.param.more_params_at.Goals as goal
+
+pub returns-in_err-item : goal.returns-in_err-item
+returns-in_err-item c =
+    let p = err_from_is_err_and c.from_residual.result c.from_residual.ensures.1 in
+    rw (p.1, p.2) (sep_fails (fit c.args.source.now) c.args.levels (just Comma) (param c.args.source.now) (more_params c.args.source.now).all _ _ _ _ c.items.invariant (sym c.items-test.ensures.test)
+    (at_first (param c.args.source.now) _ _ true (more_params c.args.source.now).starts (sym c.if-not-is_dollar.ensures.test)) c.in_err-item.ensures)
+
+pub items-smaller : goal.items-smaller
+items-smaller c =
+    let lt = sep_forward (fit c.args.source.now) c.args.levels (just Comma) (param c.args.source.now) (more_params c.args.source.now).all _ _ _ c.in_ok-item.ensures in
+    let le : c.items.place < length c.args.source.now.lexemes.now = c.items-test.ensures.within refl in omega arith
+
+pub items-preserved : goal.items-preserved
+items-preserved c =
+    rw c.in_ok-added.ensures.more
+    (sep_step (fit c.args.source.now) c.args.levels (just Comma) (param c.args.source.now) (more_params c.args.source.now).all _ _ _ _ _ c.items.invariant (sym c.items-test.ensures.test)
+    (at_first (param c.args.source.now) _ _ true (more_params c.args.source.now).starts (sym c.if-not-is_dollar.ensures.test)) c.in_ok-item.ensures)
+
+pub returns-then-not-is_dollar : goal.returns-then-not-is_dollar
+returns-then-not-is_dollar c =
+    sep_last (fit c.args.source.now) c.args.levels (just Comma) (param c.args.source.now) (more_params c.args.source.now).all _ _ _ c.items.invariant (sym c.items-test.ensures.test)
+    (at_first (param c.args.source.now) _ _ false (more_params c.args.source.now).starts (sym c.if-not-is_dollar.ensures.test))
+
+pub returns : goal.returns
+returns c =
+    sep_end (fit c.args.source.now) c.args.levels (just Comma) (param c.args.source.now) (more_params c.args.source.now).all _ _ _ c.items.invariant (sym c.items-test.ensures.test)

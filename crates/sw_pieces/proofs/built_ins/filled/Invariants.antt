@@ -1,6 +1,0 @@
-use Rattle.std.proofs.Common.{◌≡◌, [], drop}
-use Rattle.sw_pieces.specs.BuiltIns.{filled}
-use Rattle.sw_pieces.proofs.built_ins.filled.Given as goal
-
-abbrev pub invariant-slots : goal.invariant-slots
-invariant-slots l = filled [] l.params l.slots l.at ≡ filled l.done l.params (drop l.one-index l.slots) l.at

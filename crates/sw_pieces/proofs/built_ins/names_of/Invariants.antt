@@ -1,6 +1,0 @@
-use Rattle.std.proofs.Common.{◌≡◌, ◌++◌, drop}
-use Rattle.sw_pieces.specs.BuiltIns.{names_of}
-use Rattle.sw_pieces.proofs.built_ins.names_of.Given as goal
-
-abbrev pub invariant-named : goal.invariant-named
-invariant-named l = l.names ++ names_of (drop l.one-index l.named) ≡ names_of l.named

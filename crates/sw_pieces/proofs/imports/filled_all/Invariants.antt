@@ -1,6 +1,0 @@
-use Rattle.std.proofs.Common.{◌≡◌, drop}
-use Rattle.sw_pieces.specs.Imports.{filled_from, filled_all}
-use Rattle.sw_pieces.proofs.imports.filled_all.Given as goal
-
-abbrev pub invariant-parts : goal.invariant-parts
-invariant-parts l = filled_all l.parts l.values l.at ≡ filled_from l.done (drop l.part-index l.parts) l.values l.taken l.at

@@ -1,6 +1,0 @@
-use Rattle.std.proofs.Common.{◌≡◌, drop}
-use Rattle.sw_pieces.specs.Spacing.{behind}
-use Rattle.sw_pieces.proofs.spacing.behind.Given as goal
-
-abbrev pub invariant-bytes : goal.invariant-bytes
-invariant-bytes l = behind l.now (drop l.byte-index l.text) ≡ behind l.fn.reading l.text

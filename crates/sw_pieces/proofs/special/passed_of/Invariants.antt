@@ -1,6 +1,0 @@
-use Rattle.std.proofs.Common.{◌≡◌, take}
-use Rattle.sw_pieces.specs.Special.{passed_of}
-use Rattle.sw_pieces.proofs.special.passed_of.Given as goal
-
-abbrev pub invariant-values : goal.invariant-values
-invariant-values l = l.passed ≡ passed_of (take l.value-index l.values)

@@ -1,4 +1,0 @@
-pub mod Imports
-pub mod BuiltIns
-pub mod Spacing
-pub mod Special

@@ -1,0 +1,115 @@
+// A turn of a body: on to its load, or to its end.
+ghost use Rattle.std.specs.Prelude.{◌≡◌, ◌<◌, [], ◌∷◌, ◌++◌, IfOk, OnOk, vec_len, vec_capacity};
+ghost use Rattle.sw_world.specs.declared.end.End.{End};
+ghost use Rattle.sw_world.specs.Body.{Ends, answers};
+ghost use Rattle.sw_rows_announcer.specs.Turns.{TurnDid, IsStep, HasRoomAt};
+ghost use Rattle.sw_rows_announcer.specs.Announcing.{announces_at, asks_at, end_of, IsLoaded};
+
+use crate::parts::{end_of, first_refusal, load_of, message_of};
+use std::alloc::Global;
+use sw_text::{Memory, Name};
+use sw_tree::Sheet;
+use sw_world::{Answer, End, Question, Turn, World};
+
+// The load that a body begins with. Room for its answer is taken.
+#[tactic(auto, using(crate::proofs::Announced::waits))]
+fn wait(alloc: Global, path: &Name, pairs: &mut Vec<(Question, Answer)>) -> Result<Turn, Memory>
+    requires { pairs.old.items ≡ [] }
+    ensures pairs { pairs.new.items ≡ pairs.old.items }
+    ensures step { IfOk result (λ t. (end : End) → IsStep (asks_at end path.now) pairs.new.items t) }
+    ensures room { IfOk result (λ t. HasRoomAt t (vec_len pairs.new) (vec_capacity pairs.new)) }
+{
+    pairs.reserve(1)?;
+    Ok(Turn::Load(load_of(alloc, path)?))
+}
+
+/// Puts a pair behind the others, for which there is room.
+pub(crate) fn push_pair(pairs: &mut Vec<(Question, Answer)>, op: Question, answer: Answer)
+    requires { vec_len pairs.old < vec_capacity pairs.old }
+    ensures { pairs.new.items ≡ pairs.old.items ++ (op, answer) ∷ [] }
+{
+    let _ = pairs.push((op, answer));
+}
+
+// Says the message where it isn't said.
+#[tactic(auto, using(crate::proofs::Announced::did_none, crate::proofs::Announced::did_say, crate::proofs::Announced::ends_before, crate::proofs::Announced::ends_now))]
+fn say<W: World>(
+    alloc: Global,
+    path: &Name,
+    pairs: &mut Vec<(Question, Answer)>,
+    world: &mut W,
+) -> Result<(), Memory>
+    requires { IsLoaded pairs.old.items }
+    ensures did { (end : End) → TurnDid W.gives (asks_at end path.now) pairs.old.items world.old pairs.new.items world.new }
+    ensures said { OnOk result ((end : End) → asks_at end path.now (answers pairs.new.items) ≡ Ends end) }
+{
+    if pairs.len() > 1 {
+        return Ok(());
+    }
+    pairs.reserve(1)?;
+    let op = message_of(path)?;
+    let answer = world.ask(alloc, &op)?;
+    push_pair(pairs, op, answer);
+    Ok(())
+}
+
+// Says the message, and ends.
+fn end<W: World>(
+    alloc: Global,
+    sheet: &Sheet,
+    path: &Name,
+    pairs: &mut Vec<(Question, Answer)>,
+    world: &mut W,
+) -> Result<Turn, Memory>
+    requires { IsLoaded pairs.old.items }
+    ensures did { TurnDid W.gives (asks_at (end_of sheet.now path.now) path.now) pairs.old.items world.old
+        pairs.new.items world.new }
+    ensures step { IfOk result (λ t. IsStep (asks_at (end_of sheet.now path.now) path.now) pairs.new.items t) }
+    ensures room { IfOk result (λ t. HasRoomAt t (vec_len pairs.new) (vec_capacity pairs.new)) }
+{
+    say(alloc, path, pairs, world)?;
+    Ok(Turn::Ended(end_of(alloc, sheet, path)?))
+}
+
+// A body whose sheet has statements.
+#[tactic(auto, using(crate::proofs::Announced::did_none, crate::proofs::Announced::is_loaded, crate::proofs::Announced::is_refused))]
+fn ask_on<W: World>(
+    alloc: Global,
+    sheet: &Sheet,
+    path: &Name,
+    pairs: &mut Vec<(Question, Answer)>,
+    world: &mut W,
+) -> Result<Turn, Memory>
+    ensures did { TurnDid W.gives (asks_at (end_of sheet.now path.now) path.now) pairs.old.items world.old
+        pairs.new.items world.new }
+    ensures step { IfOk result (λ t. IsStep (asks_at (end_of sheet.now path.now) path.now) pairs.new.items t) }
+    ensures room { IfOk result (λ t. HasRoomAt t (vec_len pairs.new) (vec_capacity pairs.new)) }
+{
+    if pairs.is_empty() {
+        return wait(alloc, path, pairs);
+    }
+    match first_refusal(pairs.as_slice())? {
+        Some(fault) => Ok(Turn::Ended(End::Fault(fault))),
+        None => end(alloc, sheet, path, pairs, world),
+    }
+}
+
+/// On to the load, or to the end.
+#[tactic(auto, using(crate::proofs::Announced::did_none, crate::proofs::Announced::did_some, crate::proofs::Announced::step_none, crate::proofs::Announced::step_some))]
+pub(crate) fn turn<W: World>(
+    alloc: Global,
+    sheet: &Sheet,
+    path: &Name,
+    pairs: &mut Vec<(Question, Answer)>,
+    world: &mut W,
+) -> Result<Turn, Memory>
+    ensures did { TurnDid W.gives (announces_at sheet.now path.now) pairs.old.items world.old pairs.new.items world.new }
+    ensures step { IfOk result (λ t. IsStep (announces_at sheet.now path.now) pairs.new.items t) }
+    ensures room { IfOk result (λ t. HasRoomAt t (vec_len pairs.new) (vec_capacity pairs.new)) }
+{
+    if sheet.statements.as_slice().is_empty() {
+        return Ok(Turn::Ended(end_of(alloc, sheet, path)?));
+    }
+    let reached = ask_on(alloc, sheet, path, pairs, world)?;
+    Ok(reached)
+}

@@ -1,5 +1,0 @@
-use Rattle.sw_session.proofs.Following.{all_answered}
-use Rattle.sw_session.proofs.laws.answers_all.Goals as goal
-
-pub returns : goal.returns
-returns c = all_answered

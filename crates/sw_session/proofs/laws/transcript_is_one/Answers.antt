@@ -1,5 +1,0 @@
-use Rattle.sw_session.proofs.Following.{transcript_is_one}
-use Rattle.sw_session.proofs.laws.transcript_is_one.Goals as goal
-
-pub returns : goal.returns
-returns c = transcript_is_one

@@ -1,6 +1,0 @@
-use Rattle.std.proofs.Common.{◌≡◌, drop}
-use Rattle.sw_state.specs.AtRules.{imported_all}
-use Rattle.sw_state.proofs.state.State.import_all.Given as goal
-
-abbrev pub invariant-texts : goal.invariant-texts
-invariant-texts l = imported_all (drop l.one-index l.texts) l.at l.self ≡ imported_all l.texts l.at l.fn.self

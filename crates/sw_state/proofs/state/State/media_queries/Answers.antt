@@ -1,6 +1,0 @@
-use Rattle.sw_state.specs.AtRules.{media_queries}
-use Rattle.sw_state.proofs.state.State.media_queries.Goals as goal
-
-pub returns : goal.returns
-unfolding media_queries
-returns c = c.queries_by.ensures _ c.args.self.now c.media_by.ensures

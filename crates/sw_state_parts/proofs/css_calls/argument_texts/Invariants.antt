@@ -1,6 +1,0 @@
-use Rattle.std.proofs.Common.{◌≡◌, [], drop}
-use Rattle.sw_state_parts.specs.CssCalls.{argument_texts}
-use Rattle.sw_state_parts.proofs.css_calls.argument_texts.Given as goal
-
-abbrev pub invariant-values : goal.invariant-values
-invariant-values l = argument_texts [] l.values l.at ≡ argument_texts l.done (drop l.value-index l.values) l.at

@@ -1,6 +1,0 @@
-use Rattle.std.proofs.Common.{◌≡◌, [], drop}
-use Rattle.sw_state_parts.specs.Passing.{plain_named}
-use Rattle.sw_state_parts.proofs.passing.plain_named.Given as goal
-
-abbrev pub invariant-named : goal.invariant-named
-invariant-named l = plain_named [] l.named l.at ≡ plain_named l.done (drop l.one-index l.named) l.at

@@ -1,6 +1,0 @@
-use Rattle.std.proofs.Common.{◌≡◌, [], drop}
-use Rattle.sw_state_parts.specs.Passing.{plains}
-use Rattle.sw_state_parts.proofs.passing.plains.Given as goal
-
-abbrev pub invariant-values : goal.invariant-values
-invariant-values l = plains [] l.values l.at ≡ plains l.done (drop l.value-index l.values) l.at

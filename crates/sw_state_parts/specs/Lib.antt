@@ -1,6 +1,0 @@
-pub mod Layers
-pub mod Trimming
-pub mod CssCalls
-pub mod Keyframes
-pub mod Contents
-pub mod Passing

@@ -1,4 +1,0 @@
-pub mod Choices
-pub mod Parts
-pub mod Forwards
-pub mod Plain

@@ -1,5 +1,0 @@
-use Rattle.sw_statement_parts.proofs.Loads.{given_is}
-use Rattle.sw_statement_parts.proofs.given.given_at.Goals as goal
-
-pub returns : goal.returns
-returns g c = rw (given_is c.args.source.now c.args.levels c.args.load c.args.at) c.named_at.ensures

@@ -1,9 +1,0 @@
-use Rattle.std.proofs.Common.{drop}
-use Rattle.sw_talk.specs.Ran.{Ran}
-use Rattle.sw_statements.specs.Flow.{block}
-use Rattle.sw_talk.specs.Did.{stand}
-use Rattle.sw_statements.proofs.flow.block.Given as goal
-
-abbrev pub invariant-loop-one : goal.invariant-loop-one
-invariant-loop-one g l =
-    Ran g.W.World.gives (block (g.B.Below.statements l.below) l.all l.fn.walk.state) (stand l.fn.walk.asked) l.fn.world (block (g.B.Below.statements l.below) (drop l.one-index l.all) l.walk.state) (stand l.walk.asked) l.world

@@ -1,5 +1,0 @@
-use Rattle.std.proofs.Common.{◌≡◌, take}
-use Rattle.sw_syntax_tree.proofs.globals.copy.Given as goal
-
-abbrev pub invariant-names : goal.invariant-names
-invariant-names l = l.copy ≡ take l.name-index l.names

@@ -1,5 +1,0 @@
-use Rattle.std.proofs.Common.{◌≡◌, take}
-use Rattle.sw_syntax_tree.proofs.same.part.same_items.Given as goal
-
-abbrev pub invariant-items : goal.invariant-items
-invariant-items l = take l.i l.xs ≡ take l.i l.ys

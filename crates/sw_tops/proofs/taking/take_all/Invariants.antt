@@ -1,6 +1,0 @@
-use Rattle.std.proofs.Common.{◌≡◌, drop}
-use Rattle.sw_tops.specs.Taking.{took_all}
-use Rattle.sw_tops.proofs.taking.take_all.Given as goal
-
-abbrev pub invariant-loop-name : goal.invariant-loop-name
-invariant-loop-name l = took_all (drop l.name-index l.names) l.state ≡ took_all l.names l.initial.state
