@@ -29,8 +29,8 @@ unfoldable mutual
   value_to (suc depth) parens e s = value_one (value_to depth) (enter_to depth) parens e s
 
   pub enter_to : ℕ → Span → Entry → List Param → List Statement → Eval (Option Plain)
-  enter_to zero at e params xs s = Fails (fault C.Depth at)
-  enter_to (suc depth) at e params xs s = run_body (value_to depth) (does_to depth) at e params xs s
+  enter_to zero span e params xs s = Fails (fault C.Depth span)
+  enter_to (suc depth) span e params xs s = run_body (value_to depth) (does_to depth) span e params xs s
 
   pub does_to : ℕ → Statement → Eval (Option Plain)
   does_to zero x s = Fails (fault C.Depth (place_of x))

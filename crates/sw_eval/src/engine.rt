@@ -6,7 +6,7 @@ ghost use Rattle.sw_eval.specs.Means.{body};
 ghost use Rattle.sw_eval_questions.specs.Turns.{TurnDid, IsStep, status_of};
 ghost use Rattle.sw_eval_questions.specs.declared.place.Place.TheVariants.{Running as At_Running};
 
-use crate::turn::turn;
+use crate::turn::body_turn;
 use std::alloc::Global;
 use std::marker::Model;
 use std::mem;
@@ -67,7 +67,7 @@ fn go_on<W: World>(b: &mut Evaluation, ran: &mut Vec<Name>, world: &mut W) -> Re
     b.started = true;
     let path = b.walk.asked.path.share()?;
     ran.reserve(1)?;
-    match turn(b.sheet.get(), &b.config, &mut b.walk, &mut b.next, world)? {
+    match body_turn(b.sheet.get(), &b.config, &mut b.walk, &mut b.next, world)? {
         Turn::Load(op) => {
             let shown = op.share()?;
             b.place = Place::Waiting(op);

@@ -47,16 +47,16 @@ pub(crate) fn value_at<W: World>(
             let _ = &depth;
             does_at(walk, lower, one, world)
         },
-        enter: |walk: &mut Walk, at: &Span, body: Body<'_>, world: &mut W| -> Result<
+        enter: |walk: &mut Walk, span: &Span, body: Body<'_>, world: &mut W| -> Result<
             Option<Value>,
             Stop,
         >
             requires { lower < depth }
-            ensures { Goes_on W.gives (enter_to lower at.now body.entry.start.now body.entry.params.now
+            ensures { Goes_on W.gives (enter_to lower span.now body.entry.start.now body.entry.params.now
                 body.entry.block.now) walk.old world.old result walk.new world.new }
         {
             let _ = &depth;
-            enter_at(walk, lower, at, body, world)
+            enter_at(walk, lower, span, body, world)
         },
     };
     value_one(walk, Level { below, parens }, e, world)
@@ -67,15 +67,15 @@ pub(crate) fn value_at<W: World>(
 pub(crate) fn enter_at<W: World>(
     walk: &mut Walk,
     depth: u32,
-    at: &Span,
+    span: &Span,
     body: Body<'_>,
     world: &mut W,
 ) -> Result<Option<Value>, Stop>
-    ensures { Goes_on W.gives (enter_to depth at.now body.entry.start.now body.entry.params.now
+    ensures { Goes_on W.gives (enter_to depth span.now body.entry.start.now body.entry.params.now
         body.entry.block.now) walk.old world.old result walk.new world.new }
 {
     if depth == 0 {
-        return fails(FaultCode::Depth, at);
+        return fails(FaultCode::Depth, span);
     }
     let lower = depth - 1;
     let below = Lower {
@@ -94,19 +94,19 @@ pub(crate) fn enter_at<W: World>(
             let _ = &depth;
             does_at(walk, lower, one, world)
         },
-        enter: |walk: &mut Walk, at: &Span, body: Body<'_>, world: &mut W| -> Result<
+        enter: |walk: &mut Walk, span: &Span, body: Body<'_>, world: &mut W| -> Result<
             Option<Value>,
             Stop,
         >
             requires { lower < depth }
-            ensures { Goes_on W.gives (enter_to lower at.now body.entry.start.now body.entry.params.now
+            ensures { Goes_on W.gives (enter_to lower span.now body.entry.start.now body.entry.params.now
                 body.entry.block.now) walk.old world.old result walk.new world.new }
         {
             let _ = &depth;
-            enter_at(walk, lower, at, body, world)
+            enter_at(walk, lower, span, body, world)
         },
     };
-    run_body(walk, below, at, body, world)
+    run_body(walk, below, span, body, world)
 }
 
 // A statement that is nested no deeper. A value that it gives ends what is around it.
@@ -139,16 +139,16 @@ pub(crate) fn does_at<W: World>(
             let _ = &depth;
             does_at(walk, lower, one, world)
         },
-        enter: |walk: &mut Walk, at: &Span, body: Body<'_>, world: &mut W| -> Result<
+        enter: |walk: &mut Walk, span: &Span, body: Body<'_>, world: &mut W| -> Result<
             Option<Value>,
             Stop,
         >
             requires { lower < depth }
-            ensures { Goes_on W.gives (enter_to lower at.now body.entry.start.now body.entry.params.now
+            ensures { Goes_on W.gives (enter_to lower span.now body.entry.start.now body.entry.params.now
                 body.entry.block.now) walk.old world.old result walk.new world.new }
         {
             let _ = &depth;
-            enter_at(walk, lower, at, body, world)
+            enter_at(walk, lower, span, body, world)
         },
     };
     does_placed(walk, below, statement, world)

@@ -57,10 +57,10 @@ impl<
     fn enter(
         self,
         walk: &mut Walk,
-        at: &Span,
+        span: &Span,
         body: Body<'_>,
         world: &mut W,
     ) -> Result<Option<Value>, Stop> {
-        (self.enter)(walk, at, body, world)
+        (self.enter)(walk, span, body, world)
     }
 }

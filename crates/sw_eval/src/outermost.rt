@@ -52,10 +52,10 @@ impl<W: World> Below<W> for Outermost {
     fn enter(
         self,
         walk: &mut Walk,
-        at: &Span,
+        span: &Span,
         body: Body<'_>,
         world: &mut W,
     ) -> Result<Option<Value>, Stop> {
-        enter_at(walk, LOAD_DEPTH, at, body, world)
+        enter_at(walk, LOAD_DEPTH, span, body, world)
     }
 }

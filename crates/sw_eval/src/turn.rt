@@ -28,7 +28,7 @@ fn reset(walk: &mut Walk, next: &mut usize)
 }
 
 // A turn of a body: on to a load, or to the end.
-pub(crate) fn turn<W: World>(
+pub(crate) fn body_turn<W: World>(
     sheet: &Sheet,
     config: &Config,
     walk: &mut Walk,

@@ -41,59 +41,59 @@ code_of F.Memory = C.TooLarge
 
 -- what a function answers, here
 abbrev pub of_fn : Span → Result Plain FnFault → Answer Plain
-of_fn at (Ok v) = Ok v
-of_fn at (Err why) = refused (code_of why) at
+of_fn span (Ok v) = Ok v
+of_fn span (Err why) = refused (code_of why) span
 
 -- ---- arguments
 
 abbrev pub word_by : Texts → Span → Answer Plain
-word_by (Parts-F.Plain text) at = word_value text at
-word_by (Parts-F.Mixed ps) at = Ok N.Null
+word_by (Parts-F.Plain text) span = word_value text span
+word_by (Parts-F.Mixed ps) span = Ok N.Null
 
 -- a default of a built-in function is a number, a constant or a word
 abbrev pub constant_by : Kinds → Span → Answer Plain
-constant_by (ExprKind-F.Number number) at = number_value number at
-constant_by (ExprKind-F.Constant constant) at = Ok (constant_value constant)
-constant_by (ExprKind-F.Word parts) at = word_by (out-Parts parts) at
-constant_by _ at = Ok N.Null
+constant_by (ExprKind-F.Number number) span = number_value number span
+constant_by (ExprKind-F.Constant constant) span = Ok (constant_value constant)
+constant_by (ExprKind-F.Word parts) span = word_by (out-Parts parts) span
+constant_by _ span = Ok N.Null
 
 abbrev pub constant_of : Option Expr → Span → Answer Plain
-constant_of None at = Ok N.Null
-constant_of (Some e) at = constant_by (out-ExprKind e.kind) at
+constant_of None span = Ok N.Null
+constant_of (Some e) span = constant_by (out-ExprKind e.kind) span
 
 abbrev pub filled_with : List Param → Slot → Span → Answer Plain
-filled_with params (Filled v) at = Ok v
-filled_with params (Default place) at = constant_of (default_at params place) at
+filled_with params (Filled v) span = Ok v
+filled_with params (Default place) span = constant_of (default_at params place) span
 
 -- the parameters with the values that fill them, behind those that are done
 abbrev pub filled : List Variable → List Param → Slots → Span → Answer (List Variable)
-filled done params [] at = Ok done
-filled done params (slot ∷ slots) at =
-    with (filled_with params slot.1 at) (λ v. filled (done ++ (slot.0, v) ∷ []) params slots at)
+filled done params [] span = Ok done
+filled done params (slot ∷ slots) span =
+    with (filled_with params slot.1 span) (λ v. filled (done ++ (slot.0, v) ∷ []) params slots span)
 
 abbrev pub names_of : List Variable → List (List ℕ)
 names_of named = map (λ v. v.0) named
 
 abbrev pub arguments_by : BuiltIn → Passed → Span → Answer (List Variable)
-arguments_by f p at =
-    with (bound_by (params_of f (length p.items) (names_of p.named)) p at)
-    (λ slots. filled [] (params_of f (length p.items) (names_of p.named)).items slots at)
+arguments_by f p span =
+    with (bound_by (params_of f (length p.items) (names_of p.named)) p span)
+    (λ slots. filled [] (params_of f (length p.items) (names_of p.named)).items slots span)
 
 -- by the arguments of a call that stands here
 unfoldable pub built_in_arguments : BuiltIn → Passed → Span → Answer (List Variable)
-built_in_arguments f p at = with (plain_passed p at) (λ plain. arguments_by f plain at)
+built_in_arguments f p span = with (plain_passed p span) (λ plain. arguments_by f plain span)
 
 -- ---- values
 
 -- what a function gives for the arguments of a call that stands here, which keeps no sides
 unfoldable pub built_in_value : BuiltIn → Passed → Span → Answer Plain
-built_in_value f p at =
-    with (built_in_arguments f p at) (λ vs. with (of_fn at (answer f vs)) (λ v. plain_at v at))
+built_in_value f p span =
+    with (built_in_arguments f p span) (λ vs. with (of_fn span (answer f vs)) (λ v. plain_at v span))
 
 abbrev pub variable_by : FaultCode → Option ℤ → Span → Answer Plain
-variable_by unknown (Some v) at = number_value (record { value = Some v; unit = [] }) at
-variable_by unknown None at = refused unknown at
+variable_by unknown (Some v) span = number_value (record { value = Some v; unit = [] }) span
+variable_by unknown None span = refused unknown span
 
 -- the value of a variable of a built-in module, which stands here
 abbrev pub built_in_variable : FaultCode → List ℕ → List ℕ → Span → Answer Plain
-built_in_variable unknown home name at = variable_by unknown (variable_of home name) at
+built_in_variable unknown home name span = variable_by unknown (variable_of home name) span

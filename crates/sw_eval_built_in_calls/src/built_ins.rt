@@ -23,60 +23,60 @@ use sw_tree::{Expr, ExprKind, Number, Param, Parts};
 use sw_values::Value;
 
 // What a function answered, here.
-fn of_fn(answer: Result<Value, FnFault>, at: &Span) -> Result<Value, Refused>
-    ensures { (right : Result Plain FnFault) → IsAnswer answer right → Returns result (of_fn at.now right) }
+fn of_fn(answer: Result<Value, FnFault>, span: &Span) -> Result<Value, Refused>
+    ensures { (right : Result Plain FnFault) → IsAnswer answer right → Returns result (of_fn span.now right) }
 {
     match answer {
         Ok(value) => Ok(value),
-        Err(FnFault::ArgumentFault) => refuses(FaultCode::ArgumentFault, at),
-        Err(FnFault::TypeFault) => refuses(FaultCode::TypeFault, at),
-        Err(FnFault::UnitFault) => refuses(FaultCode::UnitFault, at),
-        Err(FnFault::DivideByZero) => refuses(FaultCode::DivideByZero, at),
-        Err(FnFault::NumberRange) => refuses(FaultCode::NumberRange, at),
-        Err(FnFault::NotCss) => refuses(FaultCode::NotCss, at),
-        Err(FnFault::TooLarge) => refuses(FaultCode::TooLarge, at),
-        Err(FnFault::Index) => refuses(FaultCode::Index, at),
+        Err(FnFault::ArgumentFault) => refuses(FaultCode::ArgumentFault, span),
+        Err(FnFault::TypeFault) => refuses(FaultCode::TypeFault, span),
+        Err(FnFault::UnitFault) => refuses(FaultCode::UnitFault, span),
+        Err(FnFault::DivideByZero) => refuses(FaultCode::DivideByZero, span),
+        Err(FnFault::NumberRange) => refuses(FaultCode::NumberRange, span),
+        Err(FnFault::NotCss) => refuses(FaultCode::NotCss, span),
+        Err(FnFault::TooLarge) => refuses(FaultCode::TooLarge, span),
+        Err(FnFault::Index) => refuses(FaultCode::Index, span),
         Err(FnFault::Memory) => Err(Refused::Memory),
     }
 }
 
 // A word without values in it.
-fn word_by(alloc: Global, parts: &Parts, at: &Span) -> Result<Value, Refused>
-    ensures { Returns result (word_by (out-Parts parts.now) at.now) }
+fn word_by(alloc: Global, parts: &Parts, span: &Span) -> Result<Value, Refused>
+    ensures { Returns result (word_by (out-Parts parts.now) span.now) }
 {
     match parts {
-        Parts::Plain(text) => word_value(alloc, text, at),
+        Parts::Plain(text) => word_value(alloc, text, span),
         Parts::Mixed(_) => Ok(Value::null()),
     }
 }
 
 // The value of a default of a built-in function: a number, a constant or a word.
-fn constant_by(alloc: Global, kind: &ExprKind, at: &Span) -> Result<Value, Refused>
-    ensures { Returns result (constant_by (out-ExprKind kind.now) at.now) }
+fn constant_by(alloc: Global, kind: &ExprKind, span: &Span) -> Result<Value, Refused>
+    ensures { Returns result (constant_by (out-ExprKind kind.now) span.now) }
 {
     match kind {
-        ExprKind::Number(number) => number_value(number, at),
+        ExprKind::Number(number) => number_value(number, span),
         ExprKind::Constant(constant) => Ok(constant_value(*constant)),
-        ExprKind::Word(parts) => word_by(alloc, parts, at),
+        ExprKind::Word(parts) => word_by(alloc, parts, span),
         _ => Ok(Value::null()),
     }
 }
 
-fn constant_of(alloc: Global, default: Option<&Expr>, at: &Span) -> Result<Value, Refused>
-    ensures { Returns result (constant_of (option_copied default.entry) at.now) }
+fn constant_of(alloc: Global, default: Option<&Expr>, span: &Span) -> Result<Value, Refused>
+    ensures { Returns result (constant_of (option_copied default.entry) span.now) }
 {
     match default {
-        Some(e) => constant_by(alloc, &e.kind, at),
+        Some(e) => constant_by(alloc, &e.kind, span),
         None => Ok(Value::null()),
     }
 }
 
-fn filled_with(alloc: Global, params: &[Param], slot: &Slot, at: &Span) -> Result<Value, Refused>
-    ensures { Returns result (filled_with params.now slot.now at.now) }
+fn filled_with(alloc: Global, params: &[Param], slot: &Slot, span: &Span) -> Result<Value, Refused>
+    ensures { Returns result (filled_with params.now slot.now span.now) }
 {
     match slot {
         Slot::Filled(value) => Ok(value.share()?),
-        Slot::Default(place) => constant_of(alloc, default_at(params, *place), at),
+        Slot::Default(place) => constant_of(alloc, default_at(params, *place), span),
     }
 }
 
@@ -85,13 +85,13 @@ fn filled(
     alloc: Global,
     params: &[Param],
     slots: &[(Name, Slot)],
-    at: &Span,
+    span: &Span,
 ) -> Result<List<(Name, Value)>, Refused>
-    ensures { Returns result (filled [] params.now slots.now at.now) }
+    ensures { Returns result (filled [] params.now slots.now span.now) }
 {
     let mut done = List::new(alloc);
     'slots: for one in slots {
-        let value = filled_with(alloc, params, &one.1, at)?;
+        let value = filled_with(alloc, params, &one.1, span)?;
         let name = one.0.share()?;
         done.push((name, value))?;
     }
@@ -115,15 +115,15 @@ pub fn built_in_arguments(
     alloc: Global,
     function: BuiltIn,
     passed: &Passed,
-    at: &Span,
+    span: &Span,
 ) -> Result<List<(Name, Value)>, Refused>
-    ensures { Returns result (built_in_arguments function passed.now at.now) }
+    ensures { Returns result (built_in_arguments function passed.now span.now) }
 {
-    let plain = plain_passed(alloc, passed, at)?;
+    let plain = plain_passed(alloc, passed, span)?;
     let names = names_of(alloc, plain.named.as_slice())?;
     let params = params(alloc, function, plain.items.len(), names.as_slice())?;
-    let slots = bound_by(alloc, &params, &plain, at)?;
-    filled(alloc, params.items.as_slice(), slots.as_slice(), at)
+    let slots = bound_by(alloc, &params, &plain, span)?;
+    filled(alloc, params.items.as_slice(), slots.as_slice(), span)
 }
 
 /// What a built-in function gives for the arguments of a call that stands here.
@@ -132,13 +132,13 @@ pub fn built_in_value(
     alloc: Global,
     function: BuiltIn,
     passed: &Passed,
-    at: &Span,
+    span: &Span,
 ) -> Result<Value, Refused>
-    ensures { Returns result (built_in_value function passed.now at.now) }
+    ensures { Returns result (built_in_value function passed.now span.now) }
 {
-    let arguments = built_in_arguments(alloc, function, passed, at)?;
-    let value = of_fn(call(alloc, function, arguments.as_slice()), at)?;
-    into_plain_at(value, at)
+    let arguments = built_in_arguments(alloc, function, passed, span)?;
+    let value = of_fn(call(alloc, function, arguments.as_slice()), span)?;
+    into_plain_at(value, span)
 }
 
 /// The value of a variable of a built-in module, which stands here; without one, this fault.
@@ -147,9 +147,9 @@ pub fn built_in_variable(
     unknown: FaultCode,
     module: &Name,
     name: &Name,
-    at: &Span,
+    span: &Span,
 ) -> Result<Value, Refused>
-    ensures { Returns result (built_in_variable unknown module.now name.now at.now) }
+    ensures { Returns result (built_in_variable unknown module.now name.now span.now) }
 {
     match variable(module.as_str(), name.as_str()) {
         Some(value) => {
@@ -158,8 +158,8 @@ pub fn built_in_variable(
                 value: Some(value),
                 unit,
             };
-            number_value(&number, at)
+            number_value(&number, span)
         }
-        None => refuses(unknown, at),
+        None => refuses(unknown, span),
     }
 }

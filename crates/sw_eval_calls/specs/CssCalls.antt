@@ -18,15 +18,15 @@ comma_behind (text ∷ texts) = codes ", " ∷ []
 
 -- the texts of arguments behind those that are done, with a comma between two
 abbrev pub argument_texts : List (List ℕ) → List Plain → Span → Answer (List (List ℕ))
-argument_texts done [] at = Ok done
-argument_texts done (v ∷ vs) at =
-    with (css_text true v at) (λ text. argument_texts ((done ++ comma_behind done) ++ text ∷ []) vs at)
+argument_texts done [] span = Ok done
+argument_texts done (v ∷ vs) span =
+    with (css_text true v span) (λ text. argument_texts ((done ++ comma_behind done) ++ text ∷ []) vs span)
 
 abbrev pub whole_call : List ℕ → List (List ℕ) → List (List ℕ)
 whole_call name arguments = (name ∷ codes "(" ∷ []) ++ arguments ++ codes ")" ∷ []
 
 -- the call of a function of this name, as an unquoted string
 unfoldable pub css_call : List ℕ → List Plain → Span → Answer Plain
-css_call name vs at =
-    with (argument_texts [] vs at)
-    (λ texts. with (joined (whole_call name texts) at) (λ text. string_value text false at))
+css_call name vs span =
+    with (argument_texts [] vs span)
+    (λ texts. with (joined (whole_call name texts) span) (λ text. string_value text false span))

@@ -33,18 +33,18 @@ passed_on p a v = if a.spread then spread p v else named_by p a.name v
 
 -- without the sides that quotients keep, in a call that stands here
 abbrev pub plains : List Plain → List Plain → Span → Answer (List Plain)
-plains done [] at = Ok done
-plains done (v ∷ vs) at = with (plain_at v at) (λ plain. plains (done ++ plain ∷ []) vs at)
+plains done [] span = Ok done
+plains done (v ∷ vs) span = with (plain_at v span) (λ plain. plains (done ++ plain ∷ []) vs span)
 
 abbrev pub plain_named : List Variable → List Variable → Span → Answer (List Variable)
-plain_named done [] at = Ok done
-plain_named done (v ∷ vs) at =
-    with (plain_at v.1 at) (λ plain. plain_named (done ++ (v.0, plain) ∷ []) vs at)
+plain_named done [] span = Ok done
+plain_named done (v ∷ vs) span =
+    with (plain_at v.1 span) (λ plain. plain_named (done ++ (v.0, plain) ∷ []) vs span)
 
 unfoldable pub plain_passed : Passed → Span → Answer Passed
-plain_passed p at =
-    with (plains [] p.items at)
-    (λ items. with (plain_named [] p.named at) (λ named. Ok (record p { items = items; named = named })))
+plain_passed p span =
+    with (plains [] p.items span)
+    (λ items. with (plain_named [] p.named span) (λ named. Ok (record p { items = items; named = named })))
 
 -- ---- what parameters are given
 
@@ -54,14 +54,14 @@ rest_within (Some name) v = is_within v
 
 -- by plain arguments, which the parameters have to take
 unfoldable pub bound_by : Params → Passed → Span → Answer Slots
-bound_by params p at =
+bound_by params p span =
     if accepts params p
-    then (if rest_within params.rest (rest_value params p) then Ok (slots_of params p) else refused C.TooLarge at)
-    else refused C.ArgumentFault at
+    then (if rest_within params.rest (rest_value params p) then Ok (slots_of params p) else refused C.TooLarge span)
+    else refused C.ArgumentFault span
 
 -- by the arguments of a call that stands here
 unfoldable pub bound : Params → Passed → Span → Answer Slots
-bound params p at = with (plain_passed p at) (λ plain. bound_by params plain at)
+bound params p span = with (plain_passed p span) (λ plain. bound_by params plain span)
 
 abbrev pub default_by : Option Param → Option Expr
 default_by None = None

@@ -28,12 +28,12 @@ pub fn add_comma(alloc: Global, done: &mut List<Name>) -> Result<(), Memory>
 }
 
 // The texts of arguments, with a comma between two.
-fn argument_texts(alloc: Global, values: &[Value], at: &Span) -> Result<List<Name>, Refused>
-    ensures { Returns result (argument_texts [] values.now at.now) }
+fn argument_texts(alloc: Global, values: &[Value], span: &Span) -> Result<List<Name>, Refused>
+    ensures { Returns result (argument_texts [] values.now span.now) }
 {
     let mut done = List::new(alloc);
     'values: for value in values {
-        let text = css_text(alloc, true, value, at)?;
+        let text = css_text(alloc, true, value, span)?;
         add_comma(alloc, &mut done)?;
         done.push(text)?;
     }
@@ -57,11 +57,11 @@ fn whole_call(alloc: Global, name: Name, arguments: &[Name]) -> Result<List<Name
 
 /// The call of a function of CSS with these values, as an unquoted string.
 #[tactic(auto, unfolding(crate::specs::CssCalls::css_call))]
-pub fn css_call(alloc: Global, name: Name, values: &[Value], at: &Span) -> Result<Value, Refused>
-    ensures { Returns result (css_call name values.now at.now) }
+pub fn css_call(alloc: Global, name: Name, values: &[Value], span: &Span) -> Result<Value, Refused>
+    ensures { Returns result (css_call name values.now span.now) }
 {
-    let arguments = argument_texts(alloc, values, at)?;
+    let arguments = argument_texts(alloc, values, span)?;
     let pieces = whole_call(alloc, name, arguments.as_slice())?;
-    let text = joined(alloc, pieces.as_slice(), at)?;
-    string_value(text, false, at)
+    let text = joined(alloc, pieces.as_slice(), span)?;
+    string_value(text, false, span)
 }

@@ -30,12 +30,12 @@ pub fn pass_on(
     }
 }
 
-fn plains(alloc: Global, values: &[Value], at: &Span) -> Result<List<Value>, Refused>
-    ensures { Returns result (plains [] values.now at.now) }
+fn plains(alloc: Global, values: &[Value], span: &Span) -> Result<List<Value>, Refused>
+    ensures { Returns result (plains [] values.now span.now) }
 {
     let mut done = List::new(alloc);
     'values: for value in values {
-        let plain = plain_at(value, at)?;
+        let plain = plain_at(value, span)?;
         done.push(plain)?;
     }
     Ok(done)
@@ -44,13 +44,13 @@ fn plains(alloc: Global, values: &[Value], at: &Span) -> Result<List<Value>, Ref
 fn plain_named(
     alloc: Global,
     named: &[(Name, Value)],
-    at: &Span,
+    span: &Span,
 ) -> Result<List<(Name, Value)>, Refused>
-    ensures { Returns result (plain_named [] named.now at.now) }
+    ensures { Returns result (plain_named [] named.now span.now) }
 {
     let mut done = List::new(alloc);
     'named: for one in named {
-        let plain = plain_at(&one.1, at)?;
+        let plain = plain_at(&one.1, span)?;
         let name = one.0.share()?;
         done.push((name, plain))?;
     }
@@ -58,13 +58,13 @@ fn plain_named(
 }
 
 /// The arguments as they are bound: each quotient that keeps its sides as its number (docs/LANGUAGE.md, Arguments).
-/// `DivideByZero` at `at` where one is over zero; `Memory` exactly where none was found.
+/// `DivideByZero` at `span` where one is over zero; `Memory` exactly where none was found.
 #[tactic(auto, unfolding(crate::specs::Passing::plain_passed))]
-pub fn plain_passed(alloc: Global, passed: &Passed, at: &Span) -> Result<Passed, Refused>
-    ensures { Returns result (plain_passed passed.now at.now) }
+pub fn plain_passed(alloc: Global, passed: &Passed, span: &Span) -> Result<Passed, Refused>
+    ensures { Returns result (plain_passed passed.now span.now) }
 {
-    let items = plains(alloc, passed.items.as_slice(), at)?;
-    let named = plain_named(alloc, passed.named.as_slice(), at)?;
+    let items = plains(alloc, passed.items.as_slice(), span)?;
+    let named = plain_named(alloc, passed.named.as_slice(), span)?;
     Ok(Passed {
         items,
         named,
@@ -73,31 +73,31 @@ pub fn plain_passed(alloc: Global, passed: &Passed, at: &Span) -> Result<Passed,
     })
 }
 
-/// What parameters are given by plain arguments, or why they can't be, at `at`: `ArgumentFault` where they don't fit,
+/// What parameters are given by plain arguments, or why they can't be, at `span`: `ArgumentFault` where they don't fit,
 /// `TooLarge` where a rest is too large. `Memory` exactly where none was found.
 pub fn bound_by(
     alloc: Global,
     params: &Params,
     passed: &Passed,
-    at: &Span,
+    span: &Span,
 ) -> Result<Slots, Refused>
-    ensures { Returns result (bound_by params.now passed.now at.now) }
+    ensures { Returns result (bound_by params.now passed.now span.now) }
 {
     match bind(alloc, params, passed) {
         Ok(slots) => Ok(slots),
-        Err(BindFault::ArgumentFault) => refuses(FaultCode::ArgumentFault, at),
-        Err(BindFault::TooLarge) => refuses(FaultCode::TooLarge, at),
+        Err(BindFault::ArgumentFault) => refuses(FaultCode::ArgumentFault, span),
+        Err(BindFault::TooLarge) => refuses(FaultCode::TooLarge, span),
         Err(BindFault::Memory) => Err(Refused::Memory),
     }
 }
 
 /// What parameters are given by the arguments of a call.
 #[tactic(auto, unfolding(crate::specs::Passing::bound))]
-pub fn bound(alloc: Global, params: &Params, passed: &Passed, at: &Span) -> Result<Slots, Refused>
-    ensures { Returns result (bound params.now passed.now at.now) }
+pub fn bound(alloc: Global, params: &Params, passed: &Passed, span: &Span) -> Result<Slots, Refused>
+    ensures { Returns result (bound params.now passed.now span.now) }
 {
-    let plain = plain_passed(alloc, passed, at)?;
-    bound_by(alloc, params, &plain, at)
+    let plain = plain_passed(alloc, passed, span)?;
+    bound_by(alloc, params, &plain, span)
 }
 
 /// The default of the parameter at a place.

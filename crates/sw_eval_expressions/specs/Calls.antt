@@ -33,26 +33,26 @@ module _ (value : Parens → Expr → Eval Plain) (enter : Span → Entry → Li
   where
     -- the call of a function of a sheet
     unfoldable pub sheet_call : Parens → Found → List Argument → Span → Eval Plain
-    sheet_call parens f args at s =
+    sheet_call parens f args span s =
         bind (arguments value (deeper parens) args none_passed s)
-        (λ p. bind (answer (function_entry f p.0 at) p.1)
-        (λ e. bind (enter at e.0 f.callable.params.items f.callable.block e.1) (λ r. returned r.0 at r.1)))
+        (λ p. bind (answer (function_entry f p.0 span) p.1)
+        (λ e. bind (enter span e.0 f.callable.params.items f.callable.block e.1) (λ r. returned r.0 span r.1)))
 
     -- a built-in function, which is given its arguments
     unfoldable pub built_in_call : Parens → BuiltIn → List Argument → Span → Eval Plain
-    built_in_call parens f args at s =
-        bind (arguments value (deeper parens) args none_passed s) (λ p. built_in_called f p.0 at p.1)
+    built_in_call parens f args span s =
+        bind (arguments value (deeper parens) args none_passed s) (λ p. built_in_called f p.0 span p.1)
 
     -- of the arguments of `if()` it is given one at most, unless a value is written with `...`
     abbrev pub built_in_by : Parens → BuiltIn → List Argument → Span → Eval Plain
-    built_in_by parens B.If args at s =
-        if has_spread args then built_in_call parens B.If args at s else if_called value parens args at s
-    built_in_by parens f args at s = built_in_call parens f args at s
+    built_in_by parens B.If args span s =
+        if has_spread args then built_in_call parens B.If args span s else if_called value parens args span s
+    built_in_by parens f args span s = built_in_call parens f args span s
 
     abbrev pub call_by : Parens → Callee → List Argument → Span → Called → Eval Plain
-    call_by parens c args at (call.Sheet f) s = sheet_call parens f args at s
-    call_by parens c args at (call.BuiltIn f) s = built_in_by parens f args at s
-    call_by parens c args at call.Css s = css_called value parens c args at s
+    call_by parens c args span (call.Sheet f) s = sheet_call parens f args span s
+    call_by parens c args span (call.BuiltIn f) s = built_in_by parens f args span s
+    call_by parens c args span call.Css s = css_called value parens c args span s
 
     unfoldable pub call_value : Parens → Callee → List Argument → Span → Eval Plain
-    call_value parens c args at s = bind (called c at s) (λ f. call_by parens c args at f.0 f.1)
+    call_value parens c args span s = bind (called c span s) (λ f. call_by parens c args span f.0 f.1)

@@ -35,41 +35,41 @@ use Rattle.sw_eval_walk.specs.Variables.{qualified, variable}
 module _ (value : Parens → Expr → Eval Plain) where
   -- a quoted string or a url
   unfoldable pub string : Parens → Parts → Bool → Span → Eval Plain
-  string parens parts quoted at s =
-      bind (text value K.Expression parens parts at s) (λ t. answer (string_value t.0 quoted at) t.1)
+  string parens parts quoted span s =
+      bind (text value K.Expression parens parts span s) (λ t. answer (string_value t.0 quoted span) t.1)
 
   -- a word may be the name of a colour where no value stands in it
   abbrev pub word_by : Parens → Texts → Span → Eval Plain
-  word_by parens (Parts-F.Plain name) at s = answer (word_value name at) s
-  word_by parens (Parts-F.Mixed ps) at s =
-      bind (mixed value K.Expression parens ps at s) (λ t. answer (string_value t.0 false at) t.1)
+  word_by parens (Parts-F.Plain name) span s = answer (word_value name span) s
+  word_by parens (Parts-F.Mixed ps) span s =
+      bind (mixed value K.Expression parens ps span s) (λ t. answer (string_value t.0 false span) t.1)
 
   unfoldable pub word : Parens → Parts → Span → Eval Plain
-  word parens parts at s = word_by parens (out-Parts parts) at s
+  word parens parts span s = word_by parens (out-Parts parts) span s
 
   -- an operand with the signs before it
   unfoldable pub signed : Parens → List Sign → Expr → Span → Eval Plain
-  signed parens signs operand at s =
-      bind (value (deeper parens) operand s) (λ v. answer (prefixed signs v.0 operand.span at) v.1)
+  signed parens signs operand span s =
+      bind (value (deeper parens) operand s) (λ v. answer (prefixed signs v.0 operand.span span) v.1)
 
   -- an operator and its right operand, which `and` and `or` may leave out
   unfoldable pub linked : Parens → Link → Left → Span → Eval Left
-  linked parens link left at s =
+  linked parens link left span s =
       bind (answer (taken left link.operator link.operand) s)
       (λ l. if needs_right link.operator l.0.value
       then bind (value (deeper parens) link.operand l.1)
-      (λ r. answer (joined_to l.0 link.operator r.0 link.operand at) r.1)
+      (λ r. answer (joined_to l.0 link.operator r.0 link.operand span) r.1)
       else Gives (l.0, l.1))
 
   abbrev pub links : Parens → List Link → Left → Span → Eval Left
-  links parens [] left at s = Gives (left, s)
-  links parens (l ∷ ls) left at s = bind (linked parens l left at s) (λ r. links parens ls r.0 at r.1)
+  links parens [] left span s = Gives (left, s)
+  links parens (l ∷ ls) left span s = bind (linked parens l left span s) (λ r. links parens ls r.0 span r.1)
 
   -- operands from left to right
   unfoldable pub chain : Parens → Expr → List Link → Span → Eval Plain
-  chain parens first rest at s =
+  chain parens first rest span s =
       bind (value (deeper parens) first s)
-      (λ v. bind (links parens rest (first_left v.0 first parens) at v.1) (λ l. Gives (l.0.value, l.1)))
+      (λ v. bind (links parens rest (first_left v.0 first parens) span v.1) (λ l. Gives (l.0.value, l.1)))
 
   -- the values of these items behind those that are done
   abbrev pub items : Parens → List Expr → List Plain → Eval (List Plain)
@@ -84,31 +84,31 @@ module _ (value : Parens → Expr → Eval Plain) where
       (λ k. bind (value P.Inside p.value k.1) (λ v. pairs ps (done ++ (k.0, v.0) ∷ []) v.1))
 
   unfoldable pub map : List Pair → Span → Eval Plain
-  map ps at s = bind (pairs ps [] s) (λ vs. answer (map_value vs.0 ps at) vs.1)
+  map ps span s = bind (pairs ps [] s) (λ vs. answer (map_value vs.0 ps span) vs.1)
 
 module _ (value : Parens → Expr → Eval Plain) (enter : Span → Entry → List Param → List Statement → Eval (Option Plain))
   where
     -- one level of an expression, at its place
     abbrev pub value_by : Parens → Kinds → Span → Eval Plain
-    value_by parens (ExprKind-F.Number number) at s = answer (number_value number at) s
-    value_by parens (ExprKind-F.Quoted parts) at s = string value parens parts true at s
-    value_by parens (ExprKind-F.Word parts) at s = word value parens parts at s
-    value_by parens (ExprKind-F.Hash name) at s = answer (hash_value name at) s
-    value_by parens (ExprKind-F.Constant constant) at s = Gives (constant_value constant, s)
-    value_by parens (ExprKind-F.Url parts) at s = string value parens parts false at s
-    value_by parens (ExprKind-F.Special parts) at s = special value parens parts at s
-    value_by parens (ExprKind-F.Variable name) at s = variable name at s
-    value_by parens (ExprKind-F.Qualified q) at s = qualified q at s
-    value_by parens (ExprKind-F.Call callee arguments) at s = call_value value enter parens callee arguments at s
-    value_by parens ExprKind-F.Parent at s = parent at s
-    value_by parens ExprKind-F.Important at s = Gives (important_value, s)
-    value_by parens (ExprKind-F.Prefixed signs operand) at s = signed value parens signs operand at s
-    value_by parens (ExprKind-F.Chain first rest) at s = chain value parens first rest at s
-    value_by parens (ExprKind-F.List es separator around) at s =
+    value_by parens (ExprKind-F.Number number) span s = answer (number_value number span) s
+    value_by parens (ExprKind-F.Quoted parts) span s = string value parens parts true span s
+    value_by parens (ExprKind-F.Word parts) span s = word value parens parts span s
+    value_by parens (ExprKind-F.Hash name) span s = answer (hash_value name span) s
+    value_by parens (ExprKind-F.Constant constant) span s = Gives (constant_value constant, s)
+    value_by parens (ExprKind-F.Url parts) span s = string value parens parts false span s
+    value_by parens (ExprKind-F.Special parts) span s = special value parens parts span s
+    value_by parens (ExprKind-F.Variable name) span s = variable name span s
+    value_by parens (ExprKind-F.Qualified q) span s = qualified q span s
+    value_by parens (ExprKind-F.Call callee arguments) span s = call_value value enter parens callee arguments span s
+    value_by parens ExprKind-F.Parent span s = parent span s
+    value_by parens ExprKind-F.Important span s = Gives (important_value, s)
+    value_by parens (ExprKind-F.Prefixed signs operand) span s = signed value parens signs operand span s
+    value_by parens (ExprKind-F.Chain first rest) span s = chain value parens first rest span s
+    value_by parens (ExprKind-F.List es separator around) span s =
         bind (items value (of_item parens separator around) es [] s)
-        (λ vs. answer (list_value vs.0 separator around at) vs.1)
-    value_by parens (ExprKind-F.Paren e) at s = plain_value value P.Inside e s
-    value_by parens (ExprKind-F.Map ps) at s = map value ps at s
+        (λ vs. answer (list_value vs.0 separator around span) vs.1)
+    value_by parens (ExprKind-F.Paren e) span s = plain_value value P.Inside e s
+    value_by parens (ExprKind-F.Map ps) span s = map value ps span s
 
     unfoldable pub value_one : Parens → Expr → Eval Plain
     value_one parens e s = value_by parens (out-ExprKind e.kind) e.span s

@@ -27,23 +27,23 @@ use Rattle.sw_eval_walk.specs.Texts.{text}
 module _ (value : Parens → Expr → Eval Plain) where
   -- such a function takes no arguments by name
   unfoldable pub css_called : Parens → Callee → List Argument → Span → Eval Plain
-  css_called parens c args at s =
+  css_called parens c args span s =
       bind (text value K.Expression parens c.name.parts c.name.span s)
       (λ t. bind (arguments value (deeper parens) args none_passed t.1)
-      (λ p. if names_any p.0 then Fails (fault C.ArgumentFault at) else css_value c t.0 p.0.items at p.1))
+      (λ p. if names_any p.0 then Fails (fault C.ArgumentFault span) else css_value c t.0 p.0.items span p.1))
 
   -- ---- `if()`
 
   -- what a condition chooses, which keeps no sides
   unfoldable pub one_of : Parens → Bool → Choice → Span → Eval Plain
-  one_of parens holds c at s = bind (value parens (one_by c holds) s) (λ v. answer (plain_at v.0 at) v.1)
+  one_of parens holds c span s = bind (value parens (one_by c holds) s) (λ v. answer (plain_at v.0 span) v.1)
 
   unfoldable pub chosen : Parens → Choice → Span → Eval Plain
-  chosen parens c at s = bind (value parens c.0 s) (λ v. one_of parens (truth_of v.0) c at v.1)
+  chosen parens c span s = bind (value parens c.0 s) (λ v. one_of parens (truth_of v.0) c span v.1)
 
   abbrev pub chosen_by : Parens → Option Choice → Span → Eval Plain
-  chosen_by parens (Some c) at s = chosen parens c at s
-  chosen_by parens None at s = Fails (fault C.ArgumentFault at)
+  chosen_by parens (Some c) span s = chosen parens c span s
+  chosen_by parens None span s = Fails (fault C.ArgumentFault span)
 
   unfoldable pub if_called : Parens → List Argument → Span → Eval Plain
-  if_called parens args at s = chosen_by (deeper parens) (choice args) at s
+  if_called parens args span s = chosen_by (deeper parens) (choice args) span s

@@ -39,21 +39,21 @@ module _ (value : Parens → Expr → Eval Plain) where
 
   -- `min` and `max` may be computed
   unfoldable pub extremum_called : Parens → BuiltIn → List Piece → Span → Eval Plain
-  extremum_called parens f ps at s =
-      bind (piece_values parens ps [] s) (λ vs. answer (extremum_value f ps vs.0 at) vs.1)
+  extremum_called parens f ps span s =
+      bind (piece_values parens ps [] s) (λ vs. answer (extremum_value f ps vs.0 span) vs.1)
 
   unfoldable pub special_text : Parens → List Piece → Span → Eval Plain
-  special_text parens ps at s =
-      bind (pieces value K.Sheet parens ps [] s) (λ ts. answer (special_value ps ts.0 at) ts.1)
+  special_text parens ps span s =
+      bind (pieces value K.Sheet parens ps [] s) (λ ts. answer (special_value ps ts.0 span) ts.1)
 
   abbrev pub special_by : Parens → List Piece → Span → Option BuiltIn → Eval Plain
-  special_by parens ps at (Some f) s = extremum_called parens f ps at s
-  special_by parens ps at None s = special_text parens ps at s
+  special_by parens ps span (Some f) s = extremum_called parens f ps span s
+  special_by parens ps span None s = special_text parens ps span s
 
   abbrev pub special_parts : Parens → Texts → Span → Eval Plain
-  special_parts parens (Parts-F.Plain text) at s = answer (plain_special text at) s
-  special_parts parens (Parts-F.Mixed ps) at s = special_by parens ps at (extremum ps) s
+  special_parts parens (Parts-F.Plain text) span s = answer (plain_special text span) s
+  special_parts parens (Parts-F.Mixed ps) span s = special_by parens ps span (extremum ps) s
 
   -- `calc()` and what else is read as it is, an unquoted string
   unfoldable pub special : Parens → Parts → Span → Eval Plain
-  special parens parts at s = special_parts parens (out-Parts parts) at s
+  special parens parts span s = special_parts parens (out-Parts parts) span s

@@ -19,23 +19,23 @@ fn sheet_call<W: World, B: Below<W>>(
     level: Level<B>,
     function: &Found,
     arguments: &[Argument],
-    at: &Span,
+    span: &Span,
     world: &mut W,
 ) -> Result<Value, Stop>
     requires { B.fits level.below }
     ensures { Goes_on W.gives (sheet_call (B.values level.below) (B.bodies level.below) level.parens function.now
-        arguments.now at.now) walk.old world.old result walk.new world.new }
+        arguments.now span.now) walk.old world.old result walk.new world.new }
 {
     let passed = arguments_of(walk, level.deeper(), arguments, world)?;
-    let entry = stopped(function_entry(walk.alloc, function, &passed, at))?;
+    let entry = stopped(function_entry(walk.alloc, function, &passed, span))?;
     let callable = function.callable.get();
     let body = Body {
         start: &entry,
         params: callable.params.items.as_slice(),
         block: callable.block.as_slice(),
     };
-    let value = level.below.enter(walk, at, body, world)?;
-    returned(value, at)
+    let value = level.below.enter(walk, span, body, world)?;
+    returned(value, span)
 }
 
 // A built-in function, which is given its arguments.
@@ -44,15 +44,15 @@ fn built_in_call<W: World, B: Below<W>>(
     level: Level<B>,
     function: BuiltIn,
     arguments: &[Argument],
-    at: &Span,
+    span: &Span,
     world: &mut W,
 ) -> Result<Value, Stop>
     requires { B.fits level.below }
     ensures { Goes_on W.gives (built_in_call (B.values level.below) (B.bodies level.below) level.parens function
-        arguments.now at.now) walk.old world.old result walk.new world.new }
+        arguments.now span.now) walk.old world.old result walk.new world.new }
 {
     let passed = arguments_of(walk, level.deeper(), arguments, world)?;
-    walk.built_in_called(function, &passed, at, world)
+    walk.built_in_called(function, &passed, span, world)
 }
 
 // Of the arguments of `if()` it is given one at most, unless a value is written with `...`.
@@ -61,21 +61,21 @@ fn built_in_by<W: World, B: Below<W>>(
     level: Level<B>,
     function: BuiltIn,
     arguments: &[Argument],
-    at: &Span,
+    span: &Span,
     world: &mut W,
 ) -> Result<Value, Stop>
     requires { B.fits level.below }
     ensures { Goes_on W.gives (built_in_by (B.values level.below) (B.bodies level.below) level.parens function
-        arguments.now at.now) walk.old world.old result walk.new world.new }
+        arguments.now span.now) walk.old world.old result walk.new world.new }
 {
     match function {
         BuiltIn::If => {
             if has_spread(arguments) {
-                return built_in_call(walk, level, function, arguments, at, world);
+                return built_in_call(walk, level, function, arguments, span, world);
             }
-            if_called(walk, level, arguments, at, world)
+            if_called(walk, level, arguments, span, world)
         }
-        _ => built_in_call(walk, level, function, arguments, at, world),
+        _ => built_in_call(walk, level, function, arguments, span, world),
     }
 }
 
@@ -85,17 +85,17 @@ pub(crate) fn call<W: World, B: Below<W>>(
     level: Level<B>,
     callee: &Callee,
     arguments: &[Argument],
-    at: &Span,
+    span: &Span,
     world: &mut W,
 ) -> Result<Value, Stop>
     requires { B.fits level.below }
     ensures { Goes_on W.gives (call_value (B.values level.below) (B.bodies level.below) level.parens callee.now
-        arguments.now at.now) walk.old world.old result walk.new world.new }
+        arguments.now span.now) walk.old world.old result walk.new world.new }
 {
-    let called = walk.called(callee, at, world)?;
+    let called = walk.called(callee, span, world)?;
     match &called {
-        Called::Sheet(function) => sheet_call(walk, level, function, arguments, at, world),
-        Called::BuiltIn(function) => built_in_by(walk, level, *function, arguments, at, world),
-        Called::Css => css_called(walk, level, callee, arguments, at, world),
+        Called::Sheet(function) => sheet_call(walk, level, function, arguments, span, world),
+        Called::BuiltIn(function) => built_in_by(walk, level, *function, arguments, span, world),
+        Called::Css => css_called(walk, level, callee, arguments, span, world),
     }
 }

@@ -20,11 +20,11 @@ pub(crate) fn css_called<W: World, B: Below<W>>(
     level: Level<B>,
     callee: &Callee,
     arguments: &[Argument],
-    at: &Span,
+    span: &Span,
     world: &mut W,
 ) -> Result<Value, Stop>
     requires { B.fits level.below }
-    ensures { Goes_on W.gives (css_called (B.values level.below) level.parens callee.now arguments.now at.now)
+    ensures { Goes_on W.gives (css_called (B.values level.below) level.parens callee.now arguments.now span.now)
         walk.old world.old result walk.new world.new }
 {
     let written = &callee.name;
@@ -38,9 +38,9 @@ pub(crate) fn css_called<W: World, B: Below<W>>(
     )?;
     let passed = arguments_of(walk, level.deeper(), arguments, world)?;
     if names_any(&passed) {
-        return fails(FaultCode::ArgumentFault, at);
+        return fails(FaultCode::ArgumentFault, span);
     }
-    walk.css_value(callee, name, passed.items, at, world)
+    walk.css_value(callee, name, passed.items, span, world)
 }
 
 // What a condition chooses, which keeps no sides.
@@ -49,15 +49,15 @@ fn one_of<W: World, B: Below<W>>(
     level: Level<B>,
     holds: bool,
     choice: &Chosen<'_>,
-    at: &Span,
+    span: &Span,
     world: &mut W,
 ) -> Result<Value, Stop>
     requires { B.fits level.below }
-    ensures { Goes_on W.gives (one_of (B.values level.below) level.parens holds (choice_of choice.now) at.now)
+    ensures { Goes_on W.gives (one_of (B.values level.below) level.parens holds (choice_of choice.now) span.now)
         walk.old world.old result walk.new world.new }
 {
     let value = value_of(walk, level, one_by(choice, holds), world)?;
-    stopped(into_plain_at(value, at))
+    stopped(into_plain_at(value, span))
 }
 
 // The condition, and what it chooses.
@@ -65,15 +65,15 @@ fn chosen<W: World, B: Below<W>>(
     walk: &mut Walk,
     level: Level<B>,
     choice: &Chosen<'_>,
-    at: &Span,
+    span: &Span,
     world: &mut W,
 ) -> Result<Value, Stop>
     requires { B.fits level.below }
-    ensures { Goes_on W.gives (chosen (B.values level.below) level.parens (choice_of choice.now) at.now) walk.old
+    ensures { Goes_on W.gives (chosen (B.values level.below) level.parens (choice_of choice.now) span.now) walk.old
         world.old result walk.new world.new }
 {
     let condition = value_of(walk, level, choice.condition, world)?;
-    one_of(walk, level, condition.truth(), choice, at, world)
+    one_of(walk, level, condition.truth(), choice, span, world)
 }
 
 // `if()`, of whose arguments one is evaluated at most beside the condition.
@@ -81,15 +81,15 @@ pub(crate) fn if_called<W: World, B: Below<W>>(
     walk: &mut Walk,
     level: Level<B>,
     arguments: &[Argument],
-    at: &Span,
+    span: &Span,
     world: &mut W,
 ) -> Result<Value, Stop>
     requires { B.fits level.below }
-    ensures { Goes_on W.gives (if_called (B.values level.below) level.parens arguments.now at.now) walk.old
+    ensures { Goes_on W.gives (if_called (B.values level.below) level.parens arguments.now span.now) walk.old
         world.old result walk.new world.new }
 {
     match choice(arguments) {
-        Some(choice) => chosen(walk, level.deeper(), &choice, at, world),
-        None => fails(FaultCode::ArgumentFault, at),
+        Some(choice) => chosen(walk, level.deeper(), &choice, span, world),
+        None => fails(FaultCode::ArgumentFault, span),
     }
 }

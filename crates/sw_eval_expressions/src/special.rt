@@ -72,30 +72,30 @@ fn extremum_called<W: World, B: Below<W>>(
     level: Level<B>,
     function: BuiltIn,
     all: &[Piece],
-    at: &Span,
+    span: &Span,
     world: &mut W,
 ) -> Result<Value, Stop>
     requires { B.fits level.below }
-    ensures { Goes_on W.gives (extremum_called (B.values level.below) level.parens function all.now at.now)
+    ensures { Goes_on W.gives (extremum_called (B.values level.below) level.parens function all.now span.now)
         walk.old world.old result walk.new world.new }
 {
     let values = piece_values(walk, level, all, world)?;
-    stopped(extremum_value(walk.alloc, function, all, values.as_slice(), at))
+    stopped(extremum_value(walk.alloc, function, all, values.as_slice(), span))
 }
 
 fn special_text<W: World, B: Below<W>>(
     walk: &mut Walk,
     level: Level<B>,
     all: &[Piece],
-    at: &Span,
+    span: &Span,
     world: &mut W,
 ) -> Result<Value, Stop>
     requires { B.fits level.below }
-    ensures { Goes_on W.gives (special_text (B.values level.below) level.parens all.now at.now) walk.old world.old
+    ensures { Goes_on W.gives (special_text (B.values level.below) level.parens all.now span.now) walk.old world.old
         result walk.new world.new }
 {
     let texts = pieces(walk, level, TextKind::Sheet, all, world)?;
-    stopped(special_value(walk.alloc, all, texts.as_slice(), at))
+    stopped(special_value(walk.alloc, all, texts.as_slice(), span))
 }
 
 // `calc()` and what else is read as it is, an unquoted string.
@@ -103,18 +103,18 @@ pub(crate) fn special<W: World, B: Below<W>>(
     walk: &mut Walk,
     level: Level<B>,
     parts: &Parts,
-    at: &Span,
+    span: &Span,
     world: &mut W,
 ) -> Result<Value, Stop>
     requires { B.fits level.below }
-    ensures { Goes_on W.gives (special (B.values level.below) level.parens parts.now at.now) walk.old world.old
+    ensures { Goes_on W.gives (special (B.values level.below) level.parens parts.now span.now) walk.old world.old
         result walk.new world.new }
 {
     match parts {
-        Parts::Plain(text) => stopped(plain_special(walk.alloc, text, at)),
+        Parts::Plain(text) => stopped(plain_special(walk.alloc, text, span)),
         Parts::Mixed(all) => match extremum(all.as_slice()) {
-            Some(function) => extremum_called(walk, level, function, all.as_slice(), at, world),
-            None => special_text(walk, level, all.as_slice(), at, world),
+            Some(function) => extremum_called(walk, level, function, all.as_slice(), span, world),
+            None => special_text(walk, level, all.as_slice(), span, world),
         },
     }
 }

@@ -23,15 +23,15 @@ fn string<W: World, B: Below<W>>(
     level: Level<B>,
     parts: &Parts,
     quoted: bool,
-    at: &Span,
+    span: &Span,
     world: &mut W,
 ) -> Result<Value, Stop>
     requires { B.fits level.below }
-    ensures { Goes_on W.gives (string (B.values level.below) level.parens parts.now quoted at.now) walk.old
+    ensures { Goes_on W.gives (string (B.values level.below) level.parens parts.now quoted span.now) walk.old
         world.old result walk.new world.new }
 {
-    let text = text(walk, level, TextKind::Expression, parts, at, world)?;
-    stopped(string_value(text, quoted, at))
+    let text = text(walk, level, TextKind::Expression, parts, span, world)?;
+    stopped(string_value(text, quoted, span))
 }
 
 // A word, which may be the name of a colour where no value stands in it.
@@ -39,18 +39,25 @@ fn word<W: World, B: Below<W>>(
     walk: &mut Walk,
     level: Level<B>,
     parts: &Parts,
-    at: &Span,
+    span: &Span,
     world: &mut W,
 ) -> Result<Value, Stop>
     requires { B.fits level.below }
-    ensures { Goes_on W.gives (word (B.values level.below) level.parens parts.now at.now) walk.old world.old
+    ensures { Goes_on W.gives (word (B.values level.below) level.parens parts.now span.now) walk.old world.old
         result walk.new world.new }
 {
     match parts {
-        Parts::Plain(text) => stopped(word_value(walk.alloc, text, at)),
+        Parts::Plain(text) => stopped(word_value(walk.alloc, text, span)),
         Parts::Mixed(all) => {
-            let text = mixed(walk, level, TextKind::Expression, all.as_slice(), at, world)?;
-            stopped(string_value(text, false, at))
+            let text = mixed(
+                walk,
+                level,
+                TextKind::Expression,
+                all.as_slice(),
+                span,
+                world,
+            )?;
+            stopped(string_value(text, false, span))
         }
     }
 }
@@ -61,15 +68,15 @@ fn signed<W: World, B: Below<W>>(
     level: Level<B>,
     signs: &[Sign],
     operand: &Expr,
-    at: &Span,
+    span: &Span,
     world: &mut W,
 ) -> Result<Value, Stop>
     requires { B.fits level.below }
-    ensures { Goes_on W.gives (signed (B.values level.below) level.parens signs.now operand.now at.now) walk.old
+    ensures { Goes_on W.gives (signed (B.values level.below) level.parens signs.now operand.now span.now) walk.old
         world.old result walk.new world.new }
 {
     let value = value_of(walk, level.deeper(), operand, world)?;
-    stopped(prefixed(walk.alloc, signs, &value, &operand.span, at))
+    stopped(prefixed(walk.alloc, signs, &value, &operand.span, span))
 }
 
 // An operator and its right operand, which `and` and `or` may leave out.
@@ -78,11 +85,11 @@ fn linked<W: World, B: Below<W>>(
     level: Level<B>,
     link: &Link,
     left: &mut Left,
-    at: &Span,
+    span: &Span,
     world: &mut W,
 ) -> Result<(), Stop>
     requires { B.fits level.below }
-    ensures { Goes_on W.gives (linked (B.values level.below) level.parens link.now left.old at.now) walk.old
+    ensures { Goes_on W.gives (linked (B.values level.below) level.parens link.now left.old span.now) walk.old
         world.old (changed left.new result) walk.new world.new }
 {
     left.take(link.operator, &link.operand)?;
@@ -90,7 +97,7 @@ fn linked<W: World, B: Below<W>>(
         return Ok(());
     }
     let right = value_of(walk, level.deeper(), &link.operand, world)?;
-    stopped(left.join(walk.alloc, link.operator, &right, &link.operand, at))
+    stopped(left.join(walk.alloc, link.operator, &right, &link.operand, span))
 }
 
 fn links<W: World, B: Below<W>>(
@@ -98,15 +105,15 @@ fn links<W: World, B: Below<W>>(
     level: Level<B>,
     all: &[Link],
     left: &mut Left,
-    at: &Span,
+    span: &Span,
     world: &mut W,
 ) -> Result<(), Stop>
     requires { B.fits level.below }
-    ensures { Goes_on W.gives (links (B.values level.below) level.parens all.now left.old at.now) walk.old world.old
+    ensures { Goes_on W.gives (links (B.values level.below) level.parens all.now left.old span.now) walk.old world.old
         (changed left.new result) walk.new world.new }
 {
     for one in all {
-        linked(walk, level, one, left, at, world)?;
+        linked(walk, level, one, left, span, world)?;
     }
     Ok(())
 }
@@ -117,16 +124,16 @@ fn chain<W: World, B: Below<W>>(
     level: Level<B>,
     first: &Expr,
     rest: &[Link],
-    at: &Span,
+    span: &Span,
     world: &mut W,
 ) -> Result<Value, Stop>
     requires { B.fits level.below }
-    ensures { Goes_on W.gives (chain (B.values level.below) level.parens first.now rest.now at.now) walk.old
+    ensures { Goes_on W.gives (chain (B.values level.below) level.parens first.now rest.now span.now) walk.old
         world.old result walk.new world.new }
 {
     let value = value_of(walk, level.deeper(), first, world)?;
     let mut left = Left::first(value, first, level.parens)?;
-    links(walk, level, rest, &mut left, at, world)?;
+    links(walk, level, rest, &mut left, span, world)?;
     let Left { value, .. } = left;
     Ok(value)
 }
@@ -177,14 +184,14 @@ fn map<W: World, B: Below<W>>(
     walk: &mut Walk,
     below: B,
     all: &[Pair],
-    at: &Span,
+    span: &Span,
     world: &mut W,
 ) -> Result<Value, Stop>
     requires { B.fits below }
-    ensures { Goes_on W.gives (map (B.values below) all.now at.now) walk.old world.old result walk.new world.new }
+    ensures { Goes_on W.gives (map (B.values below) all.now span.now) walk.old world.old result walk.new world.new }
 {
     let values = pairs(walk, below, all, world)?;
-    stopped(map_value(walk.alloc, values.as_slice(), all, at))
+    stopped(map_value(walk.alloc, values.as_slice(), all, span))
 }
 
 /// The value of an expression, over what evaluates the level below it, or the first fault. `docs/LANGUAGE.md`,

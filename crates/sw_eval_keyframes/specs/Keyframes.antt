@@ -60,9 +60,9 @@ with_commas done [] = done
 with_commas done (frame ∷ frames) = with_commas ((done ++ comma_behind done) ++ frame ∷ []) frames
 
 abbrev pub text_by : Option (List (List ℕ)) → Span → Answer (List ℕ)
-text_by None at = refused C.BadSelector at
-text_by (Some frames) at = joined (with_commas [] frames) at
+text_by None span = refused C.BadSelector span
+text_by (Some frames) span = joined (with_commas [] frames) span
 
 -- the selectors of a rule in keyframes as they are written, whose text stands here
 unfoldable pub keyframe_text : List ℕ → Span → Answer (List ℕ)
-keyframe_text text at = text_by (frames_of (pieces_of text)) at
+keyframe_text text span = text_by (frames_of (pieces_of text)) span

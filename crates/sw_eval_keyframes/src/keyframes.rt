@@ -103,15 +103,15 @@ fn with_commas(alloc: Global, frames: &[Name]) -> Result<List<Name>, Memory>
 }
 
 /// The selectors of a rule in keyframes as they are written: `from`, `to` and percents. They stand here.
-pub fn keyframe_text(alloc: Global, text: &Name, at: &Span) -> Result<Name, Refused>
-    ensures { Returns result (keyframe_text text.now at.now) }
+pub fn keyframe_text(alloc: Global, text: &Name, span: &Span) -> Result<Name, Refused>
+    ensures { Returns result (keyframe_text text.now span.now) }
 {
     let pieces = pieces_of(alloc, text.as_str())?;
     match frames_of(alloc, pieces.as_slice())? {
         Some(frames) => {
             let whole = with_commas(alloc, frames.as_slice())?;
-            joined(alloc, whole.as_slice(), at)
+            joined(alloc, whole.as_slice(), span)
         }
-        None => refuses(FaultCode::BadSelector, at),
+        None => refuses(FaultCode::BadSelector, span),
     }
 }

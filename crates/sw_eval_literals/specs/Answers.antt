@@ -28,7 +28,7 @@ changed value (Ok _) = Ok value
 changed value (Err why) = Err why
 
 abbrev pub refused : {A : Type 0} → FaultCode → Span → Answer A
-refused code at = Err (record { code = code; span = at })
+refused code span = Err (record { code = code; span = span })
 
 -- what is made of a value, where there is one
 abbrev pub with : {A B : Type 0} → Answer A → (A → Answer B) → Answer B
@@ -37,7 +37,7 @@ with (Err fault) next = Err fault
 
 -- a value, which stands here, unless it is too heavy or too deep
 abbrev pub within : Plain → Span → Answer Plain
-within value at = if is_within value then Ok value else refused C.TooLarge at
+within value span = if is_within value then Ok value else refused C.TooLarge span
 
 -- the faults of operators; none of their meanings is want of memory
 abbrev pub code_of : OpFault → FaultCode
@@ -51,8 +51,8 @@ code_of F.Memory = C.TooLarge
 
 -- what an operator makes, here
 abbrev pub of_op : Span → Result Plain OpFault → Answer Plain
-of_op at (Ok value) = Ok value
-of_op at (Err fault) = refused (code_of fault) at
+of_op span (Ok value) = Ok value
+of_op span (Err fault) = refused (code_of fault) span
 
 -- the faults of numbers; none of their meanings is want of memory
 abbrev pub number_code : NumberFault → FaultCode

@@ -40,20 +40,20 @@ count_from from to through = record {
 }
 
 abbrev pub whole_by : Number → ℤ → Bool → Span → Option ℤ → Option ℤ → Answer Count
-whole_by from to through at (Some one) (Some other) = Ok (count_from from to through)
-whole_by from to through at (Some one) None = refused C.ArgumentFault at
-whole_by from to through at None other = refused C.ArgumentFault at
+whole_by from to through span (Some one) (Some other) = Ok (count_from from to through)
+whole_by from to through span (Some one) None = refused C.ArgumentFault span
+whole_by from to through span None other = refused C.ArgumentFault span
 
 -- both numbers are whole
 abbrev pub whole : Number → Result ℤ NumberFault → Bool → Span → Answer Count
-whole from (Ok to) through at = whole_by from to through at (whole_of from.value) (whole_of to)
-whole from (Err fault) through at = refused (number_code fault) at
+whole from (Ok to) through span = whole_by from to through span (whole_of from.value) (whole_of to)
+whole from (Err fault) through span = refused (number_code fault) span
 
 abbrev pub counting_by : Option Number → Option Number → Bool → Span → Answer Count
-counting_by (Some from) (Some to) through at = whole from (converted to from.units) through at
-counting_by (Some from) None through at = refused C.TypeFault at
-counting_by None to through at = refused C.TypeFault at
+counting_by (Some from) (Some to) through span = whole from (converted to from.units) through span
+counting_by (Some from) None through span = refused C.TypeFault span
+counting_by None to through span = refused C.TypeFault span
 
 -- two numbers, of which the second is counted in the first one's units; the last number is counted with `through` alone
 unfoldable pub counting : Plain → Plain → Bool → Span → Answer Count
-counting from to through at = counting_by (number_in from) (number_in to) through at
+counting from to through span = counting_by (number_in from) (number_in to) through span

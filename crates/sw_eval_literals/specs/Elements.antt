@@ -23,10 +23,10 @@ parts_of count element = if count == 1 then element ∷ [] else filled count (it
 
 -- each as it is stored
 abbrev pub all_plain : List Plain → Span → Answer (List Plain)
-all_plain [] at = Ok []
-all_plain (value ∷ values) at =
-    with (plain_at value at) (λ first. with (all_plain values at) (λ rest. Ok (first ∷ rest)))
+all_plain [] span = Ok []
+all_plain (value ∷ values) span =
+    with (plain_at value span) (λ first. with (all_plain values span) (λ rest. Ok (first ∷ rest)))
 
 -- the values of so many variables in a turn over a list that stands here
 unfoldable pub taken_apart : ℕ → Plain → Span → Answer (List Plain)
-taken_apart count element at = all_plain (parts_of count element) at
+taken_apart count element span = all_plain (parts_of count element) span

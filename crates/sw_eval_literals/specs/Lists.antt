@@ -23,4 +23,4 @@ is_bracketed arounds.Brackets = true
 
 -- parentheses leave no trace
 unfoldable pub list_value : List Plain → Separator → Around → Span → Answer Plain
-list_value items separator around at = within (P.List items (separator_of separator) (is_bracketed around)) at
+list_value items separator around span = within (P.List items (separator_of separator) (is_bracketed around)) span

@@ -28,30 +28,30 @@ abbrev pub units_of : List ℕ → Units
 units_of unit = record { over = unit_names unit; under = Empty }
 
 abbrev pub number_by : Option ℤ → List ℕ → Span → Answer Plain
-number_by (Some value) unit at = Ok (P.Number (plain (units_of unit) value))
-number_by None unit at = refused C.NumberRange at
+number_by (Some value) unit span = Ok (P.Number (plain (units_of unit) value))
+number_by None unit span = refused C.NumberRange span
 
 -- a number beyond the greatest is refused
 unfoldable pub number_value : Number → Span → Answer Plain
-number_value number at = number_by number.value number.unit at
+number_value number span = number_by number.value number.unit span
 
 -- ---- strings
 
 -- the whole text of a string, a url or a word that isn't a colour
 unfoldable pub string_value : List ℕ → Bool → Span → Answer Plain
-string_value text quoted at = within (P.Text text quoted) at
+string_value text quoted span = within (P.Text text quoted) span
 
 abbrev pub colour_or : Option Rgba → List ℕ → Span → Answer Plain
-colour_or (Some colour) text at = Ok (P.Colour colour)
-colour_or None text at = string_value text false at
+colour_or (Some colour) text span = Ok (P.Colour colour)
+colour_or None text span = string_value text false span
 
 -- a word in which no value stands: the colour of this name in any case, spelt as written, else an unquoted string
 unfoldable pub word_value : List ℕ → Span → Answer Plain
-word_value text at = colour_or (colour_named text) text at
+word_value text span = colour_or (colour_named text) text span
 
 -- `#` and what stands behind it: a colour by its hex digits, else an unquoted string
 unfoldable pub hash_value : List ℕ → Span → Answer Plain
-hash_value text at = colour_or (colour_in text) text at
+hash_value text span = colour_or (colour_in text) text span
 
 -- ---- constants
 

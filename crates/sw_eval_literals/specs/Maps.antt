@@ -20,18 +20,18 @@ second_key seen (pair ∷ pairs) number =
 
 -- where the key of a pair is written; the map's own place where it isn't
 abbrev pub key_by : Option Pair → Span → Span
-key_by (Some pair) at = pair.key.span
-key_by None at = at
+key_by (Some pair) span = pair.key.span
+key_by None span = span
 
 abbrev pub key_place : List Pair → ℕ → Span → Span
-key_place written number at = key_by (slice_get written number) at
+key_place written number span = key_by (slice_get written number) span
 
 abbrev pub distinct_by : Option ℕ → List (Plain × Plain) → List Pair → Span → Answer Plain
-distinct_by None pairs written at = Ok (P.Map pairs)
-distinct_by (Some number) pairs written at = refused C.DuplicateKey (key_place written number at)
+distinct_by None pairs written span = Ok (P.Map pairs)
+distinct_by (Some number) pairs written span = refused C.DuplicateKey (key_place written number span)
 
 -- the map of these pairs, written here: one that is too heavy or too deep is refused as a whole, and then a key that
 -- comes a second time
 unfoldable pub map_value : List (Plain × Plain) → List Pair → Span → Answer Plain
-map_value pairs written at =
-    if is_within (P.Map pairs) then distinct_by (second_key [] pairs 0) pairs written at else refused C.TooLarge at
+map_value pairs written span =
+    if is_within (P.Map pairs) then distinct_by (second_key [] pairs 0) pairs written span else refused C.TooLarge span

@@ -57,7 +57,7 @@ with_sides operator = sides_by (operation_of operator)
 
 -- the value of an operand, which stands here, as the operator takes it
 abbrev pub operand : Operator → Plain → Span → Answer Plain
-operand operator value at = if with_sides operator then Ok value else plain_at value at
+operand operator value span = if with_sides operator then Ok value else plain_at value span
 
 -- whether the right operand is evaluated
 abbrev pub needs_right : Operator → Plain → Bool
@@ -76,62 +76,62 @@ needs_right operators.Divide left = true
 needs_right operators.Modulo left = true
 
 abbrev pub computed_by : Option Op2 → Plain → Plain → Span → Answer Plain
-computed_by (Some op) left right at = of_op at (binary op left right)
-computed_by None left right at = Ok right
+computed_by (Some op) left right span = of_op span (binary op left right)
+computed_by None left right span = Ok right
 
 -- `and` and `or` pass the right operand on where it is evaluated
 unfoldable pub computed : Operator → Plain → Plain → Span → Answer Plain
-computed operator left right at = computed_by (operation_of operator) left right at
+computed operator left right span = computed_by (operation_of operator) left right span
 
 -- ---- chains of operands
 
 -- the first operand
 unfoldable pub first_left : Plain → Expr → Parens → Left
 first_left value first parens =
-    record { value = value; at = first.span; literal = may_keep parens && is_literal first }
+    record { value = value; span = first.span; literal = may_keep parens && is_literal first }
 
 -- whether the next operator makes a quotient that keeps its sides
 abbrev pub keeps_sides : Left → Operator → Expr → Bool
 keeps_sides left operator next = left.literal && is_division operator && is_literal next
 
 abbrev pub valued : Left → Plain → Left
-valued left value = record { value = value; at = left.at; literal = left.literal }
+valued left value = record { value = value; span = left.span; literal = left.literal }
 
 -- the left side without the sides of a quotient
 abbrev pub without_sides : Left → Answer Left
-without_sides left = with (plain_at left.value left.at) (λ value. Ok (valued left value))
+without_sides left = with (plain_at left.value left.span) (λ value. Ok (valued left value))
 
 -- the left side as the next operator takes it, before its right operand is evaluated
 unfoldable pub taken : Left → Operator → Expr → Answer Left
 taken left operator next =
     if keeps_sides left operator next then Ok left
-    else with (operand operator left.value left.at) (λ value. Ok (valued left value))
+    else with (operand operator left.value left.span) (λ value. Ok (valued left value))
 
 abbrev pub kept_by : Option Number → Option Number → Plain → Plain → Span → Answer Plain
-kept_by (Some x) (Some y) left right at = of_op at (kept_quotient x y)
-kept_by (Some x) None left right at = of_op at (binary two.Div left right)
-kept_by None y left right at = of_op at (binary two.Div left right)
+kept_by (Some x) (Some y) left right span = of_op span (kept_quotient x y)
+kept_by (Some x) None left right span = of_op span (binary two.Div left right)
+kept_by None y left right span = of_op span (binary two.Div left right)
 
 -- literals and their quotients are numbers
 unfoldable pub kept : Plain → Plain → Span → Answer Plain
-kept left right at = kept_by (number_in left) (number_in right) left right at
+kept left right span = kept_by (number_in left) (number_in right) left right span
 
 -- the value of both sides where the right one, at the first place, loses the sides of a quotient
 abbrev pub of_quotient : Left → Operator → Plain → Span → Span → Answer Plain
-of_quotient left operator right right_at at =
-    with (plain_at right right_at) (λ value. computed operator left.value value at)
+of_quotient left operator right right_at span =
+    with (plain_at right right_at) (λ value. computed operator left.value value span)
 
 -- the value of both sides: the right one stands at the first place, the chain at the second
 abbrev pub of_both : Left → Operator → Plain → Expr → Span → Answer Plain
-of_both left operator right next at =
-    if keeps_sides left operator next then kept left.value right at
-    else with (operand operator right next.span) (λ value. computed operator left.value value at)
+of_both left operator right next span =
+    if keeps_sides left operator next then kept left.value right span
+    else with (operand operator right next.span) (λ value. computed operator left.value value span)
 
 -- what stands left of the operator behind, if any
 unfoldable pub joined_to : Left → Operator → Plain → Expr → Span → Answer Left
-joined_to left operator right next at =
-    with (of_both left operator right next at)
-    (λ value. Ok (record { value = value; at = at; literal = keeps_sides left operator next }))
+joined_to left operator right next span =
+    with (of_both left operator right next span)
+    (λ value. Ok (record { value = value; span = span; literal = keeps_sides left operator next }))
 
 -- ---- signs
 
@@ -143,9 +143,9 @@ sign_of prefixes.Slash = unaries.Slash
 
 -- the innermost sign, which comes last, is the first that counts
 abbrev pub signed : List Sign → Plain → Span → Answer Plain
-signed [] value at = Ok value
-signed (sign ∷ signs) value at = with (signed signs value at) (λ inner. of_op at (unary (sign_of sign) inner))
+signed [] value span = Ok value
+signed (sign ∷ signs) value span = with (signed signs value span) (λ inner. of_op span (unary (sign_of sign) inner))
 
 -- an operand, which stands at the first place, with the signs before it
 unfoldable pub prefixed : List Sign → Plain → Span → Span → Answer Plain
-prefixed signs value operand_at at = with (plain_at value operand_at) (λ plain. signed signs plain at)
+prefixed signs value operand_at span = with (plain_at value operand_at) (λ plain. signed signs plain span)

@@ -82,4 +82,4 @@ is_literal operand = literal_by (out-ExprKind operand.kind)
 -- the value as it is stored, passed on, returned, put in parentheses or computed with; a quotient over zero, which
 -- counts as 0 while it keeps its sides, is refused here
 unfoldable pub plain_at : Plain → Span → Answer Plain
-plain_at value at = of_op at (plain value)
+plain_at value span = of_op span (plain value)

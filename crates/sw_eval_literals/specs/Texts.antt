@@ -14,14 +14,14 @@ use Rattle.sw_eval_literals.specs.Answers.{Answer, refused, with}
 
 -- a text, unless it is too long for a string
 abbrev pub short : List ℕ → Span → Answer (List ℕ)
-short text at = if nat_lt (length text) most then Ok text else refused C.TooLarge at
+short text span = if nat_lt (length text) most then Ok text else refused C.TooLarge span
 
 abbrev pub css_by : Shown → Span → Answer (List ℕ)
-css_by value at = if value.css then short value.text at else refused C.NotCss at
+css_by value span = if value.css then short value.text span else refused C.NotCss span
 
 -- a value's text in CSS, with quotes or without them, as values in selectors, names and raw texts have it
 unfoldable pub css_text : Bool → Plain → Span → Answer (List ℕ)
-css_text quotes value at = css_by (shown quotes value) at
+css_text quotes value span = css_by (shown quotes value) span
 
 -- a string's own text, or else another one
 abbrev pub own_or : Answer (List ℕ) → Node → Answer (List ℕ)
@@ -36,11 +36,11 @@ own_or other (N.Args _ _) = other
 
 -- a value in a quoted string, a word or a url of an expression
 unfoldable pub inserted : Plain → Span → Answer (List ℕ)
-inserted value at = own_or (css_text false value at) (node_of value)
+inserted value span = own_or (css_text false value span) (node_of value)
 
 -- a value in a message
 unfoldable pub message : Plain → Span → Answer (List ℕ)
-message value at = own_or (short (said value).text at) (node_of value)
+message value span = own_or (short (said value).text span) (node_of value)
 
 -- ---- texts with values in them
 
@@ -50,7 +50,7 @@ all_pieces (piece ∷ pieces) = piece ++ all_pieces pieces
 
 -- the pieces behind one another
 unfoldable pub joined : List (List ℕ) → Span → Answer (List ℕ)
-joined pieces at = short (all_pieces pieces) at
+joined pieces span = short (all_pieces pieces) span
 
 -- ---- declarations
 
@@ -82,4 +82,4 @@ is_written value = not (void_by value (node_of value))
 
 -- what a declaration writes, if anything
 unfoldable pub declaration_text : Plain → Span → Answer (Option (List ℕ))
-declaration_text value at = if is_written value then with (css_text true value at) (λ text. Ok (Some text)) else Ok None
+declaration_text value span = if is_written value then with (css_text true value span) (λ text. Ok (Some text)) else Ok None

@@ -95,12 +95,12 @@ fn computed(
     operator: Operator,
     left: &Value,
     right: &Value,
-    at: &Span,
+    span: &Span,
 ) -> Result<Value, Refused>
-    ensures { Returns result (computed operator left.now right.now at.now) }
+    ensures { Returns result (computed operator left.now right.now span.now) }
 {
     match operation_of(operator) {
-        Some(op) => of_op(binary(alloc, op, left, right), at),
+        Some(op) => of_op(binary(alloc, op, left, right), span),
         None => Ok(right.share()?),
     }
 }
@@ -123,13 +123,13 @@ pub(crate) fn number_in(value: &Value) -> Option<&Number>
 
 // A quotient of literals, which keeps its sides.
 #[tactic(auto, unfolding(crate::specs::Operations::kept))]
-fn kept(alloc: Global, left: &Value, right: &Value, at: &Span) -> Result<Value, Refused>
-    ensures { Returns result (kept left.now right.now at.now) }
+fn kept(alloc: Global, left: &Value, right: &Value, span: &Span) -> Result<Value, Refused>
+    ensures { Returns result (kept left.now right.now span.now) }
 {
     match (number_in(left), number_in(right)) {
-        (Some(x), Some(y)) => of_op(kept_quotient(alloc, x, y), at),
-        (Some(_), None) => of_op(binary(alloc, Op2::Div, left, right), at),
-        (None, _) => of_op(binary(alloc, Op2::Div, left, right), at),
+        (Some(x), Some(y)) => of_op(kept_quotient(alloc, x, y), span),
+        (Some(_), None) => of_op(binary(alloc, Op2::Div, left, right), span),
+        (None, _) => of_op(binary(alloc, Op2::Div, left, right), span),
     }
 }
 
@@ -138,7 +138,7 @@ fn kept(alloc: Global, left: &Value, right: &Value, at: &Span) -> Result<Value, 
 pub struct Left {
     pub value: Value,
     /// The place of the first operand, and behind an operator that of the chain.
-    pub at: Span,
+    pub span: Span,
     /// It is a number that the sheet writes, or a quotient of such ones, where quotients keep their sides.
     pub literal: bool,
 }
@@ -151,7 +151,7 @@ impl Left {
     {
         Ok(Left {
             value,
-            at: first.span.share()?,
+            span: first.span.share()?,
             literal: may_keep(parens) && is_literal(first),
         })
     }
@@ -180,7 +180,7 @@ impl Left {
     fn lose_sides(&mut self) -> Result<(), Refused>
         ensures { Returns (changed self.new result) (without_sides self.old) }
     {
-        match plain_at(&self.value, &self.at) {
+        match plain_at(&self.value, &self.span) {
             Ok(value) => {
                 self.value = value;
                 Ok(())
@@ -196,17 +196,17 @@ impl Left {
         operator: Operator,
         right: &Value,
         next: &Expr,
-        at: &Span,
+        span: &Span,
     ) -> Result<Value, Refused>
-        ensures { Returns result (of_both self.now operator right.now next.now at.now) }
+        ensures { Returns result (of_both self.now operator right.now next.now span.now) }
     {
         if self.keeps_sides(operator, next) {
-            return kept(alloc, &self.value, right, at);
+            return kept(alloc, &self.value, right, span);
         }
         if loses_sides(operator, right) {
-            return self.of_quotient(alloc, operator, right, &next.span, at);
+            return self.of_quotient(alloc, operator, right, &next.span, span);
         }
-        computed(alloc, operator, &self.value, right, at)
+        computed(alloc, operator, &self.value, right, span)
     }
 
     // The same where the right operand is a quotient, which loses its sides.
@@ -216,12 +216,12 @@ impl Left {
         operator: Operator,
         right: &Value,
         right_at: &Span,
-        at: &Span,
+        span: &Span,
     ) -> Result<Value, Refused>
-        ensures { Returns result (of_quotient self.now operator right.now right_at.now at.now) }
+        ensures { Returns result (of_quotient self.now operator right.now right_at.now span.now) }
     {
         match plain_at(right, right_at) {
-            Ok(right) => computed(alloc, operator, &self.value, &right, at),
+            Ok(right) => computed(alloc, operator, &self.value, &right, span),
             Err(refused) => Err(refused),
         }
     }
@@ -236,15 +236,19 @@ impl Left {
         operator: Operator,
         right: &Value,
         next: &Expr,
-        at: &Span,
+        span: &Span,
     ) -> Result<(), Refused>
-        ensures { Returns (changed self.new result) (joined_to self.old operator right.now next.now at.now) }
+        ensures { Returns (changed self.new result) (joined_to self.old operator right.now next.now span.now) }
     {
-        match self.of_both(alloc, operator, right, next, at) {
+        match self.of_both(alloc, operator, right, next, span) {
             Ok(value) => {
-                let at = at.share()?;
+                let span = span.share()?;
                 let literal = self.keeps_sides(operator, next);
-                *self = Left { value, at, literal };
+                *self = Left {
+                    value,
+                    span,
+                    literal,
+                };
                 Ok(())
             }
             Err(refused) => Err(refused),

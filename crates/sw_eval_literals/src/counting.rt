@@ -58,16 +58,16 @@ fn count_from(from: &Number, to: Fixed, through: bool) -> Result<Counting, Memor
 }
 
 // From a number to another that is counted in its units, if both are whole.
-fn whole(from: &Number, to: &Number, through: bool, at: &Span) -> Result<Counting, Refused>
-    ensures { Returns result (whole from.now (converted to.now from.now.units) through at.now) }
+fn whole(from: &Number, to: &Number, through: bool, span: &Span) -> Result<Counting, Refused>
+    ensures { Returns result (whole from.now (converted to.now from.now.units) through span.now) }
 {
     match convert(to, &from.units) {
         Ok(to) => match (from.value.whole(), to.whole()) {
             (Some(_), Some(_)) => Ok(count_from(from, to, through)?),
-            (Some(_), None) => fails(FaultCode::ArgumentFault, at),
-            (None, _) => fails(FaultCode::ArgumentFault, at),
+            (Some(_), None) => fails(FaultCode::ArgumentFault, span),
+            (None, _) => fails(FaultCode::ArgumentFault, span),
         },
-        Err(fault) => fails(number_code(fault), at),
+        Err(fault) => fails(number_code(fault), span),
     }
 }
 
@@ -76,13 +76,18 @@ impl Counting {
     /// `through` alone. All faults stand here: `TypeFault` where a value is no number, `UnitFault` or `NumberRange`
     /// where the second one can't be counted in those units, and `ArgumentFault` where one isn't whole.
     #[tactic(auto, unfolding(crate::specs::Counting::counting))]
-    pub fn between(from: &Value, to: &Value, through: bool, at: &Span) -> Result<Counting, Refused>
-        ensures { Returns result (counting from.now to.now through at.now) }
+    pub fn between(
+        from: &Value,
+        to: &Value,
+        through: bool,
+        span: &Span,
+    ) -> Result<Counting, Refused>
+        ensures { Returns result (counting from.now to.now through span.now) }
     {
         match (number_in(from), number_in(to)) {
-            (Some(from), Some(to)) => whole(from, to, through, at),
-            (Some(_), None) => fails(FaultCode::TypeFault, at),
-            (None, _) => fails(FaultCode::TypeFault, at),
+            (Some(from), Some(to)) => whole(from, to, through, span),
+            (Some(_), None) => fails(FaultCode::TypeFault, span),
+            (None, _) => fails(FaultCode::TypeFault, span),
         }
     }
 

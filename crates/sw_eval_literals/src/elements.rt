@@ -43,12 +43,12 @@ fn parts_of(alloc: Global, count: usize, element: &Value) -> Result<List<Value>,
 }
 
 // Each without the sides that a quotient keeps.
-fn all_plain(alloc: Global, values: &[Value], at: &Span) -> Result<List<Value>, Refused>
-    ensures { Returns result (all_plain values.now at.now) }
+fn all_plain(alloc: Global, values: &[Value], span: &Span) -> Result<List<Value>, Refused>
+    ensures { Returns result (all_plain values.now span.now) }
 {
     let mut all = List::new(alloc);
     'values: for value in values {
-        let plain = plain_at(value, at)?;
+        let plain = plain_at(value, span)?;
         all.push(plain)?;
     }
     Ok(all)
@@ -62,10 +62,10 @@ pub fn taken_apart(
     alloc: Global,
     count: usize,
     element: &Value,
-    at: &Span,
+    span: &Span,
 ) -> Result<List<Value>, Refused>
-    ensures { Returns result (taken_apart count element.now at.now) }
+    ensures { Returns result (taken_apart count element.now span.now) }
 {
     let parts = parts_of(alloc, count, element)?;
-    all_plain(alloc, parts.as_slice(), at)
+    all_plain(alloc, parts.as_slice(), span)
 }

@@ -38,9 +38,9 @@ pub fn list_value(
     items: List<Value>,
     separator: Separator,
     around: Around,
-    at: &Span,
+    span: &Span,
 ) -> Result<Value, Refused>
-    ensures { Returns result (list_value items separator around at.now) }
+    ensures { Returns result (list_value items separator around span.now) }
 {
     let items = Shared::new(alloc, items)?;
     let node = Node::List {
@@ -48,5 +48,5 @@ pub fn list_value(
         separator: separator_of(separator),
         bracketed: is_bracketed(around),
     };
-    within(node, at)
+    within(node, span)
 }

@@ -35,12 +35,12 @@ fn units_of(unit: &Name) -> Result<Units, Memory>
 /// The value of a number that the sheet writes here; `NumberRange` where it is beyond the greatest.
 #[tactic(auto, unfolding(crate::specs::Literals::number_value))]
 #[inline(always)]
-pub fn number_value(number: &Number, at: &Span) -> Result<Value, Refused>
-    ensures { Returns result (number_value number.now at.now) }
+pub fn number_value(number: &Number, span: &Span) -> Result<Value, Refused>
+    ensures { Returns result (number_value number.now span.now) }
 {
     match number.value {
         Some(value) => Ok(Value::number(value, units_of(&number.unit)?)),
-        None => fails(FaultCode::NumberRange, at),
+        None => fails(FaultCode::NumberRange, span),
     }
 }
 
@@ -48,37 +48,37 @@ pub fn number_value(number: &Number, at: &Span) -> Result<Value, Refused>
 
 /// A string of this whole text, which stands here; `TooLarge` where it is too heavy.
 #[tactic(auto, unfolding(crate::specs::Literals::string_value))]
-pub fn string_value(text: Name, quoted: bool, at: &Span) -> Result<Value, Refused>
-    ensures { Returns result (string_value text quoted at.now) }
+pub fn string_value(text: Name, quoted: bool, span: &Span) -> Result<Value, Refused>
+    ensures { Returns result (string_value text quoted span.now) }
 {
-    within(Node::Text { text, quoted }, at)
+    within(Node::Text { text, quoted }, span)
 }
 
 #[tactic(auto, using(crate::proofs::Limits::colour_is_within))]
-fn colour_or(colour: Option<Colour>, text: &Name, at: &Span) -> Result<Value, Refused>
-    ensures { Returns result (colour_or colour text.now at.now) }
+fn colour_or(colour: Option<Colour>, text: &Name, span: &Span) -> Result<Value, Refused>
+    ensures { Returns result (colour_or colour text.now span.now) }
 {
     match colour {
-        Some(colour) => within(Node::Colour(colour), at),
-        None => string_value(text.share()?, false, at),
+        Some(colour) => within(Node::Colour(colour), span),
+        None => string_value(text.share()?, false, span),
     }
 }
 
 /// The value of an unquoted word in which no value stands: the colour of that name in any case, spelt as the word is,
 /// else a string.
 #[tactic(auto, unfolding(crate::specs::Literals::word_value))]
-pub fn word_value(alloc: Global, text: &Name, at: &Span) -> Result<Value, Refused>
-    ensures { Returns result (word_value text.now at.now) }
+pub fn word_value(alloc: Global, text: &Name, span: &Span) -> Result<Value, Refused>
+    ensures { Returns result (word_value text.now span.now) }
 {
-    colour_or(Colour::by_name(alloc, text.as_str())?, text, at)
+    colour_or(Colour::by_name(alloc, text.as_str())?, text, span)
 }
 
 /// The value of `#` and what stands directly behind it: a colour by its 3, 4, 6 or 8 hex digits, else a string.
 #[tactic(auto, unfolding(crate::specs::Literals::hash_value))]
-pub fn hash_value(alloc: Global, text: &Name, at: &Span) -> Result<Value, Refused>
-    ensures { Returns result (hash_value text.now at.now) }
+pub fn hash_value(alloc: Global, text: &Name, span: &Span) -> Result<Value, Refused>
+    ensures { Returns result (hash_value text.now span.now) }
 {
-    colour_or(Colour::from_hex(alloc, text.as_str())?, text, at)
+    colour_or(Colour::from_hex(alloc, text.as_str())?, text, span)
 }
 
 // ---- constants

@@ -14,12 +14,12 @@ use sw_values::{Node, Value, ValueFault};
 
 /// The value of a node, unless it is too heavy or too deep.
 #[inline(always)]
-pub(crate) fn within(node: Node, at: &Span) -> Result<Value, Refused>
-    ensures { Returns result (within (plain_of node) at.now) }
+pub(crate) fn within(node: Node, span: &Span) -> Result<Value, Refused>
+    ensures { Returns result (within (plain_of node) span.now) }
 {
     match Value::of(node) {
         Ok(value) => Ok(value),
-        Err(ValueFault::TooLarge) => fails(FaultCode::TooLarge, at),
+        Err(ValueFault::TooLarge) => fails(FaultCode::TooLarge, span),
         Err(ValueFault::NotCss) => unreachable!(),
         Err(ValueFault::DuplicateKey(_)) => unreachable!(),
         Err(ValueFault::Memory) => unreachable!(),
@@ -28,17 +28,17 @@ pub(crate) fn within(node: Node, at: &Span) -> Result<Value, Refused>
 
 /// What an operator answered, here.
 #[inline(always)]
-pub(crate) fn of_op(answer: Result<Value, OpFault>, at: &Span) -> Result<Value, Refused>
-    ensures { (right : Result Plain OpFault) → IsAnswer answer right → Returns result (of_op at.now right) }
+pub(crate) fn of_op(answer: Result<Value, OpFault>, span: &Span) -> Result<Value, Refused>
+    ensures { (right : Result Plain OpFault) → IsAnswer answer right → Returns result (of_op span.now right) }
 {
     match answer {
         Ok(value) => Ok(value),
-        Err(OpFault::TypeFault) => fails(FaultCode::TypeFault, at),
-        Err(OpFault::UnitFault) => fails(FaultCode::UnitFault, at),
-        Err(OpFault::DivideByZero) => fails(FaultCode::DivideByZero, at),
-        Err(OpFault::NumberRange) => fails(FaultCode::NumberRange, at),
-        Err(OpFault::NotCss) => fails(FaultCode::NotCss, at),
-        Err(OpFault::TooLarge) => fails(FaultCode::TooLarge, at),
+        Err(OpFault::TypeFault) => fails(FaultCode::TypeFault, span),
+        Err(OpFault::UnitFault) => fails(FaultCode::UnitFault, span),
+        Err(OpFault::DivideByZero) => fails(FaultCode::DivideByZero, span),
+        Err(OpFault::NumberRange) => fails(FaultCode::NumberRange, span),
+        Err(OpFault::NotCss) => fails(FaultCode::NotCss, span),
+        Err(OpFault::TooLarge) => fails(FaultCode::TooLarge, span),
         Err(OpFault::Memory) => Err(Refused::Memory),
     }
 }

@@ -58,12 +58,12 @@ fn fits(pairs: &[(Value, Value)]) -> bool
 }
 
 // Where the key of a pair is written.
-fn key_place<'a>(written: &'a [Pair], number: usize, at: &'a Span) -> &'a Span
-    ensures { result.now ≡ key_place written.now number at.now }
+fn key_place<'a>(written: &'a [Pair], number: usize, span: &'a Span) -> &'a Span
+    ensures { result.now ≡ key_place written.now number span.now }
 {
     match written.get(number) {
         Some(pair) => &pair.key.span,
-        None => at,
+        None => span,
     }
 }
 
@@ -73,17 +73,17 @@ pub fn map_value(
     alloc: Global,
     pairs: &[(Value, Value)],
     written: &[Pair],
-    at: &Span,
+    span: &Span,
 ) -> Result<Value, Refused>
-    ensures { Returns result (map_value pairs.now written.now at.now) }
+    ensures { Returns result (map_value pairs.now written.now span.now) }
 {
     if !fits(pairs) {
-        return fails(FaultCode::TooLarge, at);
+        return fails(FaultCode::TooLarge, span);
     }
     match map_of(alloc, pairs) {
         Ok(value) => Ok(value),
         Err(ValueFault::DuplicateKey(number)) => {
-            fails(FaultCode::DuplicateKey, key_place(written, number, at))
+            fails(FaultCode::DuplicateKey, key_place(written, number, span))
         }
         Err(ValueFault::TooLarge) => unreachable!(),
         Err(ValueFault::NotCss) => unreachable!(),

@@ -95,20 +95,20 @@ pub fn is_literal(operand: &Expr) -> bool
 /// quotient keeps. `DivideByZero` where that is a quotient over zero.
 #[tactic(auto, unfolding(crate::specs::Quotients::plain_at))]
 #[inline(always)]
-pub fn plain_at(value: &Value, at: &Span) -> Result<Value, Refused>
-    ensures { Returns result (plain_at value.now at.now) }
+pub fn plain_at(value: &Value, span: &Span) -> Result<Value, Refused>
+    ensures { Returns result (plain_at value.now span.now) }
 {
-    of_op(plain(value), at)
+    of_op(plain(value), span)
 }
 
 /// The same of a value that is given up, which comes back where it keeps no sides.
 #[tactic(auto, unfolding(crate::specs::Quotients::plain_at))]
 #[inline(always)]
-pub fn into_plain_at(value: Value, at: &Span) -> Result<Value, Refused>
-    ensures { Returns result (plain_at value at.now) }
+pub fn into_plain_at(value: Value, span: &Span) -> Result<Value, Refused>
+    ensures { Returns result (plain_at value span.now) }
 {
     if keeps_sides(&value) {
-        return plain_at(&value, at);
+        return plain_at(&value, span);
     }
     Ok(value)
 }

@@ -32,9 +32,9 @@ impl From<AllocError> for Refused {
 }
 
 /// A fault at this place.
-pub fn fails<T>(code: FaultCode, at: &Span) -> Result<T, Refused>
-    ensures { Returns result (refused code at.now) }
+pub fn fails<T>(code: FaultCode, span: &Span) -> Result<T, Refused>
+    ensures { Returns result (refused code span.now) }
 {
-    let span = at.share()?;
+    let span = span.share()?;
     Err(Refused::Fault(Fault { code, span }))
 }

@@ -24,21 +24,21 @@ fn sign_of(sign: Sign) -> Op1
     }
 }
 
-fn one_signed(alloc: Global, sign: Sign, value: Value, at: &Span) -> Result<Value, Refused>
-    ensures { Returns result (of_op at.now (unary (sign_of sign) value)) }
+fn one_signed(alloc: Global, sign: Sign, value: Value, span: &Span) -> Result<Value, Refused>
+    ensures { Returns result (of_op span.now (unary (sign_of sign) value)) }
 {
-    of_op(unary(alloc, sign_of(sign), &value), at)
+    of_op(unary(alloc, sign_of(sign), &value), span)
 }
 
 // The value of an operand with signs before it, of which the last is the innermost.
-fn signed(alloc: Global, signs: &[Sign], value: Value, at: &Span) -> Result<Value, Refused>
-    ensures { Returns result (signed signs.now value at.now) }
+fn signed(alloc: Global, signs: &[Sign], value: Value, span: &Span) -> Result<Value, Refused>
+    ensures { Returns result (signed signs.now value span.now) }
 {
     let mut value = value;
     let mut left = signs.len();
     'signs: while left > 0 {
         left -= 1;
-        match one_signed(alloc, signs[left], value, at) {
+        match one_signed(alloc, signs[left], value, span) {
             Ok(inner) => value = inner,
             Err(refused) => return Err(refused),
         }
@@ -54,12 +54,12 @@ pub fn prefixed(
     signs: &[Sign],
     operand: &Value,
     operand_at: &Span,
-    at: &Span,
+    span: &Span,
 ) -> Result<Value, Refused>
-    ensures { Returns result (prefixed signs.now operand.now operand_at.now at.now) }
+    ensures { Returns result (prefixed signs.now operand.now operand_at.now span.now) }
 {
     match plain_at(operand, operand_at) {
-        Ok(value) => signed(alloc, signs, value, at),
+        Ok(value) => signed(alloc, signs, value, span),
         Err(refused) => Err(refused),
     }
 }

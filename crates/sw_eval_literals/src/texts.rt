@@ -17,13 +17,13 @@ const MOST_WEIGHT: usize = 1_048_576;
 
 /// A value's text in CSS, with quotes or without them, as it stands in selectors, names and raw texts: `NotCss` where
 /// it has none, and `TooLarge` where it is too long for a string.
-pub fn css_text(alloc: Global, quotes: bool, value: &Value, at: &Span) -> Result<Name, Refused>
-    ensures { Returns result (css_text quotes value.now at.now) }
+pub fn css_text(alloc: Global, quotes: bool, value: &Value, span: &Span) -> Result<Name, Refused>
+    ensures { Returns result (css_text quotes value.now span.now) }
 {
     match value.css_text(alloc, quotes) {
         Ok(text) => Ok(text),
-        Err(ValueFault::NotCss) => fails(FaultCode::NotCss, at),
-        Err(ValueFault::TooLarge) => fails(FaultCode::TooLarge, at),
+        Err(ValueFault::NotCss) => fails(FaultCode::NotCss, span),
+        Err(ValueFault::TooLarge) => fails(FaultCode::TooLarge, span),
         Err(ValueFault::DuplicateKey(_)) => unreachable!(),
         Err(ValueFault::Memory) => Err(Refused::Memory),
     }
@@ -32,28 +32,28 @@ pub fn css_text(alloc: Global, quotes: bool, value: &Value, at: &Span) -> Result
 /// The text of a value in a quoted string, a word or a url of an expression: a string's own text, else its text in CSS
 /// without quotes.
 #[tactic(auto, unfolding(crate::specs::Texts::inserted))]
-pub fn inserted(alloc: Global, value: &Value, at: &Span) -> Result<Name, Refused>
-    ensures { Returns result (inserted value.now at.now) }
+pub fn inserted(alloc: Global, value: &Value, span: &Span) -> Result<Name, Refused>
+    ensures { Returns result (inserted value.now span.now) }
 {
     match value.node() {
         Node::Text { text, .. } => Ok(text.share()?),
-        Node::Number(_) => css_text(alloc, false, value, at),
-        Node::Colour(_) => css_text(alloc, false, value, at),
-        Node::List { .. } => css_text(alloc, false, value, at),
-        Node::Map(_) => css_text(alloc, false, value, at),
-        Node::Bool(_) => css_text(alloc, false, value, at),
-        Node::Null => css_text(alloc, false, value, at),
-        Node::Args { .. } => css_text(alloc, false, value, at),
+        Node::Number(_) => css_text(alloc, false, value, span),
+        Node::Colour(_) => css_text(alloc, false, value, span),
+        Node::List { .. } => css_text(alloc, false, value, span),
+        Node::Map(_) => css_text(alloc, false, value, span),
+        Node::Bool(_) => css_text(alloc, false, value, span),
+        Node::Null => css_text(alloc, false, value, span),
+        Node::Args { .. } => css_text(alloc, false, value, span),
     }
 }
 
 // A value's text for a reader of messages.
-fn inspected(alloc: Global, value: &Value, at: &Span) -> Result<Name, Refused>
-    ensures { Returns result (short (said value.now).text at.now) }
+fn inspected(alloc: Global, value: &Value, span: &Span) -> Result<Name, Refused>
+    ensures { Returns result (short (said value.now).text span.now) }
 {
     match value.inspect(alloc) {
         Ok(text) => Ok(text),
-        Err(ValueFault::TooLarge) => fails(FaultCode::TooLarge, at),
+        Err(ValueFault::TooLarge) => fails(FaultCode::TooLarge, span),
         Err(ValueFault::NotCss) => unreachable!(),
         Err(ValueFault::DuplicateKey(_)) => unreachable!(),
         Err(ValueFault::Memory) => Err(Refused::Memory),
@@ -63,31 +63,31 @@ fn inspected(alloc: Global, value: &Value, at: &Span) -> Result<Name, Refused>
 /// The text of a value in a message: a string's own text, else that for a reader of messages; `TooLarge` where it is
 /// too long for a string.
 #[tactic(auto, unfolding(crate::specs::Texts::message))]
-pub fn message(alloc: Global, value: &Value, at: &Span) -> Result<Name, Refused>
-    ensures { Returns result (message value.now at.now) }
+pub fn message(alloc: Global, value: &Value, span: &Span) -> Result<Name, Refused>
+    ensures { Returns result (message value.now span.now) }
 {
     match value.node() {
         Node::Text { text, .. } => Ok(text.share()?),
-        Node::Number(_) => inspected(alloc, value, at),
-        Node::Colour(_) => inspected(alloc, value, at),
-        Node::List { .. } => inspected(alloc, value, at),
-        Node::Map(_) => inspected(alloc, value, at),
-        Node::Bool(_) => inspected(alloc, value, at),
-        Node::Null => inspected(alloc, value, at),
-        Node::Args { .. } => inspected(alloc, value, at),
+        Node::Number(_) => inspected(alloc, value, span),
+        Node::Colour(_) => inspected(alloc, value, span),
+        Node::List { .. } => inspected(alloc, value, span),
+        Node::Map(_) => inspected(alloc, value, span),
+        Node::Bool(_) => inspected(alloc, value, span),
+        Node::Null => inspected(alloc, value, span),
+        Node::Args { .. } => inspected(alloc, value, span),
     }
 }
 
 /// The text of these pieces behind one another; `TooLarge` where it is too long for a string.
 #[tactic(auto, unfolding(crate::specs::Texts::joined))]
-pub fn joined(alloc: Global, pieces: &[Name], at: &Span) -> Result<Name, Refused>
-    ensures { Returns result (joined pieces.now at.now) }
+pub fn joined(alloc: Global, pieces: &[Name], span: &Span) -> Result<Name, Refused>
+    ensures { Returns result (joined pieces.now span.now) }
 {
     let mut text = String::new(alloc);
     'pieces: for piece in pieces {
         let piece = piece.as_str();
         if piece.len() >= MOST_WEIGHT - text.len() {
-            return fails(FaultCode::TooLarge, at);
+            return fails(FaultCode::TooLarge, span);
         }
         text.push_str(piece)?;
     }
@@ -146,13 +146,13 @@ pub fn is_written(value: &Value) -> bool
 
 /// What a declaration of this value writes; none where it isn't written.
 #[tactic(auto, unfolding(crate::specs::Texts::declaration_text))]
-pub fn declaration_text(alloc: Global, value: &Value, at: &Span) -> Result<Option<Name>, Refused>
-    ensures { Returns result (declaration_text value.now at.now) }
+pub fn declaration_text(alloc: Global, value: &Value, span: &Span) -> Result<Option<Name>, Refused>
+    ensures { Returns result (declaration_text value.now span.now) }
 {
     if !is_written(value) {
         return Ok(None);
     }
-    match css_text(alloc, true, value, at) {
+    match css_text(alloc, true, value, span) {
         Ok(text) => Ok(Some(text)),
         Err(refused) => Err(refused),
     }

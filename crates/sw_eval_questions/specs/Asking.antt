@@ -11,11 +11,11 @@ use Rattle.sw_eval_questions.specs.declared.asked.Asked.{Asked}
 use Rattle.sw_eval_questions.specs.declared.stop.Stop.{Stop}
 
 abbrev pub fault : FaultCode → Span → Fault
-fault code at = record { code = code; span = at }
+fault code span = record { code = code; span = span }
 
 -- the question's number and its answer
 unfoldable pub asking : {S : Type 0} → NumberedQuestion → Span → S → Talk ((ℕ × Answer) × S)
-asking q at s = Asking q at (λ n a. Gives ((n, a), s))
+asking q span s = Asking q span (λ n a. Gives ((n, a), s))
 
 -- the question was asked, and r came of it, whatever was made so far
 abbrev pub Heard : {W : Type 0} → (W → Question → Answer → W → Type 0) → NumberedQuestion → Span → Asked → W

@@ -14,10 +14,10 @@ use Rattle.sw_world.specs.Laws.{Answered, IsOwner, IsWrittenAt, HasSource}
 use Rattle.sw_eval_questions.specs.Talk.{NumberedQuestion, Loads, Finds, Gets, Puts, Says, Calls, Talk, Gives, Fails, Asking, answered, site_by, owned, op_of, no_owner, too_many, next_by, run}
 
 module _ {A : Type 0} (end : A → Finish) (path : List ℕ) where
-  ends_by : (o : Option Question) (at : Span) (a : Answer) (given : List Answer) (f : Answer → List Answer → Next)
-      → ((e : End) × (f a given ≡ Ends e)) → (e : End) × (next_by o at (a ∷ given) f ≡ Ends e)
-  ends_by None at a given f p = (Fault_end (no_owner at), refl)
-  ends_by (Some op) at a given f p = p
+  ends_by : (o : Option Question) (span : Span) (a : Answer) (given : List Answer) (f : Answer → List Answer → Next)
+      → ((e : End) × (f a given ≡ Ends e)) → (e : End) × (next_by o span (a ∷ given) f ≡ Ends e)
+  ends_by None span a given f p = (Fault_end (no_owner span), refl)
+  ends_by (Some op) span a given f p = p
 
   pub run_ends : (left : ℕ) (seen : List Answer) (t : Talk A) (given : List Answer) → left ≤ length given
       → (e : End) × (run end path left seen t given ≡ Ends e)
@@ -30,12 +30,12 @@ module _ {A : Type 0} (end : A → Finish) (path : List ℕ) where
       ends_by (op_of path seen q) at a given _
       (run_ends left (seen ++ a ∷ []) (answered (k (length seen)) a) given (omega arith))
 
-  keeps_by : (o : Option Question) (at : Span) (given more : List Answer) (f : Answer → List Answer → Next) (e : End)
+  keeps_by : (o : Option Question) (span : Span) (given more : List Answer) (f : Answer → List Answer → Next) (e : End)
       → ((a : Answer) (rest : List Answer) → f a rest ≡ Ends e → f a (rest ++ more) ≡ Ends e)
-      → next_by o at given f ≡ Ends e → next_by o at (given ++ more) f ≡ Ends e
-  keeps_by None at given more f e later is = is
-  keeps_by (Some op) at [] more f e later is = absurd cc
-  keeps_by (Some op) at (a ∷ given) more f e later is = later a given is
+      → next_by o span given f ≡ Ends e → next_by o span (given ++ more) f ≡ Ends e
+  keeps_by None span given more f e later is = is
+  keeps_by (Some op) span [] more f e later is = absurd cc
+  keeps_by (Some op) span (a ∷ given) more f e later is = later a given is
 
   pub run_keeps : (left : ℕ) (seen : List Answer) (t : Talk A) (given more : List Answer) (e : End)
       → run end path left seen t given ≡ Ends e → run end path left seen t (given ++ more) ≡ Ends e
@@ -47,14 +47,14 @@ module _ {A : Type 0} (end : A → Finish) (path : List ℕ) where
       keeps_by (op_of path seen q) at given more _ e
       (λ a rest. run_keeps left (seen ++ a ∷ []) (answered (k (length seen)) a) rest more e) is
 
-  refused_by : (o : Option Question) (at : Span) (given : List Answer) (f : Answer → List Answer → Next) (op : Question)
+  refused_by : (o : Option Question) (span : Span) (given : List Answer) (f : Answer → List Answer → Next) (op : Question)
       (fault : Fault) → f (Refused fault) [] ≡ Ends (Fault_end fault)
       → ((a : Answer) (rest : List Answer) → f a rest ≡ Asks op
       → f a (rest ++ Refused fault ∷ []) ≡ Ends (Fault_end fault))
-      → next_by o at given f ≡ Asks op → next_by o at (given ++ Refused fault ∷ []) f ≡ Ends (Fault_end fault)
-  refused_by None at given f op fault now later is = absurd cc
-  refused_by (Some asked) at [] f op fault now later is = now
-  refused_by (Some asked) at (a ∷ given) f op fault now later is = later a given is
+      → next_by o span given f ≡ Asks op → next_by o span (given ++ Refused fault ∷ []) f ≡ Ends (Fault_end fault)
+  refused_by None span given f op fault now later is = absurd cc
+  refused_by (Some asked) span [] f op fault now later is = now
+  refused_by (Some asked) span (a ∷ given) f op fault now later is = later a given is
 
   pub run_refused : (left : ℕ) (seen : List Answer) (t : Talk A) (given : List Answer) (op : Question) (fault : Fault)
       → run end path left seen t given ≡ Asks op
@@ -67,12 +67,12 @@ module _ {A : Type 0} (end : A → Finish) (path : List ℕ) where
       refused_by (op_of path seen q) at given _ op fault refl
       (λ a rest. run_refused left (seen ++ a ∷ []) (answered (k (length seen)) a) rest op fault) is
 
-  gives_by : (o : Option Question) (at : Span) (given : List Answer) (f : Answer → List Answer → Next) (finish : Finish)
+  gives_by : (o : Option Question) (span : Span) (given : List Answer) (f : Answer → List Answer → Next) (finish : Finish)
       → ((a : Answer) (rest : List Answer) → f a rest ≡ Ends (Done_end finish) → (v : A) × (finish ≡ end v))
-      → next_by o at given f ≡ Ends (Done_end finish) → (v : A) × (finish ≡ end v)
-  gives_by None at given f finish later is = absurd cc
-  gives_by (Some op) at [] f finish later is = absurd cc
-  gives_by (Some op) at (a ∷ given) f finish later is = later a given is
+      → next_by o span given f ≡ Ends (Done_end finish) → (v : A) × (finish ≡ end v)
+  gives_by None span given f finish later is = absurd cc
+  gives_by (Some op) span [] f finish later is = absurd cc
+  gives_by (Some op) span (a ∷ given) f finish later is = later a given is
 
   -- what is left behind is made of what the talk gave
   pub run_gives : (left : ℕ) (seen : List Answer) (t : Talk A) (given : List Answer) (finish : Finish)
@@ -151,11 +151,11 @@ answers-last : (ps : List Pair) (p : Pair) → answers (ps ++ p ∷ []) ≡ answ
 answers-last [] p = refl
 answers-last (q ∷ ps) p = ap (λ l. q.1 ∷ l) (answers-last ps p)
 
-source_now : (path : List ℕ) (seen : List Pair) (q : NumberedQuestion) (at : Span) (f : Answer → List Answer → Next) (op : Question)
-    → next_by (op_of path (answers seen) q) at [] f ≡ Asks op → HasSource path (seen ++ []) op
-source_now path seen q at f op e = by (op_of path (answers seen) q) refl e
+source_now : (path : List ℕ) (seen : List Pair) (q : NumberedQuestion) (span : Span) (f : Answer → List Answer → Next) (op : Question)
+    → next_by (op_of path (answers seen) q) span [] f ≡ Asks op → HasSource path (seen ++ []) op
+source_now path seen q span f op e = by (op_of path (answers seen) q) refl e
   where
-    by : (o : Option Question) → op_of path (answers seen) q ≡ o → next_by o at [] f ≡ Asks op
+    by : (o : Option Question) → op_of path (answers seen) q ≡ o → next_by o span [] f ≡ Asks op
         → HasSource path (seen ++ []) op
     by None is asks = absurd cc
     by (Some asked) is asks = let same : asked ≡ op = cc in
@@ -163,28 +163,28 @@ source_now path seen q at f op e = by (op_of path (answers seen) q) refl e
         (op_source path seen q op (is ∙ ap Some same))
 
 goes_later : {A : Type 0} (end : A → Finish) (path : List ℕ) (left : ℕ) (seen : List Answer) (q : NumberedQuestion)
-    (at : Span) (k : ℕ → Answer → Talk A) (op : Question) → op_of path seen q ≡ Some op
+    (span : Span) (k : ℕ → Answer → Talk A) (op : Question) → op_of path seen q ≡ Some op
     → (a : Answer) (before : List Answer) (ps : List Pair)
-    → Goes (run end path (suc left) seen (Asking q at k)) (a ∷ before) ps
+    → Goes (run end path (suc left) seen (Asking q span k)) (a ∷ before) ps
     → Goes (run end path left (seen ++ a ∷ []) (answered (k (length seen)) a)) before ps
 unfolding run
-goes_later end path left seen q at k op is a before [] g = tt
-goes_later end path left seen q at k op is a before (p ∷ ps) g = (
-  sym (ap (λ o. next_by o at (a ∷ before)
+goes_later end path left seen q span k op is a before [] g = tt
+goes_later end path left seen q span k op is a before (p ∷ ps) g = (
+  sym (ap (λ o. next_by o span (a ∷ before)
       (λ a rest. run end path left (seen ++ a ∷ []) (answered (k (length seen)) a) rest)) is)
       ∙ g.0,
   g.1,
-  goes_later end path left seen q at k op is a (before ++ p.1 ∷ []) ps g.2,
+  goes_later end path left seen q span k op is a (before ++ p.1 ∷ []) ps g.2,
 )
 
-module _ {A : Type 0} (end : A → Finish) (path : List ℕ) (left : ℕ) (seen : List Pair) (q : NumberedQuestion) (at : Span)
+module _ {A : Type 0} (end : A → Finish) (path : List ℕ) (left : ℕ) (seen : List Pair) (q : NumberedQuestion) (span : Span)
     (k : ℕ → Answer → Talk A) where
   -- a question that was answered, and what goes on after it
   sourced_on : (p : Pair) (ps : List Pair) (op : Question) (o : Option Question) → op_of path (answers seen) q ≡ o
-      → next_by o at [] (λ a rest. run end path left (answers seen ++ a ∷ []) (answered (k (length (answers seen))) a)
+      → next_by o span [] (λ a rest. run end path left (answers seen ++ a ∷ []) (answered (k (length (answers seen))) a)
       rest) ≡ Asks p.0
-      → Goes (run end path (suc left) (answers seen) (Asking q at k)) (p.1 ∷ []) ps
-      → run end path (suc left) (answers seen) (Asking q at k) (p.1 ∷ answers ps) ≡ Asks op
+      → Goes (run end path (suc left) (answers seen) (Asking q span k)) (p.1 ∷ []) ps
+      → run end path (suc left) (answers seen) (Asking q span k) (p.1 ∷ answers ps) ≡ Asks op
       → (Goes (run end path left (answers (seen ++ p ∷ [])) (answered (k (length (answers seen))) p.1)) [] ps
       → run end path left (answers (seen ++ p ∷ [])) (answered (k (length (answers seen))) p.1) (answers ps) ≡ Asks op
       → HasSource path ((seen ++ p ∷ []) ++ ps) op)
@@ -196,9 +196,9 @@ module _ {A : Type 0} (end : A → Finish) (path : List ℕ) (left : ℕ) (seen 
       let f : Answer → List Answer → Next =
       λ a rest. run end path left (answers seen ++ a ∷ []) (answered (k (length (answers seen))) a) rest in
       let later : Goes (run end path left (answers seen ++ p.1 ∷ []) t) [] ps =
-      goes_later end path left (answers seen) q at k asked is p.1 [] ps g in
+      goes_later end path left (answers seen) q span k asked is p.1 [] ps g in
       let on : run end path left (answers seen ++ p.1 ∷ []) t (answers ps) ≡ Asks op =
-      sym (ap (λ o. next_by o at (p.1 ∷ answers ps) f) is) ∙ e in
+      sym (ap (λ o. next_by o span (p.1 ∷ answers ps) f) is) ∙ e in
       let grew : answers seen ++ p.1 ∷ [] ≡ answers (seen ++ p ∷ []) = sym (answers-last seen p) in
       subst (λ (l : List Pair). HasSource path l op) (append_assoc seen (p ∷ []) ps)
       (more (subst (λ (l : List Answer). Goes (run end path left l t) [] ps) grew later)

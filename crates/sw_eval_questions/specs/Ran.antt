@@ -24,22 +24,22 @@ op_at path ps n q = op_of path (answers (take n ps)) q
 pub data Ran {W A : Type 0} (gives : W → Question → Answer → W → Type 0) : Talk A → Stand → W → Talk A → Stand → W
     → Type 0 where
   still : (t : Talk A) (s : Stand) (w : W) → Ran gives t s w t s w
-  takes : (q : NumberedQuestion) (op : Question) (at : Span) (k : ℕ → Answer → Talk A) (path : List ℕ) (ps : List Pair) (n : ℕ)
+  takes : (q : NumberedQuestion) (op : Question) (span : Span) (k : ℕ → Answer → Talk A) (path : List ℕ) (ps : List Pair) (n : ℕ)
       (w : W) (p : Pair) (u : Talk A) (s' : Stand) (w' : W)
       → n < most_asked → op_at path ps n q ≡ Some op → slice_get ps n ≡ Some p
-      → Ran gives (answered (k n) p.1) (record { path = path; pairs = ps; at = n + 1 }) w u s' w'
-      → Ran gives (Asking q at k) (record { path = path; pairs = ps; at = n }) w u s' w'
-  asks : (q : NumberedQuestion) (op : Question) (at : Span) (k : ℕ → Answer → Talk A) (path : List ℕ) (ps : List Pair) (w : W)
+      → Ran gives (answered (k n) p.1) (record { path = path; pairs = ps; span = n + 1 }) w u s' w'
+      → Ran gives (Asking q span k) (record { path = path; pairs = ps; span = n }) w u s' w'
+  asks : (q : NumberedQuestion) (op : Question) (span : Span) (k : ℕ → Answer → Talk A) (path : List ℕ) (ps : List Pair) (w : W)
       (a : Answer) (v : W) (u : Talk A) (s' : Stand) (w' : W)
       → length ps < most_asked → op_at path ps (length ps) q ≡ Some op → (IsLoad op → ⊥) → gives w op a v → Fits op a
       → Ran gives (answered (k (length ps)) a)
-      (record { path = path; pairs = ps ++ (op, a) ∷ []; at = length ps + 1 }) v u s' w'
-      → Ran gives (Asking q at k) (record { path = path; pairs = ps; at = length ps }) w u s' w'
-  full : (q : NumberedQuestion) (at : Span) (k : ℕ → Answer → Talk A) (s : Stand) (w : W) (u : Talk A) (s' : Stand) (w' : W)
-      → most_asked ≤ s.at → Ran gives (Fails (too_many at)) s w u s' w' → Ran gives (Asking q at k) s w u s' w'
-  lost : (q : NumberedQuestion) (at : Span) (k : ℕ → Answer → Talk A) (s : Stand) (w : W) (u : Talk A) (s' : Stand) (w' : W)
-      → s.at < most_asked → op_at s.path s.pairs s.at q ≡ None → Ran gives (Fails (no_owner at)) s w u s' w'
-      → Ran gives (Asking q at k) s w u s' w'
+      (record { path = path; pairs = ps ++ (op, a) ∷ []; span = length ps + 1 }) v u s' w'
+      → Ran gives (Asking q span k) (record { path = path; pairs = ps; span = length ps }) w u s' w'
+  full : (q : NumberedQuestion) (span : Span) (k : ℕ → Answer → Talk A) (s : Stand) (w : W) (u : Talk A) (s' : Stand) (w' : W)
+      → most_asked ≤ s.at → Ran gives (Fails (too_many span)) s w u s' w' → Ran gives (Asking q span k) s w u s' w'
+  lost : (q : NumberedQuestion) (span : Span) (k : ℕ → Answer → Talk A) (s : Stand) (w : W) (u : Talk A) (s' : Stand) (w' : W)
+      → s.at < most_asked → op_at s.path s.pairs s.at q ≡ None → Ran gives (Fails (no_owner span)) s w u s' w'
+      → Ran gives (Asking q span k) s w u s' w'
 
 -- it goes on from where another came to
 pub ran_on : {W A : Type 0} {gives : W → Question → Answer → W → Type 0} (t u v : Talk A) (a b c : Stand) (w x y : W)

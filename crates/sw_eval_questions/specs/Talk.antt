@@ -80,16 +80,16 @@ op_of path seen (Calls name args) = Some (Call name args)
 
 -- the fault of a question too many
 abbrev pub too_many : Span → Fault
-too_many at = record { code = Turns; span = at }
+too_many span = record { code = Turns; span = span }
 
 -- the fault of a question about no owner
 abbrev pub no_owner : Span → Fault
-no_owner at = record { code = UnknownVariable; span = at }
+no_owner span = record { code = UnknownVariable; span = span }
 
 abbrev pub next_by : Option Question → Span → List Answer → (Answer → List Answer → Next) → Next
-next_by None at given f = Ends (Fault_end (no_owner at))
-next_by (Some op) at [] f = Asks op
-next_by (Some op) at (a ∷ given) f = f a given
+next_by None span given f = Ends (Fault_end (no_owner span))
+next_by (Some op) span [] f = Asks op
+next_by (Some op) span (a ∷ given) f = f a given
 
 -- what a talk does on a list of answers behind those seen, with so many questions left; what it gives leaves that
 -- behind

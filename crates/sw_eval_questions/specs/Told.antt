@@ -64,50 +64,50 @@ length-taken ps n le = length-answers (take n ps) ∙ length-take-le n ps le
 
 module _ {A : Type 0} (end : A → Finish) (path : List ℕ) (b : List Answer → Next) where
   -- one answer more
-  step : (before : List Answer) (n : ℕ) (q : NumberedQuestion) (op : Question) (at : Span) (k : ℕ → Answer → Talk A) (a : Answer)
+  step : (before : List Answer) (n : ℕ) (q : NumberedQuestion) (op : Question) (span : Span) (k : ℕ → Answer → Talk A) (a : Answer)
       → n < most_asked → length before ≡ n → op_of path before q ≡ Some op
-      → ((more : List Answer) → b (before ++ more) ≡ run end path (most_asked - n) before (Asking q at k) more)
+      → ((more : List Answer) → b (before ++ more) ≡ run end path (most_asked - n) before (Asking q span k) more)
       → (more : List Answer) → b ((before ++ a ∷ []) ++ more) ≡ run end path (most_asked - (n + 1)) (before ++ a ∷ [])
       (answered (k n) a) more
   unfolding run
-  step before n q op at k a few long known is more =
+  step before n q op span k a few long known is more =
       let e : most_asked - n ≡ suc (most_asked - (n + 1)) = omega arith in
       let on : Answer → List Answer → Next =
       λ c rest. run end path (most_asked - (n + 1)) (before ++ c ∷ []) (answered (k (length before)) c) rest in
       ap b (append_assoc before (a ∷ []) more) ∙ is (a ∷ more)
-      ∙ ap (λ m. run end path m before (Asking q at k) (a ∷ more)) e ∙ ap (λ o. next_by o at (a ∷ more) on) known
+      ∙ ap (λ m. run end path m before (Asking q span k) (a ∷ more)) e ∙ ap (λ o. next_by o span (a ∷ more) on) known
       ∙ ap (λ m. run end path (most_asked - (n + 1)) (before ++ a ∷ []) (answered (k m) a) more) long
 
-  begins : (before : List Answer) (n : ℕ) (q : NumberedQuestion) (op : Question) (at : Span) (k : ℕ → Answer → Talk A)
+  begins : (before : List Answer) (n : ℕ) (q : NumberedQuestion) (op : Question) (span : Span) (k : ℕ → Answer → Talk A)
       → n < most_asked → op_of path before q ≡ Some op
-      → ((more : List Answer) → b (before ++ more) ≡ run end path (most_asked - n) before (Asking q at k) more)
+      → ((more : List Answer) → b (before ++ more) ≡ run end path (most_asked - n) before (Asking q span k) more)
       → b before ≡ Asks op
   unfolding run
-  begins before n q op at k few known is =
+  begins before n q op span k few known is =
       let e : most_asked - n ≡ suc (most_asked - (n + 1)) = omega arith in
       let on : Answer → List Answer → Next =
       λ c rest. run end path (most_asked - (n + 1)) (before ++ c ∷ []) (answered (k (length before)) c) rest in
-      ap b (sym (append-nil before)) ∙ is [] ∙ ap (λ m. run end path m before (Asking q at k) []) e
-      ∙ ap (λ o. next_by o at [] on) known
+      ap b (sym (append-nil before)) ∙ is [] ∙ ap (λ m. run end path m before (Asking q span k) []) e
+      ∙ ap (λ o. next_by o span [] on) known
 
-  over : (before : List Answer) (n : ℕ) (q : NumberedQuestion) (at : Span) (k : ℕ → Answer → Talk A) → most_asked ≤ n
-      → ((more : List Answer) → b (before ++ more) ≡ run end path (most_asked - n) before (Asking q at k) more)
-      → (more : List Answer) → b (before ++ more) ≡ run end path (most_asked - n) before (Fails (too_many at)) more
+  over : (before : List Answer) (n : ℕ) (q : NumberedQuestion) (span : Span) (k : ℕ → Answer → Talk A) → most_asked ≤ n
+      → ((more : List Answer) → b (before ++ more) ≡ run end path (most_asked - n) before (Asking q span k) more)
+      → (more : List Answer) → b (before ++ more) ≡ run end path (most_asked - n) before (Fails (too_many span)) more
   unfolding run
-  over before n q at k many is more =
-      let e : most_asked - n ≡ 0 = omega arith in is more ∙ ap (λ m. run end path m before (Asking q at k) more) e
-      ∙ sym (ap (λ m. run end path m before (Fails (too_many at)) more) e)
+  over before n q span k many is more =
+      let e : most_asked - n ≡ 0 = omega arith in is more ∙ ap (λ m. run end path m before (Asking q span k) more) e
+      ∙ sym (ap (λ m. run end path m before (Fails (too_many span)) more) e)
 
-  gone : (before : List Answer) (n : ℕ) (q : NumberedQuestion) (at : Span) (k : ℕ → Answer → Talk A) → n < most_asked
+  gone : (before : List Answer) (n : ℕ) (q : NumberedQuestion) (span : Span) (k : ℕ → Answer → Talk A) → n < most_asked
       → op_of path before q ≡ None
-      → ((more : List Answer) → b (before ++ more) ≡ run end path (most_asked - n) before (Asking q at k) more)
-      → (more : List Answer) → b (before ++ more) ≡ run end path (most_asked - n) before (Fails (no_owner at)) more
+      → ((more : List Answer) → b (before ++ more) ≡ run end path (most_asked - n) before (Asking q span k) more)
+      → (more : List Answer) → b (before ++ more) ≡ run end path (most_asked - n) before (Fails (no_owner span)) more
   unfolding run
-  gone before n q at k few known is more =
+  gone before n q span k few known is more =
       let e : most_asked - n ≡ suc (most_asked - (n + 1)) = omega arith in
       let on : Answer → List Answer → Next =
       λ c rest. run end path (most_asked - (n + 1)) (before ++ c ∷ []) (answered (k (length before)) c) rest in
-      is more ∙ ap (λ m. run end path m before (Asking q at k) more) e ∙ ap (λ o. next_by o at more on) known
+      is more ∙ ap (λ m. run end path m before (Asking q span k) more) e ∙ ap (λ o. next_by o span more on) known
 
 pub tells : {W A : Type 0} {gives : W → Question → Answer → W → Type 0} (end : A → Finish) (path : List ℕ) (b : List Answer
     → Next) (t u : Talk A) (ps : List Pair) (n : ℕ) (s : Stand) (w x : W) → n ≤ length ps → IsRest end path b ps n t

@@ -18,14 +18,18 @@ use sw_text::{FaultCode, Memory, Name, Span};
 use sw_world::{Answer, Question, World};
 
 /// The number of a question and its answer, where that is known or there are too many.
-pub fn known<W: World>(asked: &mut Asked, at: &Span, world: &mut W) -> Result<(usize, Answer), Stop>
+pub fn known<W: World>(
+    asked: &mut Asked,
+    span: &Span,
+    world: &mut W,
+) -> Result<(usize, Answer), Stop>
     requires { (asked.old.at < length asked.old.pairs.items) ⊎ (1000000 ≤ asked.old.at) }
     ensures did { (q : NumberedQuestion) (op : Question) → op_at asked.old.path asked.old.pairs.items asked.old.at q ≡ Some op
-        → Heard W.gives q at.now asked.old world.old result asked.new world.new }
+        → Heard W.gives q span.now asked.old world.old result asked.new world.new }
     ensures few { IfOk result (λ a. a.0 < 1000000) }
 {
     if asked.at >= 1_000_000 {
-        return fails(FaultCode::Turns, at);
+        return fails(FaultCode::Turns, span);
     }
     let here = asked.at;
     asked.at += 1;
@@ -96,30 +100,30 @@ pub fn ask<W: World>(
     alloc: Global,
     asked: &mut Asked,
     op: Question,
-    at: &Span,
+    span: &Span,
     world: &mut W,
 ) -> Result<(usize, Answer), Stop>
     requires { IsLoad op → ⊥ }
     ensures did { (q : NumberedQuestion) → op_at asked.old.path asked.old.pairs.items asked.old.at q ≡ Some op
-        → Heard W.gives q at.now asked.old world.old result asked.new world.new }
+        → Heard W.gives q span.now asked.old world.old result asked.new world.new }
     ensures few { IfOk result (λ a. a.0 < 1000000) }
 {
     if asked.at >= 1_000_000 || asked.at < asked.pairs.len() {
-        known(asked, at, world)
+        known(asked, span, world)
     } else {
         ask_world(alloc, asked, op, world)
     }
 }
 
 /// A question about no owner.
-pub fn lost<T>(asked: &Asked, at: &Span) -> Result<T, Stop>
-    ensures full { 1000000 ≤ asked.now.at → IsReturn result nothing (Fails (too_many at.now)) }
-    ensures lost { asked.now.at < 1000000 → IsReturn result nothing (Fails (no_owner at.now)) }
+pub fn lost<T>(asked: &Asked, span: &Span) -> Result<T, Stop>
+    ensures full { 1000000 ≤ asked.now.at → IsReturn result nothing (Fails (too_many span.now)) }
+    ensures lost { asked.now.at < 1000000 → IsReturn result nothing (Fails (no_owner span.now)) }
 {
     if asked.at >= 1_000_000 {
-        return fails(FaultCode::Turns, at);
+        return fails(FaultCode::Turns, span);
     }
-    fails(FaultCode::UnknownVariable, at)
+    fails(FaultCode::UnknownVariable, span)
 }
 
 impl Asked {

@@ -64,9 +64,9 @@ pub fn stopped<T>(outcome: Result<T, Refused>) -> Result<T, Stop>
 }
 
 /// Ends with a fault at this place.
-pub fn fails<T>(code: FaultCode, at: &Span) -> Result<T, Stop>
-    ensures { IsReturn result nothing (Fails (fault code at.now)) }
+pub fn fails<T>(code: FaultCode, span: &Span) -> Result<T, Stop>
+    ensures { IsReturn result nothing (Fails (fault code span.now)) }
 {
-    let span = at.share()?;
+    let span = span.share()?;
     Err(Stop::Fault(Fault { code, span }))
 }

@@ -38,15 +38,15 @@ templates [] = []
 templates (p ∷ ps) = piece_template p ∷ templates ps
 
 abbrev pub template_of : List Piece → Span → Answer (List ℕ)
-template_of ps at = joined (templates ps) at
+template_of ps span = joined (templates ps) span
 
 abbrev pub parts_template : Texts → Span → Answer (List ℕ)
-parts_template (Parts-F.Plain text) at = Ok text
-parts_template (Parts-F.Mixed ps) at = template_of ps at
+parts_template (Parts-F.Plain text) span = Ok text
+parts_template (Parts-F.Mixed ps) span = template_of ps span
 
 -- a text as it was before the values in it were known
 unfoldable pub template : Parts → Span → Answer (List ℕ)
-template parts at = parts_template (out-Parts parts) at
+template parts span = parts_template (out-Parts parts) span
 
 abbrev pub text_by : Pieces → Bool
 text_by (Piece-F.Text text) = true
@@ -189,14 +189,14 @@ part_pieces bs values taken = pieces_in (length bs + 1) bs values taken 0
 
 -- a part with the values in it, and how many of them were taken by then
 abbrev pub filled_in : List ℕ → List (List ℕ) → ℕ → Span → Answer (List ℕ × ℕ)
-filled_in bs values taken at =
-    with (joined (part_pieces bs values taken).0 at) (λ text. Ok (text, (part_pieces bs values taken).1))
+filled_in bs values taken span =
+    with (joined (part_pieces bs values taken).0 span) (λ text. Ok (text, (part_pieces bs values taken).1))
 
 abbrev pub filled_from : List (List ℕ) → List (List ℕ) → List (List ℕ) → ℕ → Span → Answer (List (List ℕ))
-filled_from done [] values taken at = Ok done
-filled_from done (part ∷ parts) values taken at =
-    with (filled_in part values taken at) (λ t. filled_from (done ++ t.0 ∷ []) parts values t.1 at)
+filled_from done [] values taken span = Ok done
+filled_from done (part ∷ parts) values taken span =
+    with (filled_in part values taken span) (λ t. filled_from (done ++ t.0 ∷ []) parts values t.1 span)
 
 -- the parts with the values in them
 abbrev pub filled_all : List (List ℕ) → List (List ℕ) → Span → Answer (List (List ℕ))
-filled_all parts values at = filled_from [] parts values 0 at
+filled_all parts values span = filled_from [] parts values 0 span

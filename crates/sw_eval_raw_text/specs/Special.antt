@@ -26,12 +26,12 @@ use Rattle.sw_eval_literals.specs.Trimming.{trimmed}
 
 -- a text without values in it is an unquoted string, but for its white space
 abbrev pub plain_special : List ℕ → Span → Answer Plain
-plain_special text at = string_value (spaced start text) false at
+plain_special text span = string_value (spaced start text) false span
 
 -- the same of pieces that have these texts
 unfoldable pub special_value : List Piece → List (List ℕ) → Span → Answer Plain
-special_value ps texts at =
-    with (joined (spaced_texts start ps texts) at) (λ text. string_value text false at)
+special_value ps texts span =
+    with (joined (spaced_texts start ps texts) span) (λ text. string_value text false span)
 
 -- ---- which calls are computed
 
@@ -122,15 +122,15 @@ written_pieces done (p ∷ ps) vs next =
     with (piece_text p (slice_get vs next)) (λ text. written_pieces (done ++ text ∷ []) ps vs (had p next))
 
 abbrev pub written_out : List Piece → List Plain → Span → Answer Plain
-written_out ps vs at = with (written_pieces [] ps vs 0) (λ texts. special_value ps texts at)
+written_out ps vs span = with (written_pieces [] ps vs 0) (λ texts. special_value ps texts span)
 
 abbrev pub passed_of : List Plain → Passed
 passed_of vs = record { items = vs; named = []; by_name = false; faulty = false }
 
 abbrev pub or_written : Answer Plain → List Piece → List Plain → Span → Answer Plain
-or_written (Ok v) ps vs at = Ok v
-or_written (Err fault) ps vs at = written_out ps vs at
+or_written (Ok v) ps vs span = Ok v
+or_written (Err fault) ps vs span = written_out ps vs span
 
 -- what the function gives of these values, where all are numbers that compare; else its call is written out
 unfoldable pub extremum_value : BuiltIn → List Piece → List Plain → Span → Answer Plain
-extremum_value f ps vs at = or_written (built_in_value f (passed_of vs) at) ps vs at
+extremum_value f ps vs span = or_written (built_in_value f (passed_of vs) span) ps vs span

@@ -39,20 +39,20 @@ fn templates(alloc: Global, all: &[Piece]) -> Result<List<Name>, Memory>
     Ok(done)
 }
 
-fn template_of(alloc: Global, all: &[Piece], at: &Span) -> Result<Name, Refused>
-    ensures { Returns result (template_of all.now at.now) }
+fn template_of(alloc: Global, all: &[Piece], span: &Span) -> Result<Name, Refused>
+    ensures { Returns result (template_of all.now span.now) }
 {
     let texts = templates(alloc, all)?;
-    joined(alloc, texts.as_slice(), at)
+    joined(alloc, texts.as_slice(), span)
 }
 
 /// A text as it was before the values in it were known, with `#{}` for each.
-pub fn template(alloc: Global, parts: &Parts, at: &Span) -> Result<Name, Refused>
-    ensures { Returns result (template parts.now at.now) }
+pub fn template(alloc: Global, parts: &Parts, span: &Span) -> Result<Name, Refused>
+    ensures { Returns result (template parts.now span.now) }
 {
     match parts {
         Parts::Plain(text) => Ok(text.share()?),
-        Parts::Mixed(all) => template_of(alloc, all.as_slice(), at),
+        Parts::Mixed(all) => template_of(alloc, all.as_slice(), span),
     }
 }
 
@@ -388,12 +388,12 @@ fn filled_in(
     part: &str,
     values: &[Name],
     taken: usize,
-    at: &Span,
+    span: &Span,
 ) -> Result<(Name, usize), Refused>
-    ensures { Returns result (filled_in part.now values.now taken at.now) }
+    ensures { Returns result (filled_in part.now values.now taken span.now) }
 {
     let (pieces, next) = part_pieces(alloc, part, values, taken)?;
-    let text = joined(alloc, pieces.as_slice(), at)?;
+    let text = joined(alloc, pieces.as_slice(), span)?;
     Ok((text, next))
 }
 
@@ -402,14 +402,14 @@ pub fn filled_all(
     alloc: Global,
     parts: &[Name],
     values: &[Name],
-    at: &Span,
+    span: &Span,
 ) -> Result<List<Name>, Refused>
-    ensures { Returns result (filled_all parts.now values.now at.now) }
+    ensures { Returns result (filled_all parts.now values.now span.now) }
 {
     let mut done = List::new(alloc);
     let mut taken = 0;
     'parts: for part in parts {
-        let (text, next) = filled_in(alloc, part.as_str(), values, taken, at)?;
+        let (text, next) = filled_in(alloc, part.as_str(), values, taken, span)?;
         done.push(text)?;
         taken = next;
     }

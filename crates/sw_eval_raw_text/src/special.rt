@@ -16,11 +16,11 @@ use sw_tree::{Expr, Kind, Piece};
 use sw_values::Value;
 
 /// A special text without values in it is an unquoted string, but for its white space.
-pub fn plain_special(alloc: Global, text: &Name, at: &Span) -> Result<Value, Refused>
-    ensures { Returns result (plain_special text.now at.now) }
+pub fn plain_special(alloc: Global, text: &Name, span: &Span) -> Result<Value, Refused>
+    ensures { Returns result (plain_special text.now span.now) }
 {
     let text = spaced(alloc, Reading::start(), text.as_str())?;
-    string_value(text, false, at)
+    string_value(text, false, span)
 }
 
 /// The same of pieces that have these texts.
@@ -28,13 +28,13 @@ pub fn special_value(
     alloc: Global,
     all: &[Piece],
     texts: &[Name],
-    at: &Span,
+    span: &Span,
 ) -> Result<Value, Refused>
-    ensures { Returns result (special_value all.now texts.now at.now) }
+    ensures { Returns result (special_value all.now texts.now span.now) }
 {
     let spaced = spaced_texts(alloc, all, texts)?;
-    let text = joined(alloc, spaced.as_slice(), at)?;
-    string_value(text, false, at)
+    let text = joined(alloc, spaced.as_slice(), span)?;
+    string_value(text, false, span)
 }
 
 // Without the white space around it.
@@ -203,11 +203,16 @@ fn written_pieces(alloc: Global, all: &[Piece], values: &[Value]) -> Result<List
     Ok(done)
 }
 
-fn written_out(alloc: Global, all: &[Piece], values: &[Value], at: &Span) -> Result<Value, Refused>
-    ensures { Returns result (written_out all.now values.now at.now) }
+fn written_out(
+    alloc: Global,
+    all: &[Piece],
+    values: &[Value],
+    span: &Span,
+) -> Result<Value, Refused>
+    ensures { Returns result (written_out all.now values.now span.now) }
 {
     let texts = written_pieces(alloc, all, values)?;
-    special_value(alloc, all, texts.as_slice(), at)
+    special_value(alloc, all, texts.as_slice(), span)
 }
 
 fn passed_of(alloc: Global, values: &[Value]) -> Result<Passed, Memory>
@@ -226,14 +231,14 @@ pub fn extremum_value(
     function: BuiltIn,
     all: &[Piece],
     values: &[Value],
-    at: &Span,
+    span: &Span,
 ) -> Result<Value, Refused>
-    ensures { Returns result (extremum_value function all.now values.now at.now) }
+    ensures { Returns result (extremum_value function all.now values.now span.now) }
 {
     let passed = passed_of(alloc, values)?;
-    match built_in_value(alloc, function, &passed, at) {
+    match built_in_value(alloc, function, &passed, span) {
         Ok(value) => Ok(value),
-        Err(Refused::Fault(_)) => written_out(alloc, all, values, at),
+        Err(Refused::Fault(_)) => written_out(alloc, all, values, span),
         Err(Refused::Memory) => Err(Refused::Memory),
     }
 }

@@ -53,32 +53,32 @@ abbrev pub media_by : Option Queries → List ℕ → Asked
 media_by outer text = read_in outer (queries_of text)
 
 abbrev pub queries_by : Span → Asked → Eval Queries
-queries_by at (Ok queries) s = Gives (queries, s)
-queries_by at (Err why) s = Fails (fault (media_code why) at)
+queries_by span (Ok queries) s = Gives (queries, s)
+queries_by span (Err why) s = Fails (fault (media_code why) span)
 
 -- the queries of a `@media` here, whose text stands here
 unfoldable pub media_queries : List ℕ → Span → Eval Queries
-media_queries text at s = queries_by at (media_by s.nesting.media text) s
+media_queries text span s = queries_by span (media_by s.nesting.media text) s
 
 -- it takes the place of the one around it
 unfoldable pub media_put : List ℕ → List ℕ → Span → Eval (Unit {0})
-media_put name prelude at s = output_is (bubbled s.css name prelude) at s
+media_put name prelude span s = output_is (bubbled s.css name prelude) span s
 
 abbrev pub in_media : Queries → Nesting → Nesting
 in_media queries n = record n { media = Some queries; in_at_rule = true }
 
 -- a `@media` with these queries is open
 unfoldable pub media_opened : Queries → Span → Eval (Unit {0})
-media_opened queries at s =
-    bind (media_put (codes "media") (queries_text queries) at s)
+media_opened queries span s =
+    bind (media_put (codes "media") (queries_text queries) span s)
     (λ u. Gives (tt, nested (in_media queries u.1.nesting) u.1))
 
 -- one whose queries have this text, which stands at the first place; the statement stands at the second. It isn't open
 -- where no query is left of it and those around it
 unfoldable pub media_entered : List ℕ → Span → Span → Eval Bool
-media_entered text text_at at s =
+media_entered text text_at span s =
     bind (media_queries text text_at s)
-    (λ q. if is_empty q.0 then Gives (false, q.1) else bind (media_opened q.0 at q.1) (λ u. Gives (true, u.1)))
+    (λ q. if is_empty q.0 then Gives (false, q.1) else bind (media_opened q.0 span q.1) (λ u. Gives (true, u.1)))
 
 -- ---- others
 
@@ -87,7 +87,7 @@ unfoldable pub bare_name : List ℕ → List ℕ
 bare_name name = piece name 1 (length name)
 
 unfoldable pub at_put : List ℕ → List ℕ → Span → Eval (Unit {0})
-at_put name prelude at s = output_is (at_opened s.css name prelude) at s
+at_put name prelude span s = output_is (at_opened s.css name prelude) span s
 
 -- keyframes have selectors of their own
 abbrev pub in_at_rule : Bool → Nesting → Nesting
@@ -96,12 +96,12 @@ in_at_rule false n = record n { in_at_rule = true }
 
 -- an at-rule with a block is open
 unfoldable pub at_entered : List ℕ → List ℕ → Span → Eval (Unit {0})
-at_entered name prelude at s =
-    bind (at_put name prelude at s) (λ u. Gives (tt, nested (in_at_rule (is_keyframes name) u.1.nesting) u.1))
+at_entered name prelude span s =
+    bind (at_put name prelude span s) (λ u. Gives (tt, nested (in_at_rule (is_keyframes name) u.1.nesting) u.1))
 
 -- one without a block is a line where it stands
 unfoldable pub at_lined : List ℕ → List ℕ → Span → Eval (Unit {0})
-at_lined name prelude at s = output_is (lined s.css (L.At name prelude)) at s
+at_lined name prelude span s = output_is (lined s.css (L.At name prelude)) span s
 
 -- ---- `@at-root` without a selector
 
@@ -120,8 +120,8 @@ root_entered s = nested (in_root s.nesting) (record s { css = left_rules s.css }
 -- ---- plain CSS imports
 
 unfoldable pub imported_one : List ℕ → Span → Eval (Unit {0})
-imported_one text at s = output_is (imported s.css text) at s
+imported_one text span s = output_is (imported s.css text) span s
 
 abbrev pub imported_all : List (List ℕ) → Span → Eval (Unit {0})
-imported_all [] at s = Gives (tt, s)
-imported_all (text ∷ texts) at s = bind (imported_one text at s) (λ u. imported_all texts at u.1)
+imported_all [] span s = Gives (tt, s)
+imported_all (text ∷ texts) span s = bind (imported_one text span s) (λ u. imported_all texts span u.1)

@@ -29,4 +29,4 @@ begin = record {
 
 -- one of the turns that are left
 unfoldable pub spent : Span → Eval (Unit {0})
-spent at s = if s.turns == 0 then Fails (fault C.Turns at) else Gives (tt, record s { turns = s.turns - 1 })
+spent span s = if s.turns == 0 then Fails (fault C.Turns span) else Gives (tt, record s { turns = s.turns - 1 })

@@ -23,40 +23,40 @@ found n body = record { site = n + 1; callable = body }
 
 -- what a name means that no function of a sheet has: a built-in function, or one of CSS
 abbrev pub global_by : Meant → Span → Eval Called
-global_by (M.Known f) at s = Gives (call.BuiltIn f, s)
-global_by M.LeftOut at s = Fails (fault C.LeftOut at)
-global_by M.NoSuch at s = Gives (call.Css, s)
+global_by (M.Known f) span s = Gives (call.BuiltIn f, s)
+global_by M.LeftOut span s = Fails (fault C.LeftOut span)
+global_by M.NoSuch span s = Gives (call.Css, s)
 
 -- what the name of a member of a built-in module means
 abbrev pub built_in_by : Meant → Span → Span → Eval Called
-built_in_by (M.Known f) at name_at s = Gives (call.BuiltIn f, s)
-built_in_by M.LeftOut at name_at s = Fails (fault C.LeftOut at)
-built_in_by M.NoSuch at name_at s = Fails (fault C.UnknownMember name_at)
+built_in_by (M.Known f) span name_at s = Gives (call.BuiltIn f, s)
+built_in_by M.LeftOut span name_at s = Fails (fault C.LeftOut span)
+built_in_by M.NoSuch span name_at s = Fails (fault C.UnknownMember name_at)
 
 -- what a call without a namespace means
 abbrev pub function_by : List ℕ → Span → Span → ℕ → Answer → Eval Called
-function_by name at name_at n (A.Callable site body) s = Gives (call.Sheet (found n body), s)
-function_by name at name_at n (A.BuiltIn home member) s =
-    built_in_by (meaning (Some home) K.Function member) at name_at s
-function_by name at name_at n A.NoMember s = global_by (meaning None K.Function name) at s
-function_by name at name_at n A.LeftOut s = Fails (fault C.LeftOut at)
-function_by name at name_at n A.Conflict s = Fails (fault C.MemberConflict name_at)
-function_by name at name_at n _ s = Fails (fault C.UnknownMember name_at)
+function_by name span name_at n (A.Callable site body) s = Gives (call.Sheet (found n body), s)
+function_by name span name_at n (A.BuiltIn home member) s =
+    built_in_by (meaning (Some home) K.Function member) span name_at s
+function_by name span name_at n A.NoMember s = global_by (meaning None K.Function name) span s
+function_by name span name_at n A.LeftOut s = Fails (fault C.LeftOut span)
+function_by name span name_at n A.Conflict s = Fails (fault C.MemberConflict name_at)
+function_by name span name_at n _ s = Fails (fault C.UnknownMember name_at)
 
 -- what a call behind a namespace means
 abbrev pub member_by : Span → Span → Span → ℕ → Answer → Eval Called
-member_by at name_at space_at n (A.Callable site body) s = Gives (call.Sheet (found n body), s)
-member_by at name_at space_at n (A.BuiltIn home member) s =
-    built_in_by (meaning (Some home) K.Function member) at name_at s
-member_by at name_at space_at n A.NoNamespace s = Fails (fault C.UnknownNamespace space_at)
-member_by at name_at space_at n A.LeftOut s = Fails (fault C.LeftOut at)
-member_by at name_at space_at n A.Conflict s = Fails (fault C.MemberConflict name_at)
-member_by at name_at space_at n _ s = Fails (fault C.UnknownMember name_at)
+member_by span name_at space_at n (A.Callable site body) s = Gives (call.Sheet (found n body), s)
+member_by span name_at space_at n (A.BuiltIn home member) s =
+    built_in_by (meaning (Some home) K.Function member) span name_at s
+member_by span name_at space_at n A.NoNamespace s = Fails (fault C.UnknownNamespace space_at)
+member_by span name_at space_at n A.LeftOut s = Fails (fault C.LeftOut span)
+member_by span name_at space_at n A.Conflict s = Fails (fault C.MemberConflict name_at)
+member_by span name_at space_at n _ s = Fails (fault C.UnknownMember name_at)
 
 -- which mixin is included
 abbrev pub mixin_by : Span → Span → Span → ℕ → Answer → Eval Found
-mixin_by at name_at space_at n (A.Callable site body) s = Gives (found n body, s)
-mixin_by at name_at space_at n A.NoNamespace s = Fails (fault C.UnknownNamespace space_at)
-mixin_by at name_at space_at n A.LeftOut s = Fails (fault C.LeftOut at)
-mixin_by at name_at space_at n A.Conflict s = Fails (fault C.MemberConflict name_at)
-mixin_by at name_at space_at n _ s = Fails (fault C.UnknownMember name_at)
+mixin_by span name_at space_at n (A.Callable site body) s = Gives (found n body, s)
+mixin_by span name_at space_at n A.NoNamespace s = Fails (fault C.UnknownNamespace space_at)
+mixin_by span name_at space_at n A.LeftOut s = Fails (fault C.LeftOut span)
+mixin_by span name_at space_at n A.Conflict s = Fails (fault C.MemberConflict name_at)
+mixin_by span name_at space_at n _ s = Fails (fault C.UnknownMember name_at)

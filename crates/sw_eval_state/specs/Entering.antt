@@ -34,5 +34,5 @@ given name v s = record s { scopes = declare s.scopes (name, v) }
 
 -- what a function gives, whose call stands here
 abbrev pub returned : Option Plain → Span → Eval Plain
-returned (Some v) at s = Gives (v, s)
-returned None at s = Fails (fault C.NoReturn at)
+returned (Some v) span s = Gives (v, s)
+returned None span s = Fails (fault C.NoReturn span)

@@ -22,14 +22,14 @@ use Rattle.sw_eval_state.specs.declared.state.State.{State}
 
 -- a function's code stands on the top of its module
 unfoldable pub function_entry : Found → Passed → Span → Answer Entry
-function_entry f p at =
-    with (bound f.callable.params p at)
+function_entry f p span =
+    with (bound f.callable.params p span)
     (λ slots. Ok (record { here = function_here f.site; mark = None; slots = slots }))
 
 -- a content block's where it is written
 unfoldable pub block_entry : Block → Passed → Span → Answer Entry
-block_entry b p at =
-    with (bound (out-Block b).content.params p at)
+block_entry b p span =
+    with (bound (out-Block b).content.params p span)
     (λ slots. Ok (record { here = here_of b; mark = (out-Block b).mark; slots = slots }))
 
 -- a content block is passed to a mixin that has no `@content`
@@ -42,7 +42,7 @@ given_entry f content slots s =
     record { here = mixin_here f.site (content_of content s); mark = None; slots = slots }
 
 unfoldable pub mixin_entry : Found → Option Content → Passed → Span → Eval Entry
-mixin_entry f content p at s =
-    if is_lost content f.callable then Fails (fault C.ArgumentFault at)
-    else bind (answer (bound f.callable.params p at) s)
+mixin_entry f content p span s =
+    if is_lost content f.callable then Fails (fault C.ArgumentFault span)
+    else bind (answer (bound f.callable.params p span) s)
     (λ slots. Gives (given_entry f content slots.0 slots.1, slots.1))

@@ -39,34 +39,34 @@ abbrev pub text_in : Plain → Option (List ℕ)
 text_in v = text_by (node_of v)
 
 abbrev pub name_by : Option (List ℕ) → Span → Outcome (List ℕ)
-name_by (Some text) at = Ok (dashed text)
-name_by None at = refused C.TypeFault at
+name_by (Some text) span = Ok (dashed text)
+name_by None span = refused C.TypeFault span
 
 -- the name that the first argument is
 abbrev pub name_in : List Variable → Span → Outcome (List ℕ)
-name_in [] at = refused C.ArgumentFault at
-name_in (v ∷ vs) at = name_by (text_in v.1) at
+name_in [] span = refused C.ArgumentFault span
+name_in (v ∷ vs) span = name_by (text_in v.1) span
 
 abbrev pub module_by : Node → Span → Outcome (Option (List ℕ))
-module_by nodes.Null at = Ok None
-module_by (nodes.Text text quoted) at = Ok (Some text)
-module_by _ at = refused C.TypeFault at
+module_by nodes.Null span = Ok None
+module_by (nodes.Text text quoted) span = Ok (Some text)
+module_by _ span = refused C.TypeFault span
 
 -- the namespace that the second argument is, where it isn't null
 abbrev pub module_in : List Variable → Span → Outcome (Option (List ℕ))
-module_in (v ∷ w ∷ vs) at = module_by (node_of w.1) at
-module_in _ at = Ok None
+module_in (v ∷ w ∷ vs) span = module_by (node_of w.1) span
+module_in _ span = Ok None
 
 -- ---- answers
 
 -- a member was found, in a call that stands here
 abbrev pub exists_by : Answer → Span → Eval Bool
-exists_by (A.Owner path name) at s = Gives (true, s)
-exists_by (A.Callable site body) at s = Gives (true, s)
-exists_by (A.BuiltIn home name) at s = Gives (true, s)
-exists_by A.NoNamespace at s = Fails (fault C.UnknownNamespace at)
-exists_by A.Conflict at s = Fails (fault C.MemberConflict at)
-exists_by _ at s = Gives (false, s)
+exists_by (A.Owner path name) span s = Gives (true, s)
+exists_by (A.Callable site body) span s = Gives (true, s)
+exists_by (A.BuiltIn home name) span s = Gives (true, s)
+exists_by A.NoNamespace span s = Fails (fault C.UnknownNamespace span)
+exists_by A.Conflict span s = Fails (fault C.MemberConflict span)
+exists_by _ span s = Gives (false, s)
 
 abbrev pub is_known : Found → Bool
 is_known (F.Known b) = true
@@ -78,10 +78,10 @@ abbrev pub is_built_in : List ℕ → Bool
 is_built_in name = is_known (found None K.Function name)
 
 abbrev pub content_by : Inside → Span → Eval Bool
-content_by I.Mixin at s = Gives (is_some s.here.content, s)
-content_by I.Sheet at s = Fails (fault C.ArgumentFault at)
-content_by I.Function at s = Fails (fault C.ArgumentFault at)
+content_by I.Mixin span s = Gives (is_some s.here.content, s)
+content_by I.Sheet span s = Fails (fault C.ArgumentFault span)
+content_by I.Function span s = Fails (fault C.ArgumentFault span)
 
 -- the running mixin was given a content block
 abbrev pub content_exists : Span → Eval Bool
-content_exists at s = content_by s.here.inside at s
+content_exists span s = content_by s.here.inside span s

@@ -28,8 +28,8 @@ all_set (name ∷ names) (v ∷ vs) s = all_set names vs (set_by s (name, v))
 
 -- they are given an element of a list that stands here, taken apart
 unfoldable pub apart : List (List ℕ) → Plain → Span → Eval (Unit {0})
-apart names v at s =
-    bind (answer (taken_apart (length names) v at) s) (λ ps. Gives (tt, all_set names ps.0 ps.1))
+apart names v span s =
+    bind (answer (taken_apart (length names) v span) s) (λ ps. Gives (tt, all_set names ps.0 ps.1))
 
 -- the variable is given the number of a turn
 unfoldable pub counted_to : List ℕ → Count → ℕ → State → State

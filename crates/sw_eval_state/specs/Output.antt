@@ -17,33 +17,33 @@ numbered number out = if is_open out then out else record out { statement = numb
 
 -- the output is this one now, where its bytes aren't too many
 abbrev pub output_is : Output → Span → Eval (Unit {0})
-output_is out at s =
-    if nat_le out.bytes most_bytes then Gives (tt, record s { css = out }) else Fails (fault C.TooLarge at)
+output_is out span s =
+    if nat_le out.bytes most_bytes then Gives (tt, record s { css = out }) else Fails (fault C.TooLarge span)
 
 -- a rule with these selectors is open
 unfoldable pub opened : List ℕ → Span → Eval (Unit {0})
-opened selectors at s = output_is (rule_opened s.css selectors) at s
+opened selectors span s = output_is (rule_opened s.css selectors) span s
 
 -- a line of the open rule
 abbrev pub lining : List ℕ → List ℕ → Span → Eval (Unit {0})
-lining property text at s = output_is (lined s.css (L.Declaration property text)) at s
+lining property text span s = output_is (lined s.css (L.Declaration property text)) span s
 
 unfoldable pub declaring : List ℕ → List ℕ → Span → Eval (Unit {0})
-declaring property text at s = if is_open s.css then lining property text at s else Fails (fault C.BadPlace at)
+declaring property text span s = if is_open s.css then lining property text span s else Fails (fault C.BadPlace span)
 
 -- nothing where there is no text
 abbrev pub declaring_by : List ℕ → Option (List ℕ) → Span → Eval (Unit {0})
-declaring_by property (Some text) at s = declaring property text at s
-declaring_by property None at s = Gives (tt, s)
+declaring_by property (Some text) span s = declaring property text span s
+declaring_by property None span s = Gives (tt, s)
 
 -- a declaration of this value, whose expression stands at the first place and whose statement at the second
 unfoldable pub written : List ℕ → Plain → Span → Span → Eval (Unit {0})
-written property v value_at at s = bind (answer (declaration_text v value_at) s) (λ t. declaring_by property t.0 at t.1)
+written property v value_at span s = bind (answer (declaration_text v value_at) s) (λ t. declaring_by property t.0 span t.1)
 
 -- a comment is a line where it stands
 unfoldable pub commented : List ℕ → Span → Eval (Unit {0})
-commented text at s = output_is (lined s.css (L.Comment text)) at s
+commented text span s = output_is (lined s.css (L.Comment text)) span s
 
 -- the bytes of a message count as those of the output do
 unfoldable pub noted : List ℕ → Span → Eval (Unit {0})
-noted text at s = output_is (grown s.css (length text)) at s
+noted text span s = output_is (grown s.css (length text)) span s

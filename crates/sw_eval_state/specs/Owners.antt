@@ -15,20 +15,20 @@ use Rattle.sw_eval_state.specs.Eval.{Eval}
 
 -- the number of the owner that was answered, or what the name and its namespace are refused with
 abbrev pub owner : FaultCode → Span → Span → ℕ → Answer → Eval ℕ
-owner unknown at space_at n (Owner path name) s = Gives (n, s)
-owner unknown at space_at n NoNamespace s = Fails (fault C.UnknownNamespace space_at)
-owner unknown at space_at n LeftOut s = Fails (fault C.LeftOut at)
-owner unknown at space_at n Conflict s = Fails (fault C.MemberConflict at)
-owner unknown at space_at n _ s = Fails (fault unknown at)
+owner unknown span space_at n (Owner path name) s = Gives (n, s)
+owner unknown span space_at n NoNamespace s = Fails (fault C.UnknownNamespace space_at)
+owner unknown span space_at n LeftOut s = Fails (fault C.LeftOut span)
+owner unknown span space_at n Conflict s = Fails (fault C.MemberConflict span)
+owner unknown span space_at n _ s = Fails (fault unknown span)
 
 -- the owner of a variable that is assigned; one of a built-in module can't be
 abbrev pub target : Span → Span → Span → ℕ → Answer → Eval ℕ
-target at name_at space_at n (BuiltIn home name) s = Fails (fault C.NotConfigurable at)
-target at name_at space_at n answer s = owner C.UnknownMember name_at space_at n answer s
+target span name_at space_at n (BuiltIn home name) s = Fails (fault C.NotConfigurable span)
+target span name_at space_at n answer s = owner C.UnknownMember name_at space_at n answer s
 
 abbrev pub got : Span → Answer → Eval Plain
-got at (Value v) s = Gives (v, s)
-got at _ s = Fails (fault C.UnknownVariable at)
+got span (Value v) s = Gives (v, s)
+got span _ s = Fails (fault C.UnknownVariable span)
 
 abbrev pub null_by : Node → Bool
 null_by (nodes.Number _) = false

@@ -41,25 +41,25 @@ in_frame n = record n { in_rule = true }
 
 -- a rule is open, in which `&` is these selectors; it stands here
 unfoldable pub rule_opening : Selectors → Span → Eval (Unit {0})
-rule_opening selectors at s =
-    bind (opened (text_of selectors) at s) (λ u. Gives (tt, nested (in_rule selectors u.1.nesting) u.1))
+rule_opening selectors span s =
+    bind (opened (text_of selectors) span s) (λ u. Gives (tt, nested (in_rule selectors u.1.nesting) u.1))
 
 -- one of keyframes, which don't nest
 unfoldable pub frame_entered : List ℕ → Span → Span → Eval (Unit {0})
-frame_entered text text_at at s =
+frame_entered text text_at span s =
     bind (answer (keyframe_text text text_at) s)
-    (λ t. bind (opened t.0 at t.1) (λ u. Gives (tt, nested (in_frame u.1.nesting) u.1)))
+    (λ t. bind (opened t.0 span t.1) (λ u. Gives (tt, nested (in_frame u.1.nesting) u.1)))
 
 unfoldable pub style_entered : Bool → List ℕ → Span → Span → Eval (Unit {0})
-style_entered at_root text text_at at s =
-    bind (selected at_root text text_at s) (λ q. rule_opening q.0 at q.1)
+style_entered at_root text text_at span s =
+    bind (selected at_root text text_at s) (λ q. rule_opening q.0 span q.1)
 
 -- a rule is open, in `@at-root` or not, whose selectors have this text, which stands at the first place; the rule stands
 -- at the second
 unfoldable pub rule_entered : Bool → List ℕ → Span → Span → Eval (Unit {0})
-rule_entered at_root text text_at at s =
-    if are_keyframes s.nesting.rules then frame_entered text text_at at s
-    else style_entered at_root text text_at at s
+rule_entered at_root text text_at span s =
+    if are_keyframes s.nesting.rules then frame_entered text text_at span s
+    else style_entered at_root text text_at span s
 
 -- it is closed
 unfoldable pub rule_left : State → State
@@ -69,12 +69,12 @@ rule_left s = unnested (record s { css = closed s.css })
 
 -- the name of a property among those of another one
 abbrev pub named_by : Option (List ℕ) → List ℕ → Span → Answer (List ℕ)
-named_by None name at = Ok name
-named_by (Some prefix) name at = joined (prefix ∷ codes "-" ∷ name ∷ []) at
+named_by None name span = Ok name
+named_by (Some prefix) name span = joined (prefix ∷ codes "-" ∷ name ∷ []) span
 
 -- the whole name of a property, which is written here
 unfoldable pub full_name : List ℕ → Span → Eval (List ℕ)
-full_name name at s = answer (named_by s.nesting.prefix name at) s
+full_name name span s = answer (named_by s.nesting.prefix name span) s
 
 abbrev pub with_prefix : List ℕ → Nesting → Nesting
 with_prefix name n = record n { prefix = Some name }

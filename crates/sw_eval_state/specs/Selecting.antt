@@ -47,36 +47,36 @@ nested_in at_root parents (Err why) = Err why
 
 -- their text stands here
 abbrev pub selected_by : Span → Selection → Eval Selectors
-selected_by at (Ok selectors) s = Gives (selectors, s)
-selected_by at (Err why) s = Fails (fault (selector_code why) at)
+selected_by span (Ok selectors) s = Gives (selectors, s)
+selected_by span (Err why) s = Fails (fault (selector_code why) span)
 
 -- the selectors of a rule, in `@at-root` or not
 unfoldable pub selected : Bool → List ℕ → Span → Eval Selectors
-selected at_root text at s =
-    selected_by at (nested_in (at_root || is_at_root s.nesting.rules) s.nesting.parents (selectors_of text)) s
+selected at_root text span s =
+    selected_by span (nested_in (at_root || is_at_root s.nesting.rules) s.nesting.parents (selectors_of text)) s
 
 -- ---- `&`
 
 abbrev pub words_of : List Plain → List (List ℕ) → Span → Answer (List Plain)
-words_of done [] at = Ok done
-words_of done (text ∷ texts) at =
-    with (string_value text false at) (λ word. words_of (done ++ word ∷ []) texts at)
+words_of done [] span = Ok done
+words_of done (text ∷ texts) span =
+    with (string_value text false span) (λ word. words_of (done ++ word ∷ []) texts span)
 
 -- a space list of the texts of compounds and combinators
 unfoldable pub complex_of : List (List ℕ) → Span → Answer Plain
-complex_of texts at = with (words_of [] texts at) (λ words. list_value words separators.Space arounds.Nothing at)
+complex_of texts span = with (words_of [] texts span) (λ words. list_value words separators.Space arounds.Nothing span)
 
 abbrev pub complexes_of : List Plain → List (List (List ℕ)) → Span → Answer (List Plain)
-complexes_of done [] at = Ok done
-complexes_of done (texts ∷ more) at =
-    with (complex_of texts at) (λ complex. complexes_of (done ++ complex ∷ []) more at)
+complexes_of done [] span = Ok done
+complexes_of done (texts ∷ more) span =
+    with (complex_of texts span) (λ complex. complexes_of (done ++ complex ∷ []) more span)
 
 -- a comma list of them, and null where no rule is around
 unfoldable pub parent_by : Option Selectors → Span → Answer Plain
-parent_by None at = Ok N.Null
-parent_by (Some selectors) at =
-    with (complexes_of [] (all_units [] selectors) at)
-    (λ complexes. list_value complexes separators.Comma arounds.Nothing at)
+parent_by None span = Ok N.Null
+parent_by (Some selectors) span =
+    with (complexes_of [] (all_units [] selectors) span)
+    (λ complexes. list_value complexes separators.Comma arounds.Nothing span)
 
 unfoldable pub parent : Span → Eval Plain
-parent at s = answer (parent_by s.nesting.parents at) s
+parent span s = answer (parent_by s.nesting.parents span) s

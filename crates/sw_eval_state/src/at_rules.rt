@@ -43,14 +43,14 @@ fn media_by(
     }
 }
 
-fn queries_by(asked: Result<Queries, MediaFault>, at: &Span) -> Result<Queries, Stop>
-    ensures { (said : Asked) (s : State) → IsAnswer asked said → IsReturn result s (queries_by at.now said s) }
+fn queries_by(asked: Result<Queries, MediaFault>, span: &Span) -> Result<Queries, Stop>
+    ensures { (said : Asked) (s : State) → IsAnswer asked said → IsReturn result s (queries_by span.now said s) }
 {
     match asked {
         Ok(queries) => Ok(queries),
-        Err(MediaFault::BadQuery) => fails(FaultCode::Syntax, at),
-        Err(MediaFault::MediaJoin) => fails(FaultCode::MediaJoin, at),
-        Err(MediaFault::TooLarge) => fails(FaultCode::TooLarge, at),
+        Err(MediaFault::BadQuery) => fails(FaultCode::Syntax, span),
+        Err(MediaFault::MediaJoin) => fails(FaultCode::MediaJoin, span),
+        Err(MediaFault::TooLarge) => fails(FaultCode::TooLarge, span),
         Err(MediaFault::Memory) => Err(Stop::Memory),
     }
 }
@@ -66,43 +66,43 @@ pub fn bare_name(alloc: Global, name: &Name) -> Result<Name, Memory>
 
 impl State {
     // The queries of a `@media` here, joined with those around it.
-    fn media_queries(&self, alloc: Global, text: &Name, at: &Span) -> Result<Queries, Stop>
-        ensures { IsReturn result self.now (media_queries text.now at.now self.now) }
+    fn media_queries(&self, alloc: Global, text: &Name, span: &Span) -> Result<Queries, Stop>
+        ensures { IsReturn result self.now (media_queries text.now span.now self.now) }
     {
-        queries_by(media_by(alloc, &self.nesting.media, text), at)
+        queries_by(media_by(alloc, &self.nesting.media, text), span)
     }
 
     // Opens a `@media`, which takes the place of the one around it.
     #[tactic(auto, unfolding(crate::specs::AtRules::media_put))]
-    fn put_media(&mut self, name: Name, prelude: Name, at: &Span) -> Result<(), Stop>
-        ensures { IsReturn result self.new (media_put name prelude at.now self.old) }
+    fn put_media(&mut self, name: Name, prelude: Name, span: &Span) -> Result<(), Stop>
+        ensures { IsReturn result self.new (media_put name prelude span.now self.old) }
     {
         match self.css.bubble(name, prelude) {
             Ok(()) => Ok(()),
-            Err(TreeFault::TooLarge) => fails(FaultCode::TooLarge, at),
+            Err(TreeFault::TooLarge) => fails(FaultCode::TooLarge, span),
             Err(TreeFault::Memory) => Err(Stop::Memory),
         }
     }
 
     // Opens any other at-rule.
     #[tactic(auto, unfolding(crate::specs::AtRules::at_put))]
-    fn put_at(&mut self, name: Name, prelude: Name, at: &Span) -> Result<(), Stop>
-        ensures { IsReturn result self.new (at_put name prelude at.now self.old) }
+    fn put_at(&mut self, name: Name, prelude: Name, span: &Span) -> Result<(), Stop>
+        ensures { IsReturn result self.new (at_put name prelude span.now self.old) }
     {
         match self.css.open_at(name, prelude) {
             Ok(()) => Ok(()),
-            Err(TreeFault::TooLarge) => fails(FaultCode::TooLarge, at),
+            Err(TreeFault::TooLarge) => fails(FaultCode::TooLarge, span),
             Err(TreeFault::Memory) => Err(Stop::Memory),
         }
     }
 
     // Opens a `@media` with these queries.
-    fn open_media(&mut self, alloc: Global, queries: Queries, at: &Span) -> Result<(), Stop>
-        ensures { IsReturn result self.new (media_opened queries at.now self.old) }
+    fn open_media(&mut self, alloc: Global, queries: Queries, span: &Span) -> Result<(), Stop>
+        ensures { IsReturn result self.new (media_opened queries span.now self.old) }
     {
         let name = Name::new(alloc, "media")?;
         let text = queries.write(alloc)?;
-        self.put_media(name, text, at)?;
+        self.put_media(name, text, span)?;
         let queries = Shared::new(alloc, queries)?;
         let around = self.nesting.share()?;
         self.nest(in_media(queries, around))
@@ -115,24 +115,24 @@ impl State {
         alloc: Global,
         text: &Name,
         text_at: &Span,
-        at: &Span,
+        span: &Span,
     ) -> Result<bool, Stop>
-        ensures { IsReturn result self.new (media_entered text.now text_at.now at.now self.old) }
+        ensures { IsReturn result self.new (media_entered text.now text_at.now span.now self.old) }
     {
         let queries = self.media_queries(alloc, text, text_at)?;
         if queries.is_empty() {
             return Ok(false);
         }
-        self.open_media(alloc, queries, at)?;
+        self.open_media(alloc, queries, span)?;
         Ok(true)
     }
 
     /// Opens any other at-rule with a block.
-    pub fn enter_at_rule(&mut self, name: Name, prelude: Name, at: &Span) -> Result<(), Stop>
-        ensures { IsReturn result self.new (at_entered name prelude at.now self.old) }
+    pub fn enter_at_rule(&mut self, name: Name, prelude: Name, span: &Span) -> Result<(), Stop>
+        ensures { IsReturn result self.new (at_entered name prelude span.now self.old) }
     {
         let frames = is_keyframes(name.as_str());
-        self.put_at(name, prelude, at)?;
+        self.put_at(name, prelude, span)?;
         let around = self.nesting.share()?;
         self.nest(in_at_rule(frames, around))
     }
@@ -150,35 +150,35 @@ impl State {
 
     /// An at-rule without a block is a line where it stands.
     #[tactic(auto, unfolding(crate::specs::AtRules::at_lined))]
-    pub fn line_at_rule(&mut self, name: Name, prelude: Name, at: &Span) -> Result<(), Stop>
-        ensures { IsReturn result self.new (at_lined name prelude at.now self.old) }
+    pub fn line_at_rule(&mut self, name: Name, prelude: Name, span: &Span) -> Result<(), Stop>
+        ensures { IsReturn result self.new (at_lined name prelude span.now self.old) }
     {
         match self.css.at(name, prelude) {
             Ok(()) => Ok(()),
-            Err(TreeFault::TooLarge) => fails(FaultCode::TooLarge, at),
+            Err(TreeFault::TooLarge) => fails(FaultCode::TooLarge, span),
             Err(TreeFault::Memory) => Err(Stop::Memory),
         }
     }
 
     // A plain CSS import.
     #[tactic(auto, unfolding(crate::specs::AtRules::imported_one))]
-    fn import_one(&mut self, text: Name, at: &Span) -> Result<(), Stop>
-        ensures { IsReturn result self.new (imported_one text at.now self.old) }
+    fn import_one(&mut self, text: Name, span: &Span) -> Result<(), Stop>
+        ensures { IsReturn result self.new (imported_one text span.now self.old) }
     {
         match self.css.import(text) {
             Ok(()) => Ok(()),
-            Err(TreeFault::TooLarge) => fails(FaultCode::TooLarge, at),
+            Err(TreeFault::TooLarge) => fails(FaultCode::TooLarge, span),
             Err(TreeFault::Memory) => Err(Stop::Memory),
         }
     }
 
     /// Plain CSS imports.
-    pub fn import_all(&mut self, texts: &[Name], at: &Span) -> Result<(), Stop>
-        ensures { IsReturn result self.new (imported_all texts.now at.now self.old) }
+    pub fn import_all(&mut self, texts: &[Name], span: &Span) -> Result<(), Stop>
+        ensures { IsReturn result self.new (imported_all texts.now span.now self.old) }
     {
         'texts: for one in texts {
             let text = one.share()?;
-            self.import_one(text, at)?;
+            self.import_one(text, span)?;
         }
         Ok(())
     }

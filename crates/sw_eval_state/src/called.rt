@@ -25,24 +25,24 @@ pub enum Called {
 }
 
 // What a name means that no function of a sheet has.
-fn global_by(name: &Name, at: &Span) -> Result<Called, Stop>
-    ensures { (s : State) → IsReturn result s (global_by (found None K.Function name.now) at.now s) }
+fn global_by(name: &Name, span: &Span) -> Result<Called, Stop>
+    ensures { (s : State) → IsReturn result s (global_by (found None K.Function name.now) span.now s) }
 {
     match find(None, Kind::Function, name.as_str()) {
         Meant::Known(function) => Ok(Called::BuiltIn(function)),
-        Meant::LeftOut => fails(FaultCode::LeftOut, at),
+        Meant::LeftOut => fails(FaultCode::LeftOut, span),
         Meant::NoSuch => Ok(Called::Css),
     }
 }
 
 // What the name of a member of a built-in module means.
-fn built_in_by(module: &Name, name: &Name, at: &Span, name_at: &Span) -> Result<Called, Stop>
+fn built_in_by(module: &Name, name: &Name, span: &Span, name_at: &Span) -> Result<Called, Stop>
     ensures { (s : State) → IsReturn result s
-        (built_in_by (found (Some module.now) K.Function name.now) at.now name_at.now s) }
+        (built_in_by (found (Some module.now) K.Function name.now) span.now name_at.now s) }
 {
     match find(Some(module.as_str()), Kind::Function, name.as_str()) {
         Meant::Known(function) => Ok(Called::BuiltIn(function)),
-        Meant::LeftOut => fails(FaultCode::LeftOut, at),
+        Meant::LeftOut => fails(FaultCode::LeftOut, span),
         Meant::NoSuch => fails(FaultCode::UnknownMember, name_at),
     }
 }
@@ -50,22 +50,22 @@ fn built_in_by(module: &Name, name: &Name, at: &Span, name_at: &Span) -> Result<
 /// What a call without a namespace means, by the answer to the question of this number.
 pub fn function_by(
     name: &Name,
-    at: &Span,
+    span: &Span,
     name_at: &Span,
     number: usize,
     answer: Answer,
 ) -> Result<Called, Stop>
     requires { number < 1000000 }
-    ensures { (s : State) → IsReturn result s (function_by name.now at.now name_at.now number answer s) }
+    ensures { (s : State) → IsReturn result s (function_by name.now span.now name_at.now number answer s) }
 {
     match answer {
         Answer::Callable { body, .. } => Ok(Called::Sheet(Found {
             site: number + 1,
             callable: body,
         })),
-        Answer::BuiltIn { module, name } => built_in_by(&module, &name, at, name_at),
-        Answer::NoMember => global_by(name, at),
-        Answer::LeftOut => fails(FaultCode::LeftOut, at),
+        Answer::BuiltIn { module, name } => built_in_by(&module, &name, span, name_at),
+        Answer::NoMember => global_by(name, span),
+        Answer::LeftOut => fails(FaultCode::LeftOut, span),
         Answer::Conflict => fails(FaultCode::MemberConflict, name_at),
         _ => fails(FaultCode::UnknownMember, name_at),
     }
@@ -73,23 +73,23 @@ pub fn function_by(
 
 /// What a call behind a namespace means.
 pub fn member_by(
-    at: &Span,
+    span: &Span,
     name_at: &Span,
     space_at: &Span,
     number: usize,
     answer: Answer,
 ) -> Result<Called, Stop>
     requires { number < 1000000 }
-    ensures { (s : State) → IsReturn result s (member_by at.now name_at.now space_at.now number answer s) }
+    ensures { (s : State) → IsReturn result s (member_by span.now name_at.now space_at.now number answer s) }
 {
     match answer {
         Answer::Callable { body, .. } => Ok(Called::Sheet(Found {
             site: number + 1,
             callable: body,
         })),
-        Answer::BuiltIn { module, name } => built_in_by(&module, &name, at, name_at),
+        Answer::BuiltIn { module, name } => built_in_by(&module, &name, span, name_at),
         Answer::NoNamespace => fails(FaultCode::UnknownNamespace, space_at),
-        Answer::LeftOut => fails(FaultCode::LeftOut, at),
+        Answer::LeftOut => fails(FaultCode::LeftOut, span),
         Answer::Conflict => fails(FaultCode::MemberConflict, name_at),
         _ => fails(FaultCode::UnknownMember, name_at),
     }
@@ -97,14 +97,14 @@ pub fn member_by(
 
 /// Which mixin is included.
 pub fn mixin_by(
-    at: &Span,
+    span: &Span,
     name_at: &Span,
     space_at: &Span,
     number: usize,
     answer: Answer,
 ) -> Result<Found, Stop>
     requires { number < 1000000 }
-    ensures { (s : State) → IsReturn result s (mixin_by at.now name_at.now space_at.now number answer s) }
+    ensures { (s : State) → IsReturn result s (mixin_by span.now name_at.now space_at.now number answer s) }
 {
     match answer {
         Answer::Callable { body, .. } => Ok(Found {
@@ -112,7 +112,7 @@ pub fn mixin_by(
             callable: body,
         }),
         Answer::NoNamespace => fails(FaultCode::UnknownNamespace, space_at),
-        Answer::LeftOut => fails(FaultCode::LeftOut, at),
+        Answer::LeftOut => fails(FaultCode::LeftOut, span),
         Answer::Conflict => fails(FaultCode::MemberConflict, name_at),
         _ => fails(FaultCode::UnknownMember, name_at),
     }

@@ -50,11 +50,11 @@ impl State {
 }
 
 /// What a function gives, whose call stands here.
-pub fn returned(value: Option<Value>, at: &Span) -> Result<Value, Stop>
-    ensures { (s : State) → IsReturn result s (returned value at.now s) }
+pub fn returned(value: Option<Value>, span: &Span) -> Result<Value, Stop>
+    ensures { (s : State) → IsReturn result s (returned value span.now s) }
 {
     match value {
         Some(value) => Ok(value),
-        None => fails(FaultCode::NoReturn, at),
+        None => fails(FaultCode::NoReturn, span),
     }
 }

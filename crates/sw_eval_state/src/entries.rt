@@ -37,11 +37,11 @@ pub fn function_entry(
     alloc: Global,
     function: &Found,
     passed: &Passed,
-    at: &Span,
+    span: &Span,
 ) -> Result<Entry, Refused>
-    ensures { Returns result (function_entry function.now passed.now at.now) }
+    ensures { Returns result (function_entry function.now passed.now span.now) }
 {
-    let slots = bound(alloc, &function.callable.get().params, passed, at)?;
+    let slots = bound(alloc, &function.callable.get().params, passed, span)?;
     Ok(Entry {
         here: function_here(function.site),
         mark: None,
@@ -55,11 +55,11 @@ pub fn block_entry(
     alloc: Global,
     block: &Block,
     passed: &Passed,
-    at: &Span,
+    span: &Span,
 ) -> Result<Entry, Refused>
-    ensures { Returns result (block_entry block.now passed.now at.now) }
+    ensures { Returns result (block_entry block.now passed.now span.now) }
 {
-    let slots = bound(alloc, &block.content.get().params, passed, at)?;
+    let slots = bound(alloc, &block.content.get().params, passed, span)?;
     let here = block.here()?;
     Ok(Entry {
         here,
@@ -100,14 +100,14 @@ impl State {
         mixin: &Found,
         content: &Option<Shared<Content>>,
         passed: &Passed,
-        at: &Span,
+        span: &Span,
     ) -> Result<Entry, Stop>
-        ensures { IsReturn result self.now (mixin_entry mixin.now content.now passed.now at.now self.now) }
+        ensures { IsReturn result self.now (mixin_entry mixin.now content.now passed.now span.now self.now) }
     {
         if is_lost(content, mixin.callable.get()) {
-            return fails(FaultCode::ArgumentFault, at);
+            return fails(FaultCode::ArgumentFault, span);
         }
-        let slots = stopped(bound(alloc, &mixin.callable.get().params, passed, at))?;
+        let slots = stopped(bound(alloc, &mixin.callable.get().params, passed, span))?;
         Ok(self.given_entry(alloc, mixin, content, slots)?)
     }
 }

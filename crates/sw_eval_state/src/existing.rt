@@ -43,42 +43,42 @@ fn text_in(value: &Value) -> Option<&Name>
 }
 
 /// The name that the first argument of a call is that stands here, with `-` for each `_`.
-pub fn name_in(alloc: Global, arguments: &[(Name, Value)], at: &Span) -> Result<Name, Refused>
-    ensures { Returns result (name_in arguments.now at.now) }
+pub fn name_in(alloc: Global, arguments: &[(Name, Value)], span: &Span) -> Result<Name, Refused>
+    ensures { Returns result (name_in arguments.now span.now) }
 {
     match arguments {
         [first, ..] => match text_in(&first.1) {
             Some(text) => Ok(Name::dashed(alloc, text.as_str())?),
-            None => refuses(FaultCode::TypeFault, at),
+            None => refuses(FaultCode::TypeFault, span),
         },
-        [] => refuses(FaultCode::ArgumentFault, at),
+        [] => refuses(FaultCode::ArgumentFault, span),
     }
 }
 
 /// The namespace that the second argument of a call is that stands here, where it isn't null.
-pub fn module_in(arguments: &[(Name, Value)], at: &Span) -> Result<Option<Name>, Refused>
-    ensures { Returns result (module_in arguments.now at.now) }
+pub fn module_in(arguments: &[(Name, Value)], span: &Span) -> Result<Option<Name>, Refused>
+    ensures { Returns result (module_in arguments.now span.now) }
 {
     match arguments {
         [_, second, ..] => match second.1.node() {
             Node::Null => Ok(None),
             Node::Text { text, .. } => Ok(Some(text.share()?)),
-            _ => refuses(FaultCode::TypeFault, at),
+            _ => refuses(FaultCode::TypeFault, span),
         },
         _ => Ok(None),
     }
 }
 
 /// Whether a member was found, in a call that stands here.
-pub fn exists_by(answer: &Answer, at: &Span) -> Result<bool, Stop>
-    ensures { (s : State) → IsReturn result s (exists_by answer.now at.now s) }
+pub fn exists_by(answer: &Answer, span: &Span) -> Result<bool, Stop>
+    ensures { (s : State) → IsReturn result s (exists_by answer.now span.now s) }
 {
     match answer {
         Answer::Owner { .. } => Ok(true),
         Answer::Callable { .. } => Ok(true),
         Answer::BuiltIn { .. } => Ok(true),
-        Answer::NoNamespace => fails(FaultCode::UnknownNamespace, at),
-        Answer::Conflict => fails(FaultCode::MemberConflict, at),
+        Answer::NoNamespace => fails(FaultCode::UnknownNamespace, span),
+        Answer::Conflict => fails(FaultCode::MemberConflict, span),
         _ => Ok(false),
     }
 }
@@ -142,13 +142,13 @@ impl State {
     }
 
     /// Whether the running mixin was given a content block, in a call that stands here.
-    pub fn content_exists(&self, at: &Span) -> Result<bool, Stop>
-        ensures { IsReturn result self.now (content_exists at.now self.now) }
+    pub fn content_exists(&self, span: &Span) -> Result<bool, Stop>
+        ensures { IsReturn result self.now (content_exists span.now self.now) }
     {
         match self.here.inside {
             Inside::Mixin => Ok(self.here.content.is_some()),
-            Inside::Sheet => fails(FaultCode::ArgumentFault, at),
-            Inside::Function => fails(FaultCode::ArgumentFault, at),
+            Inside::Sheet => fails(FaultCode::ArgumentFault, span),
+            Inside::Function => fails(FaultCode::ArgumentFault, span),
         }
     }
 }

@@ -8,8 +8,8 @@ use sw_eval_questions::Stop;
 use sw_text::{FaultCode, Span};
 
 /// Ends with a fault at this place, whatever was made so far.
-pub fn fails<T>(code: FaultCode, at: &Span) -> Result<T, Stop>
-    ensures { (s : State) → IsReturn result s (Fails (fault code at.now)) }
+pub fn fails<T>(code: FaultCode, span: &Span) -> Result<T, Stop>
+    ensures { (s : State) → IsReturn result s (Fails (fault code span.now)) }
 {
-    sw_eval_questions::fails(code, at)
+    sw_eval_questions::fails(code, span)
 }

@@ -60,11 +60,11 @@ impl State {
         alloc: Global,
         names: &[Name],
         element: &Value,
-        at: &Span,
+        span: &Span,
     ) -> Result<(), Stop>
-        ensures { IsReturn result self.new (apart names.now element.now at.now self.old) }
+        ensures { IsReturn result self.new (apart names.now element.now span.now self.old) }
     {
-        let values = taken_apart(alloc, names.len(), element, at)?;
+        let values = taken_apart(alloc, names.len(), element, span)?;
         self.set_all(names, values.as_slice())
     }
 

@@ -38,45 +38,45 @@ pub(crate) fn close(css: &mut CssTree)
 impl State {
     // Opens a rule with these selectors.
     #[tactic(auto, unfolding(crate::specs::Output::opened))]
-    pub(crate) fn opened(&mut self, selectors: Name, at: &Span) -> Result<(), Stop>
-        ensures { IsReturn result self.new (opened selectors at.now self.old) }
+    pub(crate) fn opened(&mut self, selectors: Name, span: &Span) -> Result<(), Stop>
+        ensures { IsReturn result self.new (opened selectors span.now self.old) }
     {
         match self.css.open_rule(selectors) {
             Ok(()) => Ok(()),
-            Err(TreeFault::TooLarge) => fails(FaultCode::TooLarge, at),
+            Err(TreeFault::TooLarge) => fails(FaultCode::TooLarge, span),
             Err(TreeFault::Memory) => Err(Stop::Memory),
         }
     }
 
     // A line of the open rule.
-    fn lining(&mut self, property: Name, text: Name, at: &Span) -> Result<(), Stop>
+    fn lining(&mut self, property: Name, text: Name, span: &Span) -> Result<(), Stop>
         requires { is_open self.old.css ≡ true }
-        ensures { IsReturn result self.new (lining property text at.now self.old) }
+        ensures { IsReturn result self.new (lining property text span.now self.old) }
     {
         match self.css.declare(property, text) {
             Ok(()) => Ok(()),
-            Err(TreeFault::TooLarge) => fails(FaultCode::TooLarge, at),
+            Err(TreeFault::TooLarge) => fails(FaultCode::TooLarge, span),
             Err(TreeFault::Memory) => Err(Stop::Memory),
         }
     }
 
     /// A declaration of this text.
     #[tactic(auto, unfolding(crate::specs::Output::declaring))]
-    pub fn declaring(&mut self, property: Name, text: Name, at: &Span) -> Result<(), Stop>
-        ensures { IsReturn result self.new (declaring property text at.now self.old) }
+    pub fn declaring(&mut self, property: Name, text: Name, span: &Span) -> Result<(), Stop>
+        ensures { IsReturn result self.new (declaring property text span.now self.old) }
     {
         if !self.css.is_open() {
-            return fails(FaultCode::BadPlace, at);
+            return fails(FaultCode::BadPlace, span);
         }
-        self.lining(property, text, at)
+        self.lining(property, text, span)
     }
 
     // A declaration of this text, if there is one.
-    fn declaring_by(&mut self, property: Name, text: Option<Name>, at: &Span) -> Result<(), Stop>
-        ensures { IsReturn result self.new (declaring_by property text at.now self.old) }
+    fn declaring_by(&mut self, property: Name, text: Option<Name>, span: &Span) -> Result<(), Stop>
+        ensures { IsReturn result self.new (declaring_by property text span.now self.old) }
     {
         match text {
-            Some(text) => self.declaring(property, text, at),
+            Some(text) => self.declaring(property, text, span),
             None => Ok(()),
         }
     }
@@ -88,38 +88,38 @@ impl State {
         property: Name,
         value: &Value,
         value_at: &Span,
-        at: &Span,
+        span: &Span,
     ) -> Result<(), Stop>
-        ensures { IsReturn result self.new (written property value.now value_at.now at.now self.old) }
+        ensures { IsReturn result self.new (written property value.now value_at.now span.now self.old) }
     {
         let text = declaration_text(alloc, value, value_at)?;
-        self.declaring_by(property, text, at)
+        self.declaring_by(property, text, span)
     }
 
     /// A comment is a line where it stands.
     #[tactic(auto, unfolding(crate::specs::Output::commented))]
-    pub fn commented(&mut self, text: Name, at: &Span) -> Result<(), Stop>
-        ensures { IsReturn result self.new (commented text at.now self.old) }
+    pub fn commented(&mut self, text: Name, span: &Span) -> Result<(), Stop>
+        ensures { IsReturn result self.new (commented text span.now self.old) }
     {
         match self.css.comment(text) {
             Ok(()) => Ok(()),
-            Err(TreeFault::TooLarge) => fails(FaultCode::TooLarge, at),
+            Err(TreeFault::TooLarge) => fails(FaultCode::TooLarge, span),
             Err(TreeFault::Memory) => Err(Stop::Memory),
         }
     }
 
     /// The bytes of a message.
     #[tactic(auto, unfolding(crate::specs::Output::noted))]
-    pub fn noted(&mut self, text: &Name, at: &Span) -> Result<(), Stop>
-        ensures { IsReturn result self.new (noted text.now at.now self.old) }
+    pub fn noted(&mut self, text: &Name, span: &Span) -> Result<(), Stop>
+        ensures { IsReturn result self.new (noted text.now span.now self.old) }
     {
         let len = text.as_str().len();
         if len > MOST_BYTES {
-            return fails(FaultCode::TooLarge, at);
+            return fails(FaultCode::TooLarge, span);
         }
         match self.css.message(len as u32) {
             Ok(()) => Ok(()),
-            Err(TreeFault::TooLarge) => fails(FaultCode::TooLarge, at),
+            Err(TreeFault::TooLarge) => fails(FaultCode::TooLarge, span),
             Err(TreeFault::Memory) => Err(Stop::Memory),
         }
     }

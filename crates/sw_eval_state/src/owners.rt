@@ -13,45 +13,45 @@ use sw_world::Answer;
 /// The number of the owner that an answer names.
 pub fn owner(
     unknown: FaultCode,
-    at: &Span,
+    span: &Span,
     space_at: &Span,
     number: usize,
     answer: &Answer,
 ) -> Result<usize, Stop>
-    ensures { (s : State) → IsReturn result s (owner unknown at.now space_at.now number answer.now s) }
+    ensures { (s : State) → IsReturn result s (owner unknown span.now space_at.now number answer.now s) }
 {
     match answer {
         Answer::Owner { .. } => Ok(number),
         Answer::NoNamespace => fails(FaultCode::UnknownNamespace, space_at),
-        Answer::LeftOut => fails(FaultCode::LeftOut, at),
-        Answer::Conflict => fails(FaultCode::MemberConflict, at),
-        _ => fails(unknown, at),
+        Answer::LeftOut => fails(FaultCode::LeftOut, span),
+        Answer::Conflict => fails(FaultCode::MemberConflict, span),
+        _ => fails(unknown, span),
     }
 }
 
 /// The owner of a variable that is assigned.
 pub fn target(
-    at: &Span,
+    span: &Span,
     name_at: &Span,
     space_at: &Span,
     number: usize,
     answer: &Answer,
 ) -> Result<usize, Stop>
-    ensures { (s : State) → IsReturn result s (target at.now name_at.now space_at.now number answer.now s) }
+    ensures { (s : State) → IsReturn result s (target span.now name_at.now space_at.now number answer.now s) }
 {
     match answer {
-        Answer::BuiltIn { .. } => fails(FaultCode::NotConfigurable, at),
+        Answer::BuiltIn { .. } => fails(FaultCode::NotConfigurable, span),
         _ => owner(FaultCode::UnknownMember, name_at, space_at, number, answer),
     }
 }
 
 /// The value that an answer holds.
-pub fn got(at: &Span, answer: Answer) -> Result<Value, Stop>
-    ensures { (s : State) → IsReturn result s (got at.now answer s) }
+pub fn got(span: &Span, answer: Answer) -> Result<Value, Stop>
+    ensures { (s : State) → IsReturn result s (got span.now answer s) }
 {
     match answer {
         Answer::Value(value) => Ok(value),
-        _ => fails(FaultCode::UnknownVariable, at),
+        _ => fails(FaultCode::UnknownVariable, span),
     }
 }
 

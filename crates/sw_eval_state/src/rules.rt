@@ -17,14 +17,14 @@ use sw_selector::Selectors;
 use sw_text::{Name, Shared, Span};
 
 // The name of a property among those of another one.
-fn named_by(alloc: Global, prefix: &Option<Name>, name: Name, at: &Span) -> Result<Name, Refused>
-    ensures { Returns result (named_by prefix.now name at.now) }
+fn named_by(alloc: Global, prefix: &Option<Name>, name: Name, span: &Span) -> Result<Name, Refused>
+    ensures { Returns result (named_by prefix.now name span.now) }
 {
     match prefix {
         None => Ok(name),
         Some(prefix) => {
             let hyphen = Name::new(alloc, "-")?;
-            joined(alloc, &[prefix.share()?, hyphen, name], at)
+            joined(alloc, &[prefix.share()?, hyphen, name], span)
         }
     }
 }
@@ -80,11 +80,11 @@ impl State {
     }
 
     // Opens a rule, in which `&` is these selectors.
-    fn rule_opening(&mut self, alloc: Global, selectors: Selectors, at: &Span) -> Result<(), Stop>
-        ensures { IsReturn result self.new (rule_opening selectors at.now self.old) }
+    fn rule_opening(&mut self, alloc: Global, selectors: Selectors, span: &Span) -> Result<(), Stop>
+        ensures { IsReturn result self.new (rule_opening selectors span.now self.old) }
     {
         let text = selectors.write(alloc)?;
-        self.opened(text, at)?;
+        self.opened(text, span)?;
         let parents = Shared::new(alloc, selectors)?;
         let around = self.nesting.share()?;
         self.nest(in_rule(parents, around))
@@ -96,12 +96,12 @@ impl State {
         alloc: Global,
         text: &Name,
         text_at: &Span,
-        at: &Span,
+        span: &Span,
     ) -> Result<(), Stop>
-        ensures { IsReturn result self.new (frame_entered text.now text_at.now at.now self.old) }
+        ensures { IsReturn result self.new (frame_entered text.now text_at.now span.now self.old) }
     {
         let text = stopped(keyframe_text(alloc, text, text_at))?;
-        self.opened(text, at)?;
+        self.opened(text, span)?;
         let around = self.nesting.share()?;
         self.nest(in_frame(around))
     }
@@ -112,12 +112,12 @@ impl State {
         at_root: bool,
         text: &Name,
         text_at: &Span,
-        at: &Span,
+        span: &Span,
     ) -> Result<(), Stop>
-        ensures { IsReturn result self.new (style_entered at_root text.now text_at.now at.now self.old) }
+        ensures { IsReturn result self.new (style_entered at_root text.now text_at.now span.now self.old) }
     {
         let selectors = self.selected(alloc, at_root, text, text_at)?;
-        self.rule_opening(alloc, selectors, at)
+        self.rule_opening(alloc, selectors, span)
     }
 
     /// Opens a rule, in `@at-root` or not, whose selectors have this text, which stands at the first place; the rule
@@ -128,14 +128,14 @@ impl State {
         at_root: bool,
         text: &Name,
         text_at: &Span,
-        at: &Span,
+        span: &Span,
     ) -> Result<(), Stop>
-        ensures { IsReturn result self.new (rule_entered at_root text.now text_at.now at.now self.old) }
+        ensures { IsReturn result self.new (rule_entered at_root text.now text_at.now span.now self.old) }
     {
         if self.nesting.rules.are_keyframes() {
-            return self.enter_frame(alloc, text, text_at, at);
+            return self.enter_frame(alloc, text, text_at, span);
         }
-        self.enter_style(alloc, at_root, text, text_at, at)
+        self.enter_style(alloc, at_root, text, text_at, span)
     }
 
     /// Closes it.
@@ -148,10 +148,10 @@ impl State {
     }
 
     /// The whole name of a property.
-    pub fn full_name(&self, alloc: Global, name: Name, at: &Span) -> Result<Name, Stop>
-        ensures { IsReturn result self.now (full_name name at.now self.now) }
+    pub fn full_name(&self, alloc: Global, name: Name, span: &Span) -> Result<Name, Stop>
+        ensures { IsReturn result self.now (full_name name span.now self.now) }
     {
-        stopped(named_by(alloc, &self.nesting.prefix, name, at))
+        stopped(named_by(alloc, &self.nesting.prefix, name, span))
     }
 
     /// What follows stands among the properties of this name.

@@ -45,43 +45,43 @@ fn nested_in(
     }
 }
 
-fn selected_by(selection: Result<Selectors, SelectorFault>, at: &Span) -> Result<Selectors, Stop>
+fn selected_by(selection: Result<Selectors, SelectorFault>, span: &Span) -> Result<Selectors, Stop>
     ensures { (said : Selection) (s : State) → IsAnswer selection said
-        → IsReturn result s (selected_by at.now said s) }
+        → IsReturn result s (selected_by span.now said s) }
 {
     match selection {
         Ok(selectors) => Ok(selectors),
-        Err(SelectorFault::BadSelector) => fails(FaultCode::BadSelector, at),
-        Err(SelectorFault::NoParent) => fails(FaultCode::NoParent, at),
-        Err(SelectorFault::TooLarge) => fails(FaultCode::TooLarge, at),
+        Err(SelectorFault::BadSelector) => fails(FaultCode::BadSelector, span),
+        Err(SelectorFault::NoParent) => fails(FaultCode::NoParent, span),
+        Err(SelectorFault::TooLarge) => fails(FaultCode::TooLarge, span),
         Err(SelectorFault::Memory) => Err(Stop::Memory),
     }
 }
 
-fn words_of(alloc: Global, texts: &[Name], at: &Span) -> Result<List<Value>, Refused>
-    ensures { Returns result (words_of [] texts.now at.now) }
+fn words_of(alloc: Global, texts: &[Name], span: &Span) -> Result<List<Value>, Refused>
+    ensures { Returns result (words_of [] texts.now span.now) }
 {
     let mut done = List::new(alloc);
     'texts: for text in texts {
-        let word = string_value(text.share()?, false, at)?;
+        let word = string_value(text.share()?, false, span)?;
         done.push(word)?;
     }
     Ok(done)
 }
 
-fn complex_of(alloc: Global, texts: &[Name], at: &Span) -> Result<Value, Refused>
-    ensures { Returns result (complex_of texts.now at.now) }
+fn complex_of(alloc: Global, texts: &[Name], span: &Span) -> Result<Value, Refused>
+    ensures { Returns result (complex_of texts.now span.now) }
 {
-    let words = words_of(alloc, texts, at)?;
-    list_value(alloc, words, Separator::Space, Around::Nothing, at)
+    let words = words_of(alloc, texts, span)?;
+    list_value(alloc, words, Separator::Space, Around::Nothing, span)
 }
 
-fn complexes_of(alloc: Global, all: &[List<Name>], at: &Span) -> Result<List<Value>, Refused>
-    ensures { Returns result (complexes_of [] all.now at.now) }
+fn complexes_of(alloc: Global, all: &[List<Name>], span: &Span) -> Result<List<Value>, Refused>
+    ensures { Returns result (complexes_of [] all.now span.now) }
 {
     let mut done = List::new(alloc);
     'all: for texts in all {
-        let complex = complex_of(alloc, texts.as_slice(), at)?;
+        let complex = complex_of(alloc, texts.as_slice(), span)?;
         done.push(complex)?;
     }
     Ok(done)
@@ -90,16 +90,16 @@ fn complexes_of(alloc: Global, all: &[List<Name>], at: &Span) -> Result<List<Val
 fn parent_by(
     alloc: Global,
     parents: &Option<Shared<Selectors>>,
-    at: &Span,
+    span: &Span,
 ) -> Result<Value, Refused>
-    ensures { Returns result (parent_by parents.now at.now) }
+    ensures { Returns result (parent_by parents.now span.now) }
 {
     match parents {
         None => Ok(Value::null()),
         Some(selectors) => {
             let texts = selectors.get().parts(alloc)?;
-            let complexes = complexes_of(alloc, texts.as_slice(), at)?;
-            list_value(alloc, complexes, Separator::Comma, Around::Nothing, at)
+            let complexes = complexes_of(alloc, texts.as_slice(), span)?;
+            list_value(alloc, complexes, Separator::Comma, Around::Nothing, span)
         }
     }
 }
@@ -112,18 +112,18 @@ impl State {
         alloc: Global,
         at_root: bool,
         text: &Name,
-        at: &Span,
+        span: &Span,
     ) -> Result<Selectors, Stop>
-        ensures { IsReturn result self.now (selected at_root text.now at.now self.now) }
+        ensures { IsReturn result self.now (selected at_root text.now span.now self.now) }
     {
         let at_root = at_root || self.nesting.rules.is_at_root();
-        selected_by(nested_in(alloc, at_root, &self.nesting.parents, text), at)
+        selected_by(nested_in(alloc, at_root, &self.nesting.parents, text), span)
     }
 
     /// What `&` is.
-    pub fn parent(&self, alloc: Global, at: &Span) -> Result<Value, Stop>
-        ensures { IsReturn result self.now (parent at.now self.now) }
+    pub fn parent(&self, alloc: Global, span: &Span) -> Result<Value, Stop>
+        ensures { IsReturn result self.now (parent span.now self.now) }
     {
-        stopped(parent_by(alloc, &self.nesting.parents, at))
+        stopped(parent_by(alloc, &self.nesting.parents, span))
     }
 }

@@ -143,11 +143,11 @@ impl State {
 
     /// Takes one of the turns that are left.
     #[tactic(auto, unfolding(crate::specs::Begin::spent))]
-    pub fn spend(&mut self, at: &Span) -> Result<(), Stop>
-        ensures { IsReturn result self.new (spent at.now self.old) }
+    pub fn spend(&mut self, span: &Span) -> Result<(), Stop>
+        ensures { IsReturn result self.new (spent span.now self.old) }
     {
         if self.turns == 0 {
-            return fails(FaultCode::Turns, at);
+            return fails(FaultCode::Turns, span);
         }
         self.turns -= 1;
         Ok(())

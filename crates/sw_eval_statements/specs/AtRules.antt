@@ -31,8 +31,8 @@ module _ (does : Statement → Eval (Option Plain)) where
 
   -- an at-rule of this name and prelude, with its block or without one
   abbrev pub block_by : List ℕ → List ℕ → Option (List Statement) → Span → Eval (Option Plain)
-  block_by name prelude (Some xs) at s = bind (at_entered name prelude at s) (λ u. nested_block does xs u.1)
-  block_by name prelude None at s = bind (at_lined name prelude at s) done
+  block_by name prelude (Some xs) span s = bind (at_entered name prelude span s) (λ u. nested_block does xs u.1)
+  block_by name prelude None span s = bind (at_lined name prelude span s) done
 
 module _ (value : Parens → Expr → Eval Plain) (does : Statement → Eval (Option Plain)) where
   -- none of these stands among nested properties
@@ -53,13 +53,13 @@ module _ (value : Parens → Expr → Eval Plain) (does : Statement → Eval (Op
 
   -- with a selector
   unfoldable pub root_with : Text → List Statement → Span → Eval (Option Plain)
-  root_with x xs at s =
+  root_with x xs span s =
       bind (sheet_text value x s)
-      (λ t. bind (rule_entered true t.0 x.span at t.1) (λ u. nested_block does xs u.1))
+      (λ t. bind (rule_entered true t.0 x.span span t.1) (λ u. nested_block does xs u.1))
 
   abbrev pub root_by : Option Text → List Statement → Span → Eval (Option Plain)
-  root_by (Some x) xs at s = root_with x xs at s
-  root_by None xs at s = root_without does xs s
+  root_by (Some x) xs span s = root_with x xs span s
+  root_by None xs span s = root_without does xs s
 
   unfoldable pub at_root : AtRoot → Eval (Option Plain)
   at_root x s =

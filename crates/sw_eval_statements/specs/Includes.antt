@@ -32,8 +32,8 @@ use Rattle.sw_eval_walk.specs.Callees.{mixin_called}
 module _ (value : Parens → Expr → Eval Plain) (does : Statement → Eval (Option Plain)) where
   -- the body of what is called, whose call stands here
   unfoldable pub run_body : Span → Entry → List Param → List Statement → Eval (Option Plain)
-  run_body at e params xs s =
-      bind (spent at s)
+  run_body span e params xs s =
+      bind (spent span s)
       (λ t. bind (fill value params e.slots (opened e.here e.mark t.1))
       (λ u. bind (block does xs u.1) (λ r. Gives (r.0, closed r.1))))
 
@@ -41,20 +41,20 @@ module _ (value : Parens → Expr → Eval Plain) (enter : Span → Entry → Li
   where
     -- the body of this mixin, which is given a content block that is written here
     unfoldable pub included : Found → List Argument → Option Content → Span → Eval (Option Plain)
-    included f args content at s =
+    included f args content span s =
         bind (arguments value P.Outside args none_passed s)
-        (λ p. bind (mixin_entry f content p.0 at p.1)
-        (λ e. enter at e.0 f.callable.params.items f.callable.block e.1))
+        (λ p. bind (mixin_entry f content p.0 span p.1)
+        (λ e. enter span e.0 f.callable.params.items f.callable.block e.1))
 
     unfoldable pub include : Mixin → Option Content → Span → Eval (Option Plain)
-    include x content at s = bind (mixin_called x at s) (λ f. included f.0 x.arguments content at f.1)
+    include x content span s = bind (mixin_called x span s) (λ f. included f.0 x.arguments content span f.1)
 
     -- the body of the content block that the running mixin was given
     unfoldable pub content_run : Block → List Argument → Span → Eval (Option Plain)
-    content_run b args at s =
+    content_run b args span s =
         bind (arguments value P.Outside args none_passed s)
-        (λ p. bind (answer (block_entry b p.0 at) p.1)
-        (λ e. enter at e.0 (out-Block b).content.params.items (out-Block b).content.block e.1))
+        (λ p. bind (answer (block_entry b p.0 span) p.1)
+        (λ e. enter span e.0 (out-Block b).content.params.items (out-Block b).content.block e.1))
 
     -- nothing where it was given none
     abbrev pub content_by : ContentCall → Option Block → Eval (Option Plain)

@@ -26,13 +26,13 @@ kind_of level.Error = kind.Fatal
 
 -- an error ends the body, once it is said
 abbrev pub said_by : Level → Span → Eval (Option Plain)
-said_by level.Warn at s = Gives (None, s)
-said_by level.Debug at s = Gives (None, s)
-said_by level.Error at s = Fails (fault C.UserError at)
+said_by level.Warn span s = Gives (None, s)
+said_by level.Debug span s = Gives (None, s)
+said_by level.Error span s = Fails (fault C.UserError span)
 
 unfoldable pub said : Level → List ℕ → Span → Eval (Option Plain)
-said how text at s =
-    bind (noted text at s) (λ n. bind (asking (Says (kind_of how) at text) at n.1) (λ a. said_by how at a.1))
+said how text span s =
+    bind (noted text span s) (λ n. bind (asking (Says (kind_of how) span text) span n.1) (λ a. said_by how span a.1))
 
 -- `value` is the level below
 unfoldable pub saying : (Parens → Expr → Eval Plain) → Say → Eval (Option Plain)

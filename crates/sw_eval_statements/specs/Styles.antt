@@ -33,7 +33,7 @@ module _ (value : Parens → Expr → Eval Plain) where
 
   -- a value that is written as this property; the statement stands here
   unfoldable pub valued : List ℕ → Expr → Span → Eval (Unit {0})
-  valued name e at s = bind (value P.Outside e s) (λ v. written name v.0 e.span at v.1)
+  valued name e span s = bind (value P.Outside e s) (λ v. written name v.0 e.span span v.1)
 
   -- a declaration stands in a rule or an at-rule
   unfoldable pub declaration : Declaration → Eval (Option Plain)
@@ -51,8 +51,8 @@ module _ (value : Parens → Expr → Eval Plain) where
 
   -- the value of nested properties, where there is one
   abbrev pub maybe_valued : List ℕ → Option Expr → Span → Eval (Unit {0})
-  maybe_valued name None at s = Gives (tt, s)
-  maybe_valued name (Some e) at s = valued name e at s
+  maybe_valued name None span s = Gives (tt, s)
+  maybe_valued name (Some e) span s = valued name e span s
 
 module _ (does : Statement → Eval (Option Plain)) where
   -- the block of what was opened last, in a frame of its own; that is closed then

@@ -64,16 +64,16 @@ fn root_with<W: World, B: Below<W>>(
     below: B,
     selector: &Text,
     block: &[Statement],
-    at: &Span,
+    span: &Span,
     world: &mut W,
 ) -> Result<Option<Value>, Stop>
     requires { B.fits below }
-    ensures { Goes_on W.gives (root_with (B.values below) (B.statements below) selector.now block.now at.now) walk.old
+    ensures { Goes_on W.gives (root_with (B.values below) (B.statements below) selector.now block.now span.now) walk.old
         world.old result walk.new world.new }
 {
     let text = statement_text(walk, below, selector, world)?;
     walk.state
-        .enter_rule(walk.alloc, true, &text, &selector.span, at)?;
+        .enter_rule(walk.alloc, true, &text, &selector.span, span)?;
     nested_block(walk, below, block, world)
 }
 

@@ -72,15 +72,15 @@ fn fill<W: World, B: Below<W>>(
 pub fn run_body<W: World, B: Below<W>>(
     walk: &mut Walk,
     below: B,
-    at: &Span,
+    span: &Span,
     body: Body<'_>,
     world: &mut W,
 ) -> Result<Option<Value>, Stop>
     requires { B.fits below }
-    ensures { Goes_on W.gives (run_body (B.values below) (B.statements below) at.now body.entry.start.now body.entry.params.now
+    ensures { Goes_on W.gives (run_body (B.values below) (B.statements below) span.now body.entry.start.now body.entry.params.now
         body.entry.block.now) walk.old world.old result walk.new world.new }
 {
-    walk.state.spend(at)?;
+    walk.state.spend(span)?;
     walk.state.open(&body.start.here, body.start.mark)?;
     fill(walk, below, body.params, body.start.slots.as_slice(), world)?;
     let value = block(walk, below, body.block, world)?;
@@ -94,26 +94,26 @@ pub(crate) fn include<W: World, B: Below<W>>(
     below: B,
     mixin: &Mixin,
     content: &Option<Shared<Content>>,
-    at: &Span,
+    span: &Span,
     world: &mut W,
 ) -> Result<Option<Value>, Stop>
     requires { B.fits below }
-    ensures { Goes_on W.gives (include (B.values below) (B.bodies below) mixin.now content.now at.now) walk.old
+    ensures { Goes_on W.gives (include (B.values below) (B.bodies below) mixin.now content.now span.now) walk.old
         world.old result walk.new world.new }
 {
-    let found = walk.mixin_called(mixin, at, world)?;
+    let found = walk.mixin_called(mixin, span, world)?;
     let arguments = mixin.arguments.as_slice();
     let passed = arguments_of(walk, Level::outside(below), arguments, world)?;
     let entry = walk
         .state
-        .mixin_entry(walk.alloc, &found, content, &passed, at)?;
+        .mixin_entry(walk.alloc, &found, content, &passed, span)?;
     let callable = found.callable.get();
     let body = Body {
         start: &entry,
         params: callable.params.items.as_slice(),
         block: callable.block.as_slice(),
     };
-    below.enter(walk, at, body, world)
+    below.enter(walk, span, body, world)
 }
 
 // The body of the content block that the running mixin was given.
@@ -122,22 +122,22 @@ fn content_run<W: World, B: Below<W>>(
     below: B,
     block: &Block,
     arguments: &[Argument],
-    at: &Span,
+    span: &Span,
     world: &mut W,
 ) -> Result<Option<Value>, Stop>
     requires { B.fits below }
-    ensures { Goes_on W.gives (content_run (B.values below) (B.bodies below) block.now arguments.now at.now)
+    ensures { Goes_on W.gives (content_run (B.values below) (B.bodies below) block.now arguments.now span.now)
         walk.old world.old result walk.new world.new }
 {
     let passed = arguments_of(walk, Level::outside(below), arguments, world)?;
-    let entry = stopped(block_entry(walk.alloc, block, &passed, at))?;
+    let entry = stopped(block_entry(walk.alloc, block, &passed, span))?;
     let content = block.content.get();
     let body = Body {
         start: &entry,
         params: content.params.items.as_slice(),
         block: content.block.as_slice(),
     };
-    below.enter(walk, at, body, world)
+    below.enter(walk, span, body, world)
 }
 
 // `@content`: nothing where the mixin was given no block.

@@ -25,13 +25,13 @@ fn kind_of(level: SayLevel) -> SayKind
 }
 
 // What comes behind a message.
-fn said_by(level: SayLevel, at: &Span) -> Result<Option<Value>, Stop>
-    ensures { (s : State) → IsReturn result s (said_by level at.now s) }
+fn said_by(level: SayLevel, span: &Span) -> Result<Option<Value>, Stop>
+    ensures { (s : State) → IsReturn result s (said_by level span.now s) }
 {
     match level {
         SayLevel::Warn => Ok(None),
         SayLevel::Debug => Ok(None),
-        SayLevel::Error => fails(FaultCode::UserError, at),
+        SayLevel::Error => fails(FaultCode::UserError, span),
     }
 }
 
@@ -40,14 +40,14 @@ fn said<W: World>(
     walk: &mut Walk,
     level: SayLevel,
     text: Name,
-    at: &Span,
+    span: &Span,
     world: &mut W,
 ) -> Result<Option<Value>, Stop>
-    ensures { Goes_on W.gives (said level text at.now) walk.old world.old result walk.new world.new }
+    ensures { Goes_on W.gives (said level text span.now) walk.old world.old result walk.new world.new }
 {
-    walk.state.noted(&text, at)?;
-    let _said = walk.ask_say(kind_of(level), text, at, world)?;
-    said_by(level, at)
+    walk.state.noted(&text, span)?;
+    let _said = walk.ask_say(kind_of(level), text, span, world)?;
+    said_by(level, span)
 }
 
 // Says the value of an expression.

@@ -33,16 +33,16 @@ fn valued<W: World, B: Below<W>>(
     below: B,
     name: &Name,
     e: &Expr,
-    at: &Span,
+    span: &Span,
     world: &mut W,
 ) -> Result<(), Stop>
     requires { B.fits below }
-    ensures { Goes_on W.gives (valued (B.values below) name.now e.now at.now) walk.old world.old result walk.new
+    ensures { Goes_on W.gives (valued (B.values below) name.now e.now span.now) walk.old world.old result walk.new
         world.new }
 {
     let value = value_of(walk, Level::outside(below), e, world)?;
     let name = name.share()?;
-    walk.state.written(walk.alloc, name, &value, &e.span, at)
+    walk.state.written(walk.alloc, name, &value, &e.span, span)
 }
 
 // A declaration, which stands in a rule or an at-rule.
@@ -89,15 +89,15 @@ fn maybe_valued<W: World, B: Below<W>>(
     below: B,
     name: &Name,
     e: &Option<Expr>,
-    at: &Span,
+    span: &Span,
     world: &mut W,
 ) -> Result<(), Stop>
     requires { B.fits below }
-    ensures { Goes_on W.gives (maybe_valued (B.values below) name.now e.now at.now) walk.old world.old result
+    ensures { Goes_on W.gives (maybe_valued (B.values below) name.now e.now span.now) walk.old world.old result
         walk.new world.new }
 {
     match e {
-        Some(e) => valued(walk, below, name, e, at, world),
+        Some(e) => valued(walk, below, name, e, span, world),
         None => Ok(()),
     }
 }

@@ -33,55 +33,55 @@ own c = record { site = 0; callable = c }
 -- ---- functions
 
 abbrev pub function_or : Option Callable → List ℕ → Span → Span → Eval Called
-function_or (Some c) name name_at at s = Gives (call.Sheet (own c), s)
-function_or None name name_at at s =
-    bind (finding None K.Function name at s) (λ a. function_by name at name_at a.0.0 a.0.1 a.1)
+function_or (Some c) name name_at span s = Gives (call.Sheet (own c), s)
+function_or None name name_at span s =
+    bind (finding None K.Function name span s) (λ a. function_by name span name_at a.0.0 a.0.1 a.1)
 
 -- a name without a namespace, which stands at the first place; the call stands at the second
 unfoldable pub function_called : List ℕ → Span → Span → Eval Called
-function_called name name_at at s = function_or (own_function (dashed name) s) (dashed name) name_at at s
+function_called name name_at span s = function_or (own_function (dashed name) s) (dashed name) name_at span s
 
 -- a name behind a namespace
 unfoldable pub member_called : Namespaced → List ℕ → Span → Span → Eval Called
-member_called space name name_at at s =
+member_called space name name_at span s =
     if is_private name then Fails (fault C.Private name_at)
-    else bind (finding (Some space.name) K.Function (dashed name) at s)
-    (λ a. member_by at name_at space.span a.0.0 a.0.1 a.1)
+    else bind (finding (Some space.name) K.Function (dashed name) span s)
+    (λ a. member_by span name_at space.span a.0.0 a.0.1 a.1)
 
 abbrev pub plain_called : Option Namespaced → List ℕ → Span → Span → Eval Called
-plain_called None name name_at at s = function_called name name_at at s
-plain_called (Some space) name name_at at s = member_called space name (from_to space.span name_at) at s
+plain_called None name name_at span s = function_called name name_at span s
+plain_called (Some space) name name_at span s = member_called space name (from_to space.span name_at) span s
 
 -- a name in which a value stands is that of a function of CSS
 abbrev pub called_by : Texts → Option Namespaced → Span → Span → Eval Called
-called_by (Parts-F.Plain name) space name_at at s = plain_called space name name_at at s
-called_by (Parts-F.Mixed ps) space name_at at s = Gives (call.Css, s)
+called_by (Parts-F.Plain name) space name_at span s = plain_called space name name_at span s
+called_by (Parts-F.Mixed ps) space name_at span s = Gives (call.Css, s)
 
 -- what a call means that stands here
 unfoldable pub called : Callee → Span → Eval Called
-called c at s = called_by (out-Parts c.name.parts) c.namespace c.name.span at s
+called c span s = called_by (out-Parts c.name.parts) c.namespace c.name.span span s
 
 -- ---- mixins
 
 abbrev pub mixin_or : Option Callable → Mixin → Span → Eval Found
-mixin_or (Some c) x at s = Gives (own c, s)
-mixin_or None x at s =
-    bind (finding None K.Mixin x.name at s) (λ a. mixin_by at x.name_span x.name_span a.0.0 a.0.1 a.1)
+mixin_or (Some c) x span s = Gives (own c, s)
+mixin_or None x span s =
+    bind (finding None K.Mixin x.name span s) (λ a. mixin_by span x.name_span x.name_span a.0.0 a.0.1 a.1)
 
 unfoldable pub member_mixin : Namespaced → Mixin → Span → Eval Found
-member_mixin space x at s =
+member_mixin space x span s =
     if is_private x.name then Fails (fault C.Private x.name_span)
-    else bind (finding (Some space.name) K.Mixin x.name at s)
-    (λ a. mixin_by at x.name_span space.span a.0.0 a.0.1 a.1)
+    else bind (finding (Some space.name) K.Mixin x.name span s)
+    (λ a. mixin_by span x.name_span space.span a.0.0 a.0.1 a.1)
 
 -- a name without a namespace
 unfoldable pub plain_mixin : Mixin → Span → Eval Found
-plain_mixin x at s = mixin_or (own_mixin x.name s) x at s
+plain_mixin x span s = mixin_or (own_mixin x.name s) x span s
 
 abbrev pub mixin_called_by : Option Namespaced → Mixin → Span → Eval Found
-mixin_called_by None x at s = plain_mixin x at s
-mixin_called_by (Some space) x at s = member_mixin space x at s
+mixin_called_by None x span s = plain_mixin x span s
+mixin_called_by (Some space) x span s = member_mixin space x span s
 
 -- which mixin is included by a statement that stands here
 unfoldable pub mixin_called : Mixin → Span → Eval Found
-mixin_called x at s = mixin_called_by x.namespace x at s
+mixin_called x span s = mixin_called_by x.namespace x span s

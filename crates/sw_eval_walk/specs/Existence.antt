@@ -25,60 +25,60 @@ use Rattle.sw_eval_walk.specs.Going.{finding}
 
 -- a name means something
 unfoldable pub exists : Kind → Option (List ℕ) → List ℕ → Span → Eval Bool
-exists kind space name at s = bind (finding space kind name at s) (λ a. exists_by a.0.1 at a.1)
+exists kind space name span s = bind (finding space kind name span s) (λ a. exists_by a.0.1 span a.1)
 
 -- a private name means nothing behind a namespace
 unfoldable pub member_exists : Kind → List ℕ → List ℕ → Span → Eval Bool
-member_exists kind space name at s =
-    if is_private name then Gives (false, s) else exists kind (Some space) name at s
+member_exists kind space name span s =
+    if is_private name then Gives (false, s) else exists kind (Some space) name span s
 
 -- a variable that is seen at the call
 unfoldable pub variable_exists : List ℕ → Span → Eval Bool
-variable_exists name at s = if is_some (own s name) then Gives (true, s) else exists K.Variable None name at s
+variable_exists name span s = if is_some (own s name) then Gives (true, s) else exists K.Variable None name span s
 
 -- ---- as at the top level of the sheet in which the call is written
 
 unfoldable pub global_exists : List ℕ → Span → Eval Bool
-global_exists name at s =
-    if is_home s && is_some (look_top s.scopes name) then Gives (true, s) else exists K.Variable None name at s
+global_exists name span s =
+    if is_home s && is_some (look_top s.scopes name) then Gives (true, s) else exists K.Variable None name span s
 
 unfoldable pub mixin_exists : List ℕ → Span → Eval Bool
-mixin_exists name at s = if is_some (own_mixin name s) then Gives (true, s) else exists K.Mixin None name at s
+mixin_exists name span s = if is_some (own_mixin name s) then Gives (true, s) else exists K.Mixin None name span s
 
 unfoldable pub function_exists : List ℕ → Span → Eval Bool
-function_exists name at s =
+function_exists name span s =
     if is_some (own_function name s) then Gives (true, s)
-    else bind (exists K.Function None name at s) (λ e. Gives (e.0 || is_built_in name, e.1))
+    else bind (exists K.Function None name span s) (λ e. Gives (e.0 || is_built_in name, e.1))
 
 abbrev pub kind_exists : Kind → List ℕ → Span → Eval Bool
-kind_exists K.Variable name at s = global_exists name at s
-kind_exists K.Function name at s = function_exists name at s
-kind_exists K.Mixin name at s = mixin_exists name at s
+kind_exists K.Variable name span s = global_exists name span s
+kind_exists K.Function name span s = function_exists name span s
+kind_exists K.Mixin name span s = mixin_exists name span s
 
 -- ---- calls
 
 abbrev pub asked_in : Kind → List ℕ → Option (List ℕ) → Span → Eval Bool
-asked_in kind name (Some space) at s = member_exists kind space name at s
-asked_in kind name None at s = kind_exists kind name at s
+asked_in kind name (Some space) span s = member_exists kind space name span s
+asked_in kind name None span s = kind_exists kind name span s
 
 unfoldable pub asked_of : Kind → List Variable → Span → Eval Bool
-asked_of kind vs at s =
-    bind (answer (name_in vs at) s)
-    (λ n. bind (answer (module_in vs at) n.1) (λ m. asked_in kind n.0 m.0 at m.1))
+asked_of kind vs span s =
+    bind (answer (name_in vs span) s)
+    (λ n. bind (answer (module_in vs span) n.1) (λ m. asked_in kind n.0 m.0 span m.1))
 
 abbrev pub asked : Asked → List Variable → Span → Eval Bool
-asked A.VariableExists vs at s = bind (answer (name_in vs at) s) (λ n. variable_exists n.0 at n.1)
-asked A.GlobalVariableExists vs at s = asked_of K.Variable vs at s
-asked A.FunctionExists vs at s = asked_of K.Function vs at s
-asked A.MixinExists vs at s = asked_of K.Mixin vs at s
-asked A.ContentExists vs at s = content_exists at s
+asked A.VariableExists vs span s = bind (answer (name_in vs span) s) (λ n. variable_exists n.0 span n.1)
+asked A.GlobalVariableExists vs span s = asked_of K.Variable vs span s
+asked A.FunctionExists vs span s = asked_of K.Function vs span s
+asked A.MixinExists vs span s = asked_of K.Mixin vs span s
+asked A.ContentExists vs span s = content_exists span s
 
 abbrev pub asking_call : Asked → BuiltIn → Passed → Span → Eval Plain
-asking_call a f p at s =
-    bind (answer (built_in_arguments f p at) s)
-    (λ vs. bind (asked a vs.0 at vs.1) (λ h. Gives (truth h.0, h.1)))
+asking_call a f p span s =
+    bind (answer (built_in_arguments f p span) s)
+    (λ vs. bind (asked a vs.0 span vs.1) (λ h. Gives (truth h.0, h.1)))
 
 -- what a built-in function gives for the arguments of a call that stands here
 abbrev pub built_in_called : BuiltIn → Passed → Span → Eval Plain
-built_in_called (B.Asked a) p at s = asking_call a (B.Asked a) p at s
-built_in_called f p at s = answer (built_in_value f p at) s
+built_in_called (B.Asked a) p span s = asking_call a (B.Asked a) p span s
+built_in_called f p span s = answer (built_in_value f p span) s

@@ -18,4 +18,4 @@ Goes_on gives e a w r b x = Did gives (e a.state) (stand a.asked) w r b.state (s
 
 -- what a name means in the module whose code runs
 unfoldable pub finding : Option (List ℕ) → Kind → List ℕ → Span → Eval (ℕ × Answer)
-finding space kind name at s = asking (Finds s.here.site space kind name) at s
+finding space kind name span s = asking (Finds s.here.site space kind name) span s

@@ -22,18 +22,18 @@ given_by _ = None
 
 -- what the host's function of a name gives, where there is one
 unfoldable pub hosted : List ℕ → List Plain → Span → Eval (Option Plain)
-hosted name vs at s = bind (asking (Calls (dashed name) vs) at s) (λ a. Gives (given_by a.0.1, a.1))
+hosted name vs span s = bind (asking (Calls (dashed name) vs) span s) (λ a. Gives (given_by a.0.1, a.1))
 
 -- a name in which a value stands is no host's
 abbrev pub hosted_by : Texts → List ℕ → List Plain → Span → Eval (Option Plain)
-hosted_by (Parts-F.Plain text) name vs at s = hosted name vs at s
-hosted_by (Parts-F.Mixed ps) name vs at s = Gives (None, s)
+hosted_by (Parts-F.Plain text) name vs span s = hosted name vs span s
+hosted_by (Parts-F.Mixed ps) name vs span s = Gives (None, s)
 
 abbrev pub or_written : Option Plain → List ℕ → List Plain → Span → Eval Plain
-or_written (Some v) name vs at s = Gives (v, s)
-or_written None name vs at s = answer (css_call name vs at) s
+or_written (Some v) name vs span s = Gives (v, s)
+or_written None name vs span s = answer (css_call name vs span) s
 
 -- the host's function of a name is asked, and without one the call is written out
 unfoldable pub css_value : Callee → List ℕ → List Plain → Span → Eval Plain
-css_value c name vs at s =
-    bind (hosted_by (out-Parts c.name.parts) name vs at s) (λ h. or_written h.0 name vs at h.1)
+css_value c name vs span s =
+    bind (hosted_by (out-Parts c.name.parts) name vs span s) (λ h. or_written h.0 name vs span h.1)

@@ -20,8 +20,8 @@ use Rattle.sw_eval_walk.specs.declared.texts.TextKind.TheVariants as K
 -- the text of a value that stands in a text: a string's own text in an expression, and elsewhere its text in CSS without
 -- quotes
 abbrev pub spelled : TextKind → Plain → Span → Answer (List ℕ)
-spelled K.Expression v at = inserted v at
-spelled K.Sheet v at = css_text false v at
+spelled K.Expression v span = inserted v span
+spelled K.Sheet v span = css_text false v span
 
 -- `value` is the level below
 module _ (value : Parens → Expr → Eval Plain) where
@@ -48,14 +48,14 @@ module _ (value : Parens → Expr → Eval Plain) where
 
   -- a text that is made of pieces, and stands here
   unfoldable pub mixed : TextKind → Parens → List Piece → Span → Eval (List ℕ)
-  mixed kind parens ps at s = bind (pieces kind parens ps [] s) (λ ts. answer (joined ts.0 at) ts.1)
+  mixed kind parens ps span s = bind (pieces kind parens ps [] s) (λ ts. answer (joined ts.0 span) ts.1)
 
   abbrev pub text_by : TextKind → Parens → Texts → Span → Eval (List ℕ)
-  text_by kind parens (Parts-F.Plain text) at s = Gives (text, s)
-  text_by kind parens (Parts-F.Mixed ps) at s = mixed kind parens ps at s
+  text_by kind parens (Parts-F.Plain text) span s = Gives (text, s)
+  text_by kind parens (Parts-F.Mixed ps) span s = mixed kind parens ps span s
 
   unfoldable pub text : TextKind → Parens → Parts → Span → Eval (List ℕ)
-  text kind parens parts at s = text_by kind parens (out-Parts parts) at s
+  text kind parens parts span s = text_by kind parens (out-Parts parts) span s
 
   -- a value that keeps no sides
   unfoldable pub plain_value : Parens → Expr → Eval Plain

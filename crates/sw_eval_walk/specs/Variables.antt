@@ -27,89 +27,89 @@ use Rattle.sw_eval_walk.specs.Going.{finding}
 
 -- what the variable of an owner holds
 unfoldable pub getting : ℕ → Span → Eval Plain
-getting o at s = bind (asking (Gets o) at s) (λ b. got at b.0.1 b.1)
+getting o span s = bind (asking (Gets o) span s) (λ b. got span b.0.1 b.1)
 
 -- the variable of an owner is given a value
 unfoldable pub putting : ℕ → Plain → Span → Eval (Unit {0})
-putting o v at s = bind (asking (Puts o v) at s) (λ b. Gives (tt, b.1))
+putting o v span s = bind (asking (Puts o v) span s) (λ b. Gives (tt, b.1))
 
 -- the owner of another module's variable
 unfoldable pub owner_of : FaultCode → Option (List ℕ) → List ℕ → Span → Span → Eval ℕ
-owner_of unknown space name at space_at s =
-    bind (finding space K.Variable name at s) (λ a. owner unknown at space_at a.0.0 a.0.1 a.1)
+owner_of unknown space name span space_at s =
+    bind (finding space K.Variable name span s) (λ a. owner unknown span space_at a.0.0 a.0.1 a.1)
 
 -- what the variable holds that was answered: that of a built-in module is known
 abbrev pub held_by : FaultCode → Span → Span → ℕ → Answer → Eval Plain
-held_by unknown at space_at n (BuiltIn home name) s = answer (built_in_variable unknown home name at) s
-held_by unknown at space_at n a s = bind (owner unknown at space_at n a s) (λ o. getting o.0 at o.1)
+held_by unknown span space_at n (BuiltIn home name) s = answer (built_in_variable unknown home name span) s
+held_by unknown span space_at n a s = bind (owner unknown span space_at n a s) (λ o. getting o.0 span o.1)
 
 -- what another module's variable holds: its owner is found, and then its value got
 unfoldable pub outside : FaultCode → Option (List ℕ) → List ℕ → Span → Span → Eval Plain
-outside unknown space name at space_at s =
-    bind (finding space K.Variable name at s) (λ a. held_by unknown at space_at a.0.0 a.0.1 a.1)
+outside unknown space name span space_at s =
+    bind (finding space K.Variable name span s) (λ a. held_by unknown span space_at a.0.0 a.0.1 a.1)
 
 abbrev pub or_outside : List ℕ → Span → Option Plain → Eval Plain
-or_outside name at (Some v) s = Gives (v, s)
-or_outside name at None s = outside C.UnknownVariable None name at at s
+or_outside name span (Some v) s = Gives (v, s)
+or_outside name span None s = outside C.UnknownVariable None name span span s
 
 -- a variable without a namespace
 unfoldable pub variable : List ℕ → Span → Eval Plain
-variable name at s = or_outside name at (own s name) s
+variable name span s = or_outside name span (own s name) s
 
 -- a variable behind a namespace
 unfoldable pub qualified : Qualified → Span → Eval Plain
-qualified q at s =
-    if is_private q.name then Fails (fault C.Private at)
-    else outside C.UnknownMember (Some q.namespace.name) q.name at q.namespace.span s
+qualified q span s =
+    if is_private q.name then Fails (fault C.Private span)
+    else outside C.UnknownMember (Some q.namespace.name) q.name span q.namespace.span s
 
 -- the owner of a variable behind a namespace that is assigned; the variable stands at the first place
 unfoldable pub targeted : Qualified → Span → Span → Eval ℕ
-targeted q name_at at s =
+targeted q name_at span s =
     if is_private q.name then Fails (fault C.Private name_at)
-    else bind (finding (Some q.namespace.name) K.Variable q.name at s)
-    (λ a. target at name_at q.namespace.span a.0.0 a.0.1 a.1)
+    else bind (finding (Some q.namespace.name) K.Variable q.name span s)
+    (λ a. target span name_at q.namespace.span a.0.0 a.0.1 a.1)
 
 -- ---- what a variable has before its default
 
 -- what the variable has that was answered: null where there is none
 abbrev pub sought_by : Span → ℕ → Answer → Eval Plain
-sought_by at n a s = if is_absent a then Gives (N.Null, s) else held_by C.UnknownVariable at at n a s
+sought_by span n a s = if is_absent a then Gives (N.Null, s) else held_by C.UnknownVariable span span n a s
 
 -- what the variable has that a name means, which is asked
 unfoldable pub sought : List ℕ → Span → Eval Plain
-sought name at s = bind (finding None K.Variable name at s) (λ a. sought_by at a.0.0 a.0.1 a.1)
+sought name span s = bind (finding None K.Variable name span s) (λ a. sought_by span a.0.0 a.0.1 a.1)
 
 abbrev pub or_sought : List ℕ → Span → Option Plain → Eval Plain
-or_sought name at (Some v) s = Gives (v, s)
-or_sought name at None s = sought name at s
+or_sought name span (Some v) s = Gives (v, s)
+or_sought name span None s = sought name span s
 
 -- what is seen counts, but with `!global` no local variable does
 unfoldable pub before_by : Bool → List ℕ → Span → Eval Plain
-before_by global name at s = if global then sought name at s else or_sought name at (own s name) s
+before_by global name span s = if global then sought name span s else or_sought name span (own s name) s
 
 -- what a name has before its default
 unfoldable pub before_default : Bool → List ℕ → Span → Eval Plain
-before_default global name at s =
-    if is_mine s global then Gives (or_null (look_top s.scopes name), s) else before_by global name at s
+before_default global name span s =
+    if is_mine s global then Gives (or_null (look_top s.scopes name), s) else before_by global name span s
 
 -- a value that isn't null
 unfoldable pub has_value : Bool → List ℕ → Span → Eval Bool
-has_value global name at s = bind (before_default global name at s) (λ v. Gives (not (is_null v.0), v.1))
+has_value global name span s = bind (before_default global name span s) (λ v. Gives (not (is_null v.0), v.1))
 
 -- a variable with `!default` that has its value
 unfoldable pub kept : Flags → List ℕ → Span → Eval Bool
-kept flags name at s = if flags.default then has_value flags.global name at s else Gives (false, s)
+kept flags name span s = if flags.default then has_value flags.global name span s else Gives (false, s)
 
 -- ---- what is assigned
 
 -- code of another module asks
 unfoldable pub put_global : List ℕ → Plain → Span → Eval (Unit {0})
-put_global name v at s = bind (owner_of C.UnknownVariable None name at at s) (λ o. putting o.0 v at o.1)
+put_global name v span s = bind (owner_of C.UnknownVariable None name span span s) (λ o. putting o.0 v span o.1)
 
 -- a variable of the running code's module
 unfoldable pub set_global : List ℕ → Plain → Span → Eval (Unit {0})
-set_global name v at s =
-    if is_home s then Gives (tt, set_own s (name, v)) else put_global name v at s
+set_global name v span s =
+    if is_home s then Gives (tt, set_own s (name, v)) else put_global name v span s
 
 unfoldable pub stored : Bool → List ℕ → Plain → Span → Eval (Unit {0})
-stored global name v at s = if global then set_global name v at s else Gives (tt, set_by s (name, v))
+stored global name v span s = if global then set_global name v span s else Gives (tt, set_by s (name, v))

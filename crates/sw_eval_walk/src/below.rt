@@ -61,11 +61,11 @@ pub trait Below<W: World>: Copy {
     fn enter(
         self,
         walk: &mut Walk,
-        at: &Span,
+        span: &Span,
         body: Body<'_>,
         world: &mut W,
     ) -> Result<Option<Value>, Stop>
         requires { fits self }
-        ensures { Goes_on W.gives (bodies self at.now body.entry.start.now body.entry.params.now
+        ensures { Goes_on W.gives (bodies self span.now body.entry.start.now body.entry.params.now
             body.entry.block.now) walk.old world.old result walk.new world.new };
 }

@@ -27,10 +27,10 @@ impl Walk {
         &mut self,
         name: &Name,
         name_at: &Span,
-        at: &Span,
+        span: &Span,
         world: &mut W,
     ) -> Result<Called, Stop>
-        ensures { Goes_on W.gives (function_called name.now name_at.now at.now) self.old world.old result self.new
+        ensures { Goes_on W.gives (function_called name.now name_at.now span.now) self.old world.old result self.new
             world.new }
     {
         let name = Name::dashed(self.alloc, name.as_str())?;
@@ -38,8 +38,8 @@ impl Walk {
             let callable = callable.share()?;
             return Ok(Called::Sheet(Found { site: 0, callable }));
         }
-        let a = self.find(None, Kind::Function, &name, at, world)?;
-        function_by(&name, at, name_at, a.0, a.1)
+        let a = self.find(None, Kind::Function, &name, span, world)?;
+        function_by(&name, span, name_at, a.0, a.1)
     }
 
     // A name behind a namespace.
@@ -48,10 +48,10 @@ impl Walk {
         space: &Namespaced,
         name: &Name,
         name_at: &Span,
-        at: &Span,
+        span: &Span,
         world: &mut W,
     ) -> Result<Called, Stop>
-        ensures { Goes_on W.gives (member_called space.now name.now name_at.now at.now) self.old world.old result
+        ensures { Goes_on W.gives (member_called space.now name.now name_at.now span.now) self.old world.old result
             self.new world.new }
     {
         if name.is_private() {
@@ -59,8 +59,8 @@ impl Walk {
         }
         let name = Name::dashed(self.alloc, name.as_str())?;
         let space_name = space.name.share()?;
-        let a = self.find(Some(space_name), Kind::Function, &name, at, world)?;
-        member_by(at, name_at, &space.span, a.0, a.1)
+        let a = self.find(Some(space_name), Kind::Function, &name, span, world)?;
+        member_by(span, name_at, &space.span, a.0, a.1)
     }
 
     fn plain_called<W: World>(
@@ -68,17 +68,17 @@ impl Walk {
         space: &Option<Namespaced>,
         name: &Name,
         name_at: &Span,
-        at: &Span,
+        span: &Span,
         world: &mut W,
     ) -> Result<Called, Stop>
-        ensures { Goes_on W.gives (plain_called space.now name.now name_at.now at.now) self.old world.old result
+        ensures { Goes_on W.gives (plain_called space.now name.now name_at.now span.now) self.old world.old result
             self.new world.new }
     {
         match space {
-            None => self.function_called(name, name_at, at, world),
+            None => self.function_called(name, name_at, span, world),
             Some(space) => {
                 let whole = from_to(&space.span, name_at)?;
-                self.member_called(space, name, &whole, at, world)
+                self.member_called(space, name, &whole, span, world)
             }
         }
     }
@@ -88,14 +88,14 @@ impl Walk {
     pub fn called<W: World>(
         &mut self,
         callee: &Callee,
-        at: &Span,
+        span: &Span,
         world: &mut W,
     ) -> Result<Called, Stop>
-        ensures { Goes_on W.gives (called callee.now at.now) self.old world.old result self.new world.new }
+        ensures { Goes_on W.gives (called callee.now span.now) self.old world.old result self.new world.new }
     {
         match &callee.name.parts {
             Parts::Plain(name) => {
-                self.plain_called(&callee.namespace, name, &callee.name.span, at, world)
+                self.plain_called(&callee.namespace, name, &callee.name.span, span, world)
             }
             Parts::Mixed(_) => Ok(Called::Css),
         }
@@ -105,35 +105,35 @@ impl Walk {
         &mut self,
         space: &Namespaced,
         mixin: &Mixin,
-        at: &Span,
+        span: &Span,
         world: &mut W,
     ) -> Result<Found, Stop>
-        ensures { Goes_on W.gives (member_mixin space.now mixin.now at.now) self.old world.old result self.new
+        ensures { Goes_on W.gives (member_mixin space.now mixin.now span.now) self.old world.old result self.new
             world.new }
     {
         if mixin.name.is_private() {
             return fails(FaultCode::Private, &mixin.name_span);
         }
         let space_name = space.name.share()?;
-        let a = self.find(Some(space_name), Kind::Mixin, &mixin.name, at, world)?;
-        mixin_by(at, &mixin.name_span, &space.span, a.0, a.1)
+        let a = self.find(Some(space_name), Kind::Mixin, &mixin.name, span, world)?;
+        mixin_by(span, &mixin.name_span, &space.span, a.0, a.1)
     }
 
     // A name without a namespace.
     fn plain_mixin<W: World>(
         &mut self,
         mixin: &Mixin,
-        at: &Span,
+        span: &Span,
         world: &mut W,
     ) -> Result<Found, Stop>
-        ensures { Goes_on W.gives (plain_mixin mixin.now at.now) self.old world.old result self.new world.new }
+        ensures { Goes_on W.gives (plain_mixin mixin.now span.now) self.old world.old result self.new world.new }
     {
         if let Some(callable) = self.state.own_mixin(&mixin.name) {
             let callable = callable.share()?;
             return Ok(Found { site: 0, callable });
         }
-        let a = self.find(None, Kind::Mixin, &mixin.name, at, world)?;
-        mixin_by(at, &mixin.name_span, &mixin.name_span, a.0, a.1)
+        let a = self.find(None, Kind::Mixin, &mixin.name, span, world)?;
+        mixin_by(span, &mixin.name_span, &mixin.name_span, a.0, a.1)
     }
 
     /// The mixin: code of the body's own module finds its mixins unasked. `Private` at the name for a private one
@@ -141,14 +141,14 @@ impl Walk {
     pub fn mixin_called<W: World>(
         &mut self,
         mixin: &Mixin,
-        at: &Span,
+        span: &Span,
         world: &mut W,
     ) -> Result<Found, Stop>
-        ensures { Goes_on W.gives (mixin_called mixin.now at.now) self.old world.old result self.new world.new }
+        ensures { Goes_on W.gives (mixin_called mixin.now span.now) self.old world.old result self.new world.new }
     {
         match &mixin.namespace {
-            None => self.plain_mixin(mixin, at, world),
-            Some(space) => self.member_mixin(space, mixin, at, world),
+            None => self.plain_mixin(mixin, span, world),
+            Some(space) => self.member_mixin(space, mixin, span, world),
         }
     }
 }

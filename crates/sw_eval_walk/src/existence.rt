@@ -29,13 +29,13 @@ impl Walk {
         kind: Kind,
         space: Option<Name>,
         name: &Name,
-        at: &Span,
+        span: &Span,
         world: &mut W,
     ) -> Result<bool, Stop>
-        ensures { Goes_on W.gives (exists kind space name.now at.now) self.old world.old result self.new world.new }
+        ensures { Goes_on W.gives (exists kind space name.now span.now) self.old world.old result self.new world.new }
     {
-        let a = self.find(space, kind, name, at, world)?;
-        exists_by(&a.1, at)
+        let a = self.find(space, kind, name, span, world)?;
+        exists_by(&a.1, span)
     }
 
     // A private name means nothing behind a namespace.
@@ -44,72 +44,72 @@ impl Walk {
         kind: Kind,
         space: Name,
         name: &Name,
-        at: &Span,
+        span: &Span,
         world: &mut W,
     ) -> Result<bool, Stop>
-        ensures { Goes_on W.gives (member_exists kind space name.now at.now) self.old world.old result self.new
+        ensures { Goes_on W.gives (member_exists kind space name.now span.now) self.old world.old result self.new
             world.new }
     {
         if name.is_private() {
             return Ok(false);
         }
-        self.exists(kind, Some(space), name, at, world)
+        self.exists(kind, Some(space), name, span, world)
     }
 
     fn variable_exists<W: World>(
         &mut self,
         name: &Name,
-        at: &Span,
+        span: &Span,
         world: &mut W,
     ) -> Result<bool, Stop>
-        ensures { Goes_on W.gives (variable_exists name.now at.now) self.old world.old result self.new world.new }
+        ensures { Goes_on W.gives (variable_exists name.now span.now) self.old world.old result self.new world.new }
     {
         if self.state.sees(name) {
             return Ok(true);
         }
-        self.exists(Kind::Variable, None, name, at, world)
+        self.exists(Kind::Variable, None, name, span, world)
     }
 
     fn global_exists<W: World>(
         &mut self,
         name: &Name,
-        at: &Span,
+        span: &Span,
         world: &mut W,
     ) -> Result<bool, Stop>
-        ensures { Goes_on W.gives (global_exists name.now at.now) self.old world.old result self.new world.new }
+        ensures { Goes_on W.gives (global_exists name.now span.now) self.old world.old result self.new world.new }
     {
         if self.state.sees_top(name) {
             return Ok(true);
         }
-        self.exists(Kind::Variable, None, name, at, world)
+        self.exists(Kind::Variable, None, name, span, world)
     }
 
     fn mixin_exists<W: World>(
         &mut self,
         name: &Name,
-        at: &Span,
+        span: &Span,
         world: &mut W,
     ) -> Result<bool, Stop>
-        ensures { Goes_on W.gives (mixin_exists name.now at.now) self.old world.old result self.new world.new }
+        ensures { Goes_on W.gives (mixin_exists name.now span.now) self.old world.old result self.new world.new }
     {
         if self.state.sees_mixin(name) {
             return Ok(true);
         }
-        self.exists(Kind::Mixin, None, name, at, world)
+        self.exists(Kind::Mixin, None, name, span, world)
     }
 
     fn function_exists<W: World>(
         &mut self,
         name: &Name,
-        at: &Span,
+        span: &Span,
         world: &mut W,
     ) -> Result<bool, Stop>
-        ensures { Goes_on W.gives (function_exists name.now at.now) self.old world.old result self.new world.new }
+        ensures { Goes_on W.gives (function_exists name.now span.now) self.old world.old result self.new world.new }
     {
         if self.state.sees_function(name) {
             return Ok(true);
         }
-        let exists = self.exists(Kind::Function, None, name, at, world)?;
+        let exists = self.exists(Kind::Function, None, name, span, world)?;
         Ok(or_built_in(exists, name))
     }
 
@@ -118,15 +118,15 @@ impl Walk {
         &mut self,
         kind: Kind,
         name: &Name,
-        at: &Span,
+        span: &Span,
         world: &mut W,
     ) -> Result<bool, Stop>
-        ensures { Goes_on W.gives (kind_exists kind name.now at.now) self.old world.old result self.new world.new }
+        ensures { Goes_on W.gives (kind_exists kind name.now span.now) self.old world.old result self.new world.new }
     {
         match kind {
-            Kind::Variable => self.global_exists(name, at, world),
-            Kind::Function => self.function_exists(name, at, world),
-            Kind::Mixin => self.mixin_exists(name, at, world),
+            Kind::Variable => self.global_exists(name, span, world),
+            Kind::Function => self.function_exists(name, span, world),
+            Kind::Mixin => self.mixin_exists(name, span, world),
         }
     }
 
@@ -135,15 +135,15 @@ impl Walk {
         &mut self,
         kind: Kind,
         arguments: &[(Name, Value)],
-        at: &Span,
+        span: &Span,
         world: &mut W,
     ) -> Result<bool, Stop>
-        ensures { Goes_on W.gives (asked_of kind arguments.now at.now) self.old world.old result self.new world.new }
+        ensures { Goes_on W.gives (asked_of kind arguments.now span.now) self.old world.old result self.new world.new }
     {
-        let name = name_in(self.alloc, arguments, at)?;
-        match module_in(arguments, at)? {
-            Some(space) => self.member_exists(kind, space, &name, at, world),
-            None => self.kind_exists(kind, &name, at, world),
+        let name = name_in(self.alloc, arguments, span)?;
+        match module_in(arguments, span)? {
+            Some(space) => self.member_exists(kind, space, &name, span, world),
+            None => self.kind_exists(kind, &name, span, world),
         }
     }
 
@@ -151,42 +151,42 @@ impl Walk {
         &mut self,
         function: Asked,
         arguments: &[(Name, Value)],
-        at: &Span,
+        span: &Span,
         world: &mut W,
     ) -> Result<bool, Stop>
-        ensures { Goes_on W.gives (asked function arguments.now at.now) self.old world.old result self.new world.new }
+        ensures { Goes_on W.gives (asked function arguments.now span.now) self.old world.old result self.new world.new }
     {
         match function {
             Asked::VariableExists => {
-                let name = name_in(self.alloc, arguments, at)?;
-                self.variable_exists(&name, at, world)
+                let name = name_in(self.alloc, arguments, span)?;
+                self.variable_exists(&name, span, world)
             }
-            Asked::GlobalVariableExists => self.asked_of(Kind::Variable, arguments, at, world),
-            Asked::FunctionExists => self.asked_of(Kind::Function, arguments, at, world),
-            Asked::MixinExists => self.asked_of(Kind::Mixin, arguments, at, world),
-            Asked::ContentExists => self.state.content_exists(at),
+            Asked::GlobalVariableExists => self.asked_of(Kind::Variable, arguments, span, world),
+            Asked::FunctionExists => self.asked_of(Kind::Function, arguments, span, world),
+            Asked::MixinExists => self.asked_of(Kind::Mixin, arguments, span, world),
+            Asked::ContentExists => self.state.content_exists(span),
         }
     }
 
     /// The value, without sides; a function that asks what exists gives a truth. What is wrong in the arguments is a
-    /// fault at `at` (docs/LANGUAGE.md, Functions).
+    /// fault at `span` (docs/LANGUAGE.md, Functions).
     pub fn built_in_called<W: World>(
         &mut self,
         function: BuiltIn,
         passed: &Passed,
-        at: &Span,
+        span: &Span,
         world: &mut W,
     ) -> Result<Value, Stop>
-        ensures { Goes_on W.gives (built_in_called function passed.now at.now) self.old world.old result self.new
+        ensures { Goes_on W.gives (built_in_called function passed.now span.now) self.old world.old result self.new
             world.new }
     {
         match function {
             BuiltIn::Asked(asked) => {
-                let arguments = stopped(built_in_arguments(self.alloc, function, passed, at))?;
-                let holds = self.asked(asked, arguments.as_slice(), at, world)?;
+                let arguments = stopped(built_in_arguments(self.alloc, function, passed, span))?;
+                let holds = self.asked(asked, arguments.as_slice(), span, world)?;
                 Ok(truth(holds))
             }
-            _ => stopped(built_in_value(self.alloc, function, passed, at)),
+            _ => stopped(built_in_value(self.alloc, function, passed, span)),
         }
     }
 }

@@ -17,13 +17,13 @@ impl Walk {
         &mut self,
         name: &Name,
         values: &Shared<List<Value>>,
-        at: &Span,
+        span: &Span,
         world: &mut W,
     ) -> Result<Option<Value>, Stop>
-        ensures { Goes_on W.gives (hosted name.now values.now at.now) self.old world.old result self.new world.new }
+        ensures { Goes_on W.gives (hosted name.now values.now span.now) self.old world.old result self.new world.new }
     {
         let name = Name::dashed(self.alloc, name.as_str())?;
-        let a = self.ask_call(name, values.share()?, at, world)?;
+        let a = self.ask_call(name, values.share()?, span, world)?;
         match a.1 {
             Answer::Hosted(given) => Ok(given),
             _ => Ok(None),
@@ -36,14 +36,14 @@ impl Walk {
         parts: &Parts,
         name: &Name,
         values: &Shared<List<Value>>,
-        at: &Span,
+        span: &Span,
         world: &mut W,
     ) -> Result<Option<Value>, Stop>
-        ensures { Goes_on W.gives (hosted_by (out-Parts parts.now) name.now values.now at.now) self.old world.old
+        ensures { Goes_on W.gives (hosted_by (out-Parts parts.now) name.now values.now span.now) self.old world.old
             result self.new world.new }
     {
         match parts {
-            Parts::Plain(_) => self.hosted(name, values, at, world),
+            Parts::Plain(_) => self.hosted(name, values, span, world),
             Parts::Mixed(_) => Ok(None),
         }
     }
@@ -55,16 +55,16 @@ impl Walk {
         callee: &Callee,
         name: Name,
         values: List<Value>,
-        at: &Span,
+        span: &Span,
         world: &mut W,
     ) -> Result<Value, Stop>
-        ensures { Goes_on W.gives (css_value callee.now name values at.now) self.old world.old result self.new
+        ensures { Goes_on W.gives (css_value callee.now name values span.now) self.old world.old result self.new
             world.new }
     {
         let values = Shared::new(self.alloc, values)?;
-        if let Some(value) = self.hosted_by(&callee.name.parts, &name, &values, at, world)? {
+        if let Some(value) = self.hosted_by(&callee.name.parts, &name, &values, span, world)? {
             return Ok(value);
         }
-        stopped(css_call(self.alloc, name, values.get().as_slice(), at))
+        stopped(css_call(self.alloc, name, values.get().as_slice(), span))
     }
 }

@@ -12,32 +12,32 @@ use sw_values::Value;
 use sw_world::{Answer, World};
 
 impl Walk {
-    /// The value of the variable that the answer of this number names. `UnknownVariable` at `at` where that names none,
+    /// The value of the variable that the answer of this number names. `UnknownVariable` at `span` where that names none,
     /// `Turns` for a question too many; `Memory` where none was found.
     pub fn getting<W: World>(
         &mut self,
         number: usize,
-        at: &Span,
+        span: &Span,
         world: &mut W,
     ) -> Result<Value, Stop>
-        ensures { Goes_on W.gives (getting number at.now) self.old world.old result self.new world.new }
+        ensures { Goes_on W.gives (getting number span.now) self.old world.old result self.new world.new }
     {
-        let b = self.ask_get(number, at, world)?;
-        got(at, b.1)
+        let b = self.ask_get(number, span, world)?;
+        got(span, b.1)
     }
 
-    /// Gives a value to the variable that the answer of this number names. `UnknownVariable` at `at` where that names
+    /// Gives a value to the variable that the answer of this number names. `UnknownVariable` at `span` where that names
     /// none, `Turns` for a question too many; `Memory` where none was found.
     pub fn putting<W: World>(
         &mut self,
         number: usize,
         value: Value,
-        at: &Span,
+        span: &Span,
         world: &mut W,
     ) -> Result<(), Stop>
-        ensures { Goes_on W.gives (putting number value at.now) self.old world.old result self.new world.new }
+        ensures { Goes_on W.gives (putting number value span.now) self.old world.old result self.new world.new }
     {
-        let _done = self.ask_put(number, value, at, world)?;
+        let _done = self.ask_put(number, value, span, world)?;
         Ok(())
     }
 
@@ -47,37 +47,37 @@ impl Walk {
         unknown: FaultCode,
         space: Option<Name>,
         name: &Name,
-        at: &Span,
+        span: &Span,
         space_at: &Span,
         world: &mut W,
     ) -> Result<usize, Stop>
-        ensures { Goes_on W.gives (owner_of unknown space name.now at.now space_at.now) self.old world.old result
+        ensures { Goes_on W.gives (owner_of unknown space name.now span.now space_at.now) self.old world.old result
             self.new world.new }
     {
-        let a = self.find(space, Kind::Variable, name, at, world)?;
-        owner(unknown, at, space_at, a.0, &a.1)
+        let a = self.find(space, Kind::Variable, name, span, world)?;
+        owner(unknown, span, space_at, a.0, &a.1)
     }
 
     // What the variable holds that was answered: that of a built-in module is known.
     fn held_by<W: World>(
         &mut self,
         unknown: FaultCode,
-        at: &Span,
+        span: &Span,
         space_at: &Span,
         number: usize,
         answer: &Answer,
         world: &mut W,
     ) -> Result<Value, Stop>
-        ensures { Goes_on W.gives (held_by unknown at.now space_at.now number answer.now) self.old world.old result
+        ensures { Goes_on W.gives (held_by unknown span.now space_at.now number answer.now) self.old world.old result
             self.new world.new }
     {
         match answer {
             Answer::BuiltIn { module, name } => {
-                stopped(built_in_variable(self.alloc, unknown, module, name, at))
+                stopped(built_in_variable(self.alloc, unknown, module, name, span))
             }
             _ => {
-                let number = owner(unknown, at, space_at, number, answer)?;
-                self.getting(number, at, world)
+                let number = owner(unknown, span, space_at, number, answer)?;
+                self.getting(number, span, world)
             }
         }
     }
@@ -88,98 +88,105 @@ impl Walk {
         unknown: FaultCode,
         space: Option<Name>,
         name: &Name,
-        at: &Span,
+        span: &Span,
         space_at: &Span,
         world: &mut W,
     ) -> Result<Value, Stop>
-        ensures { Goes_on W.gives (outside unknown space name.now at.now space_at.now) self.old world.old result
+        ensures { Goes_on W.gives (outside unknown space name.now span.now space_at.now) self.old world.old result
             self.new world.new }
     {
-        let a = self.find(space, Kind::Variable, name, at, world)?;
-        self.held_by(unknown, at, space_at, a.0, &a.1, world)
+        let a = self.find(space, Kind::Variable, name, span, world)?;
+        self.held_by(unknown, span, space_at, a.0, &a.1, world)
     }
 
     /// The value of a variable without a namespace: the one that is seen, else the module's, which is asked for.
-    /// `UnknownVariable` at `at` where there is none (docs/LANGUAGE.md, Modules).
+    /// `UnknownVariable` at `span` where there is none (docs/LANGUAGE.md, Modules).
     pub fn variable<W: World>(
         &mut self,
         name: &Name,
-        at: &Span,
+        span: &Span,
         world: &mut W,
     ) -> Result<Value, Stop>
-        ensures { Goes_on W.gives (variable name.now at.now) self.old world.old result self.new world.new }
+        ensures { Goes_on W.gives (variable name.now span.now) self.old world.old result self.new world.new }
     {
         match self.state.own(name) {
             Some(value) => Ok(value.share()?),
-            None => self.outside(FaultCode::UnknownVariable, None, name, at, at, world),
+            None => self.outside(FaultCode::UnknownVariable, None, name, span, span, world),
         }
     }
 
-    /// The value of a variable behind a namespace. `Private` or `UnknownMember` at `at`, `UnknownNamespace` at the
+    /// The value of a variable behind a namespace. `Private` or `UnknownMember` at `span`, `UnknownNamespace` at the
     /// namespace (docs/LANGUAGE.md, Modules).
     pub fn qualified<W: World>(
         &mut self,
         q: &Qualified,
-        at: &Span,
+        span: &Span,
         world: &mut W,
     ) -> Result<Value, Stop>
-        ensures { Goes_on W.gives (qualified q.now at.now) self.old world.old result self.new world.new }
+        ensures { Goes_on W.gives (qualified q.now span.now) self.old world.old result self.new world.new }
     {
         if q.name.is_private() {
-            return fails(FaultCode::Private, at);
+            return fails(FaultCode::Private, span);
         }
         let space = q.namespace.name.share()?;
         self.outside(
             FaultCode::UnknownMember,
             Some(space),
             &q.name,
-            at,
+            span,
             &q.namespace.span,
             world,
         )
     }
 
     /// The number of the answer that names the variable to assign. `Private` or `UnknownMember` at `name_at`,
-    /// `UnknownNamespace` at the namespace, `NotConfigurable` at `at` for one of a built-in module.
+    /// `UnknownNamespace` at the namespace, `NotConfigurable` at `span` for one of a built-in module.
     pub fn targeted<W: World>(
         &mut self,
         q: &Qualified,
         name_at: &Span,
-        at: &Span,
+        span: &Span,
         world: &mut W,
     ) -> Result<usize, Stop>
-        ensures { Goes_on W.gives (targeted q.now name_at.now at.now) self.old world.old result self.new world.new }
+        ensures { Goes_on W.gives (targeted q.now name_at.now span.now) self.old world.old result self.new world.new }
     {
         if q.name.is_private() {
             return fails(FaultCode::Private, name_at);
         }
         let space = q.namespace.name.share()?;
-        let a = self.find(Some(space), Kind::Variable, &q.name, at, world)?;
-        target(at, name_at, &q.namespace.span, a.0, &a.1)
+        let a = self.find(Some(space), Kind::Variable, &q.name, span, world)?;
+        target(span, name_at, &q.namespace.span, a.0, &a.1)
     }
 
     // What the variable has that was answered: null where there is none.
     fn sought_by<W: World>(
         &mut self,
-        at: &Span,
+        span: &Span,
         number: usize,
         answer: &Answer,
         world: &mut W,
     ) -> Result<Value, Stop>
-        ensures { Goes_on W.gives (sought_by at.now number answer.now) self.old world.old result self.new world.new }
+        ensures { Goes_on W.gives (sought_by span.now number answer.now) self.old world.old result self.new world.new }
     {
         if is_absent(answer) {
             return Ok(Value::null());
         }
-        self.held_by(FaultCode::UnknownVariable, at, at, number, answer, world)
+        self.held_by(
+            FaultCode::UnknownVariable,
+            span,
+            span,
+            number,
+            answer,
+            world,
+        )
     }
 
     // What the variable has that a name means, which is asked.
-    fn sought<W: World>(&mut self, name: &Name, at: &Span, world: &mut W) -> Result<Value, Stop>
-        ensures { Goes_on W.gives (sought name.now at.now) self.old world.old result self.new world.new }
+    fn sought<W: World>(&mut self, name: &Name, span: &Span, world: &mut W) -> Result<Value, Stop>
+        ensures { Goes_on W.gives (sought name.now span.now) self.old world.old result self.new world.new }
     {
-        let a = self.find(None, Kind::Variable, name, at, world)?;
-        self.sought_by(at, a.0, &a.1, world)
+        let a = self.find(None, Kind::Variable, name, span, world)?;
+        self.sought_by(span, a.0, &a.1, world)
     }
 
     // What a name has before its default, where not the module's own variables alone count.
@@ -187,17 +194,17 @@ impl Walk {
         &mut self,
         global: bool,
         name: &Name,
-        at: &Span,
+        span: &Span,
         world: &mut W,
     ) -> Result<Value, Stop>
-        ensures { Goes_on W.gives (before_by global name.now at.now) self.old world.old result self.new world.new }
+        ensures { Goes_on W.gives (before_by global name.now span.now) self.old world.old result self.new world.new }
     {
         if global {
-            return self.sought(name, at, world);
+            return self.sought(name, span, world);
         }
         match self.state.own(name) {
             Some(value) => Ok(value.share()?),
-            None => self.sought(name, at, world),
+            None => self.sought(name, span, world),
         }
     }
 
@@ -206,17 +213,17 @@ impl Walk {
         &mut self,
         global: bool,
         name: &Name,
-        at: &Span,
+        span: &Span,
         world: &mut W,
     ) -> Result<Value, Stop>
-        ensures { Goes_on W.gives (before_default global name.now at.now) self.old world.old result self.new
+        ensures { Goes_on W.gives (before_default global name.now span.now) self.old world.old result self.new
             world.new }
     {
         if self.state.is_mine(global) {
             let own = self.state.scopes.look_top(name);
             return Ok(or_null(own)?);
         }
-        self.before_by(global, name, at, world)
+        self.before_by(global, name, span, world)
     }
 
     // Whether it is a value that isn't null.
@@ -224,12 +231,12 @@ impl Walk {
         &mut self,
         global: bool,
         name: &Name,
-        at: &Span,
+        span: &Span,
         world: &mut W,
     ) -> Result<bool, Stop>
-        ensures { Goes_on W.gives (has_value global name.now at.now) self.old world.old result self.new world.new }
+        ensures { Goes_on W.gives (has_value global name.now span.now) self.old world.old result self.new world.new }
     {
-        let old = self.before_default(global, name, at, world)?;
+        let old = self.before_default(global, name, span, world)?;
         Ok(!is_null(&old))
     }
 
@@ -239,13 +246,13 @@ impl Walk {
         &mut self,
         flags: Flags,
         name: &Name,
-        at: &Span,
+        span: &Span,
         world: &mut W,
     ) -> Result<bool, Stop>
-        ensures { Goes_on W.gives (kept flags name.now at.now) self.old world.old result self.new world.new }
+        ensures { Goes_on W.gives (kept flags name.now span.now) self.old world.old result self.new world.new }
     {
         if flags.default {
-            self.has_value(flags.global, name, at, world)
+            self.has_value(flags.global, name, span, world)
         } else {
             Ok(false)
         }
@@ -256,13 +263,13 @@ impl Walk {
         &mut self,
         name: &Name,
         value: Value,
-        at: &Span,
+        span: &Span,
         world: &mut W,
     ) -> Result<(), Stop>
-        ensures { Goes_on W.gives (put_global name.now value at.now) self.old world.old result self.new world.new }
+        ensures { Goes_on W.gives (put_global name.now value span.now) self.old world.old result self.new world.new }
     {
-        let number = self.owner_of(FaultCode::UnknownVariable, None, name, at, at, world)?;
-        self.putting(number, value, at, world)
+        let number = self.owner_of(FaultCode::UnknownVariable, None, name, span, span, world)?;
+        self.putting(number, value, span, world)
     }
 
     // Gives a variable of the running code's module a value.
@@ -270,32 +277,32 @@ impl Walk {
         &mut self,
         name: &Name,
         value: Value,
-        at: &Span,
+        span: &Span,
         world: &mut W,
     ) -> Result<(), Stop>
-        ensures { Goes_on W.gives (set_global name.now value at.now) self.old world.old result self.new world.new }
+        ensures { Goes_on W.gives (set_global name.now value span.now) self.old world.old result self.new world.new }
     {
         if self.state.is_home() {
             self.state.set_own(name, value)
         } else {
-            self.put_global(name, value, at, world)
+            self.put_global(name, value, span, world)
         }
     }
 
     /// Assigns to the variable that is seen, or to a new one; with `global` to that of the running code's module.
-    /// `UnknownVariable` at `at` where that is another module without it (docs/LANGUAGE.md, Variables).
+    /// `UnknownVariable` at `span` where that is another module without it (docs/LANGUAGE.md, Variables).
     pub fn stored<W: World>(
         &mut self,
         global: bool,
         name: &Name,
         value: Value,
-        at: &Span,
+        span: &Span,
         world: &mut W,
     ) -> Result<(), Stop>
-        ensures { Goes_on W.gives (stored global name.now value at.now) self.old world.old result self.new world.new }
+        ensures { Goes_on W.gives (stored global name.now value span.now) self.old world.old result self.new world.new }
     {
         if global {
-            return self.set_global(name, value, at, world);
+            return self.set_global(name, value, span, world);
         }
         let name = name.share()?;
         self.state.set_by(name, value)

@@ -25,12 +25,12 @@ pub enum TextKind {
 }
 
 // The text of a value that stands in a text.
-fn spelled(alloc: Global, kind: TextKind, value: &Value, at: &Span) -> Result<Name, Refused>
-    ensures { Returns result (spelled kind value.now at.now) }
+fn spelled(alloc: Global, kind: TextKind, value: &Value, span: &Span) -> Result<Name, Refused>
+    ensures { Returns result (spelled kind value.now span.now) }
 {
     match kind {
-        TextKind::Expression => inserted(alloc, value, at),
-        TextKind::Sheet => css_text(alloc, false, value, at),
+        TextKind::Expression => inserted(alloc, value, span),
+        TextKind::Sheet => css_text(alloc, false, value, span),
     }
 }
 
@@ -108,15 +108,15 @@ pub fn mixed<W: World, B: Below<W>>(
     level: Level<B>,
     kind: TextKind,
     all: &[Piece],
-    at: &Span,
+    span: &Span,
     world: &mut W,
 ) -> Result<Name, Stop>
     requires { B.fits level.below }
-    ensures { Goes_on W.gives (mixed (B.values level.below) kind level.parens all.now at.now) walk.old world.old
+    ensures { Goes_on W.gives (mixed (B.values level.below) kind level.parens all.now span.now) walk.old world.old
         result walk.new world.new }
 {
     let texts = pieces(walk, level, kind, all, world)?;
-    stopped(joined(walk.alloc, texts.as_slice(), at))
+    stopped(joined(walk.alloc, texts.as_slice(), span))
 }
 
 /// A text, with the values in it.
@@ -125,16 +125,16 @@ pub fn text<W: World, B: Below<W>>(
     level: Level<B>,
     kind: TextKind,
     parts: &Parts,
-    at: &Span,
+    span: &Span,
     world: &mut W,
 ) -> Result<Name, Stop>
     requires { B.fits level.below }
-    ensures { Goes_on W.gives (text (B.values level.below) kind level.parens parts.now at.now) walk.old world.old
+    ensures { Goes_on W.gives (text (B.values level.below) kind level.parens parts.now span.now) walk.old world.old
         result walk.new world.new }
 {
     match parts {
         Parts::Plain(text) => Ok(text.share()?),
-        Parts::Mixed(all) => mixed(walk, level, kind, all.as_slice(), at, world),
+        Parts::Mixed(all) => mixed(walk, level, kind, all.as_slice(), span, world),
     }
 }
 

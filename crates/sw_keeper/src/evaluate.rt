@@ -64,7 +64,7 @@ fn load<R: Reader, E: Engine, H: Hosts>(
 
 /// One turn of a body: up to a load and its answer, or to its end.
 #[cycle(evaluate)]
-fn turn<R: Reader, E: Engine, H: Hosts>(
+fn body_turn<R: Reader, E: Engine, H: Hosts>(
     within: &Within<'_, R, E>,
     moment: &mut Moment<'_, R, E>,
     hosts: &mut H,
@@ -133,7 +133,7 @@ fn run_body<R: Reader, E: Engine, H: Hosts>(
         start.known,
     )?;
     loop {
-        if let Some(end) = turn(within, moment, hosts, engine, &mut body)? {
+        if let Some(end) = body_turn(within, moment, hosts, engine, &mut body)? {
             let seen = engine.close(body);
             let ended = end.share()?;
             let named = opening.path.share()?;

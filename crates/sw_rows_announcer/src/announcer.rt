@@ -8,7 +8,7 @@ ghost use Rattle.sw_rows_announcer.specs.Announcing.{announces};
 
 use crate::place::Place;
 use crate::stop::{note, stop_at};
-use crate::turn::{push_pair, turn};
+use crate::turn::{body_turn, push_pair};
 use std::alloc::Global;
 use std::marker::Model;
 use std::mem;
@@ -69,7 +69,7 @@ fn go_on<W: World>(
     b.started = true;
     let path = b.path.share()?;
     ran.reserve(1)?;
-    let reached = turn(alloc, b.sheet.get(), &b.path, &mut b.pairs, world)?;
+    let reached = body_turn(alloc, b.sheet.get(), &b.path, &mut b.pairs, world)?;
     let back = stop_at(&mut b.place, reached)?;
     note(ran, path, &back);
     Ok(back)

@@ -96,7 +96,7 @@ fn ask_on<W: World>(
 
 /// On to the load, or to the end.
 #[tactic(auto, using(crate::proofs::Announced::did_none, crate::proofs::Announced::did_some, crate::proofs::Announced::step_none, crate::proofs::Announced::step_some))]
-pub(crate) fn turn<W: World>(
+pub(crate) fn body_turn<W: World>(
     alloc: Global,
     sheet: &Sheet,
     path: &Name,

@@ -20,7 +20,7 @@ enter_at-returns-then-depth-eq0 g t c =
 
 pub enter_at-returns : goal.enter_at-returns
 enter_at-returns g t c =
-    rw (one_level_enter c.args.depth c.args.at.now c.args.body.start.now c.args.body.params.now c.args.body.block.now c.args.walk.now.state (omega arith)) c.run_body.ensures
+    rw (one_level_enter c.args.depth c.args.span.now c.args.body.start.now c.args.body.params.now c.args.body.block.now c.args.walk.now.state (omega arith)) c.run_body.ensures
 
 pub does_at-returns-then-depth-eq0 : goal.does_at-returns-then-depth-eq0
 unfolding does_to

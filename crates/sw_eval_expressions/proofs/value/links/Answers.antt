@@ -12,12 +12,12 @@ loop-one-init g c =
 
 pub returns-in_err-linked : goal.returns-in_err-linked
 returns-in_err-linked g c =
-    ran_did (loop_at (λ l s. links (g.B.Below.values c.args.level.below) c.args.level.parens l c.loop-one.left c.args.at.now s) c.args.all.now c.loop-one.one-index c.one-item.result c.loop-one.walk.state c.loop-one-test.true c.one-item.is c.loop-one.invariant) (did_err _ c.in_err-linked.ensures (changed_err _ _ _ c.from_residual.ensures))
+    ran_did (loop_at (λ l s. links (g.B.Below.values c.args.level.below) c.args.level.parens l c.loop-one.left c.args.span.now s) c.args.all.now c.loop-one.one-index c.one-item.result c.loop-one.walk.state c.loop-one-test.true c.one-item.is c.loop-one.invariant) (did_err _ c.in_err-linked.ensures (changed_err _ _ _ c.from_residual.ensures))
 
 pub loop-one-preserved : goal.loop-one-preserved
 loop-one-preserved g c =
-    ran_then _ (loop_at (λ l s. links (g.B.Below.values c.args.level.below) c.args.level.parens l c.loop-one.left c.args.at.now s) c.args.all.now c.loop-one.one-index c.one-item.result c.loop-one.walk.state c.loop-one-test.true c.one-item.is c.loop-one.invariant) c.in_ok-linked.ensures
+    ran_then _ (loop_at (λ l s. links (g.B.Below.values c.args.level.below) c.args.level.parens l c.loop-one.left c.args.span.now s) c.args.all.now c.loop-one.one-index c.one-item.result c.loop-one.walk.state c.loop-one-test.true c.one-item.is c.loop-one.invariant) c.in_ok-linked.ensures
 
 pub returns : goal.returns
 returns g c =
-    ran_did (loop_end (λ l s. links (g.B.Below.values c.args.level.below) c.args.level.parens l c.loop-one.left c.args.at.now s) c.args.all.now c.loop-one.one-index c.loop-one.walk.state (omega arith) c.loop-one.invariant) (did_value _ _ _ _)
+    ran_did (loop_end (λ l s. links (g.B.Below.values c.args.level.below) c.args.level.parens l c.loop-one.left c.args.span.now s) c.args.all.now c.loop-one.one-index c.loop-one.walk.state (omega arith) c.loop-one.invariant) (did_value _ _ _ _)

@@ -6,4 +6,4 @@ use Rattle.sw_eval_expressions.proofs.value.links.Given as goal
 
 abbrev pub invariant-loop-one : goal.invariant-loop-one
 invariant-loop-one g l =
-    Ran g.W.World.gives (links (g.B.Below.values l.level.below) l.level.parens l.all l.fn.left l.at l.fn.walk.state) (stand l.fn.walk.asked) l.fn.world (links (g.B.Below.values l.level.below) l.level.parens (drop l.one-index l.all) l.left l.at l.walk.state) (stand l.walk.asked) l.world
+    Ran g.W.World.gives (links (g.B.Below.values l.level.below) l.level.parens l.all l.fn.left l.span l.fn.walk.state) (stand l.fn.walk.asked) l.fn.world (links (g.B.Below.values l.level.below) l.level.parens (drop l.one-index l.all) l.left l.span l.walk.state) (stand l.walk.asked) l.world

@@ -4,7 +4,7 @@ use Rattle.sw_eval_literals.proofs.signs.signed.Given as goal
 
 abbrev pub invariant-signs : goal.invariant-signs
 invariant-signs l = record {
-  left : signed l.signs l.fn.value l.at ≡ signed (take l.left l.signs) l.value l.at;
+  left : signed l.signs l.fn.value l.span ≡ signed (take l.left l.signs) l.value l.span;
   few : l.left ≤ length l.signs;
 }
 

@@ -9,7 +9,7 @@ use Rattle.sw_eval_questions.proofs.questions.known.Goals as goal
 
 pub returns-then-asked-ge1000000-clause-did : goal.returns-then-asked-ge1000000-clause-did
 unfolding most_asked
-returns-then-asked-ge1000000-clause-did g c = λ q op is. ask_full q c.args.at.now nothing _ _ _ c.if-asked-ge1000000.true c.fails.ensures
+returns-then-asked-ge1000000-clause-did g c = λ q op is. ask_full q c.args.span.now nothing _ _ _ c.if-asked-ge1000000.true c.fails.ensures
 
 pub returns-then-asked-ge1000000-clause-few : goal.returns-then-asked-ge1000000-clause-few
 returns-then-asked-ge1000000-clause-few g c = fails_ok c.fails.result _ nothing _ c.fails.ensures
@@ -19,7 +19,7 @@ unfolding most_asked
 returns-clause-did g c = λ q op is.
     let ps = c.args.asked.now.pairs.items in
     let lt : c.args.asked.now.at < length ps = ⊎_elim (λ a. a) (λ b. absurd (omega (arith, b, c.if-asked-ge1000000.false))) c.requires in
-    ask_takes q op c.args.at.now nothing c.args.asked.now.path ps _ _ c.index.result.now _ c.if-asked-ge1000000.false is (slice_get_read ps (length ps) c.args.asked.now.at c.index.result.now refl lt c.index.ensures) c.taken.ensures.did
+    ask_takes q op c.args.span.now nothing c.args.asked.now.path ps _ _ c.index.result.now _ c.if-asked-ge1000000.false is (slice_get_read ps (length ps) c.args.asked.now.at c.index.result.now refl lt c.index.ensures) c.taken.ensures.did
 
 pub returns-clause-few : goal.returns-clause-few
 returns-clause-few g c = number_few c.taken.result _ 1000000 c.taken.ensures.number c.if-asked-ge1000000.false

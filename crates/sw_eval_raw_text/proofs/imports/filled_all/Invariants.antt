@@ -3,4 +3,4 @@ use Rattle.sw_eval_raw_text.specs.Imports.{filled_from, filled_all}
 use Rattle.sw_eval_raw_text.proofs.imports.filled_all.Given as goal
 
 abbrev pub invariant-parts : goal.invariant-parts
-invariant-parts l = filled_all l.parts l.values l.at ≡ filled_from l.done (drop l.part-index l.parts) l.values l.taken l.at
+invariant-parts l = filled_all l.parts l.values l.span ≡ filled_from l.done (drop l.part-index l.parts) l.values l.taken l.span

@@ -3,4 +3,4 @@ use Rattle.sw_eval_state.specs.Selecting.{words_of}
 use Rattle.sw_eval_state.proofs.selecting.words_of.Given as goal
 
 abbrev pub invariant-texts : goal.invariant-texts
-invariant-texts l = words_of [] l.texts l.at ≡ words_of l.done (drop l.text-index l.texts) l.at
+invariant-texts l = words_of [] l.texts l.span ≡ words_of l.done (drop l.text-index l.texts) l.span

@@ -39,20 +39,20 @@ pub load-returns-in_ok-answer-in-Open-clause-fits : goal.load-returns-in_ok-answ
 load-returns-in_ok-answer-in-Open-clause-fits g t c =
     fits_load c.args.op.now c.in_ok-answer-in-Open.answer c.requires c.in_ok-answer-in-Open.ensures.kind
 
-pub turn-returns-in_ok-answer-in-Load-clause-is_body : goal.turn-returns-in_ok-answer-in-Load-clause-is_body
-turn-returns-in_ok-answer-in-Load-clause-is_body g t c =
+pub body_turn-returns-in_ok-answer-in-Load-clause-is_body : goal.body_turn-returns-in_ok-answer-in-Load-clause-is_body
+body_turn-returns-in_ok-answer-in-Load-clause-is_body g t c =
     is_body_given g.E.Engine.body (g.E.Engine.progress c.go_outside.new.body) (g.E.Engine.progress c.give.new.running) c.in-Load.op c.in_ok-answer-in-Load.answer
     c.in_ok-op.ensures.is_body (c.in_ok-op.ensures.stopped.0 ∙ ap stops c.in-Load.is) c.in_ok-answer-in-Load.ensures.fits c.give.ensures
 
-pub turn-returns-in_ok-answer-in-Load-clause-turned : goal.turn-returns-in_ok-answer-in-Load-clause-turned
-turn-returns-in_ok-answer-in-Load-clause-turned g t c =
+pub body_turn-returns-in_ok-answer-in-Load-clause-turned : goal.body_turn-returns-in_ok-answer-in-Load-clause-turned
+body_turn-returns-in_ok-answer-in-Load-clause-turned g t c =
     turned_load (setting_of g.H.Hosts.answer g.H.Hosts.after g.R.Reader.reads g.E.Engine.body) c.args.within.now.kept.now (g.E.Engine.progress c.args.body.now) (g.E.Engine.progress c.go_outside.new.body) (g.E.Engine.progress c.give.new.running) c.in-Load.op c.in_ok-answer-in-Load.answer (moment_of c.args.moment.now.live (g.H.Hosts.state c.args.hosts.now) c.args.moment.now.results (g.E.Engine.ran c.args.engine.now)) (moment_of c.go_outside.new.live (g.H.Hosts.state c.go_outside.new.hosts) c.args.moment.now.results (g.E.Engine.ran c.go_outside.new.engine)) (moment_of c.load.new.moment.live (g.H.Hosts.state c.load.new.hosts) c.load.new.moment.results (g.E.Engine.ran c.load.new.engine))
     g.met.E.Engine.ends_in_time c.in_ok-op.ensures.went c.in_ok-op.ensures.is_body (c.in_ok-op.ensures.stopped.0 ∙ ap stops c.in-Load.is) c.in_ok-op.ensures.stopped.1 refl
     (c.in_ok-op.ensures.ran ∙ ap (λ x. g.E.Engine.ran c.args.engine.now ++ ran_by x (g.E.Engine.progress c.go_outside.new.body).job.path) c.in-Load.is)
     c.in_ok-answer-in-Load.ensures.did c.in_ok-answer-in-Load.ensures.fits c.give.ensures
 
-pub turn-returns-in-Ended-clause-turned : goal.turn-returns-in-Ended-clause-turned
-turn-returns-in-Ended-clause-turned g t c =
+pub body_turn-returns-in-Ended-clause-turned : goal.body_turn-returns-in-Ended-clause-turned
+body_turn-returns-in-Ended-clause-turned g t c =
     turned_end (setting_of g.H.Hosts.answer g.H.Hosts.after g.R.Reader.reads g.E.Engine.body) c.args.within.now.kept.now (g.E.Engine.progress c.args.body.now) (g.E.Engine.progress c.go_outside.new.body) c.in-Ended.end (moment_of c.args.moment.now.live (g.H.Hosts.state c.args.hosts.now) c.args.moment.now.results (g.E.Engine.ran c.args.engine.now)) (moment_of c.go_outside.new.live (g.H.Hosts.state c.go_outside.new.hosts) c.args.moment.now.results (g.E.Engine.ran c.go_outside.new.engine))
     c.in_ok-op.ensures.went (c.in_ok-op.ensures.stopped.0 ∙ ap stops c.in-Ended.is) c.in_ok-op.ensures.stopped.1 refl
     (c.in_ok-op.ensures.ran ∙ ap (λ x. g.E.Engine.ran c.args.engine.now ++ ran_by x (g.E.Engine.progress c.go_outside.new.body).job.path) c.in-Ended.is)
@@ -64,30 +64,30 @@ run_body-loop-body-init g t c =
 pub run_body-run_ended-requires-clause-goes : goal.run_body-run_ended-requires-clause-goes
 run_body-run_ended-requires-clause-goes g t c =
     let same = c.close-seen.ensures in
-    subst (λ l. Goes (g.E.Engine.body (record { sheet = c.args.start.now.sheet.now; config = c.args.opening.now.config; path = c.args.opening.now.path })) [] l) (sym same) (ended_goes (setting_of g.H.Hosts.answer g.H.Hosts.after g.R.Reader.reads g.E.Engine.body) c.args.within.now.kept.now (record { sheet = c.args.start.now.sheet.now; config = c.args.opening.now.config; path = c.args.opening.now.path }) c.args.start.now.known.now (g.E.Engine.progress c.loop-body.body) (g.E.Engine.progress c.turn.new.body) c.in_ok-end.field-0 (moment_of c.args.moment.now.live (g.H.Hosts.state c.args.hosts.now) c.args.moment.now.results (g.E.Engine.ran c.args.engine.now)) (moment_of c.loop-body.moment.live (g.H.Hosts.state c.loop-body.hosts) c.loop-body.moment.results (g.E.Engine.ran c.loop-body.engine)) (moment_of c.turn.new.moment.live (g.H.Hosts.state c.turn.new.hosts) c.turn.new.moment.results (g.E.Engine.ran c.turn.new.engine))
+    subst (λ l. Goes (g.E.Engine.body (record { sheet = c.args.start.now.sheet.now; config = c.args.opening.now.config; path = c.args.opening.now.path })) [] l) (sym same) (ended_goes (setting_of g.H.Hosts.answer g.H.Hosts.after g.R.Reader.reads g.E.Engine.body) c.args.within.now.kept.now (record { sheet = c.args.start.now.sheet.now; config = c.args.opening.now.config; path = c.args.opening.now.path }) c.args.start.now.known.now (g.E.Engine.progress c.loop-body.body) (g.E.Engine.progress c.body_turn.new.body) c.in_ok-end.field-0 (moment_of c.args.moment.now.live (g.H.Hosts.state c.args.hosts.now) c.args.moment.now.results (g.E.Engine.ran c.args.engine.now)) (moment_of c.loop-body.moment.live (g.H.Hosts.state c.loop-body.hosts) c.loop-body.moment.results (g.E.Engine.ran c.loop-body.engine)) (moment_of c.body_turn.new.moment.live (g.H.Hosts.state c.body_turn.new.hosts) c.body_turn.new.moment.results (g.E.Engine.ran c.body_turn.new.engine))
     c.loop-body.invariant c.in_ok-end.ensures.turned c.in_ok-end.ensures.is_body)
 
 pub run_body-run_ended-requires-clause-ends : goal.run_body-run_ended-requires-clause-ends
 run_body-run_ended-requires-clause-ends g t c =
     let same = c.close-seen.ensures in
-    subst (λ l. g.E.Engine.body (record { sheet = c.args.start.now.sheet.now; config = c.args.opening.now.config; path = c.args.opening.now.path }) (answers l) ≡ Ends c.in-Some.end) (sym same) (ended_ends (setting_of g.H.Hosts.answer g.H.Hosts.after g.R.Reader.reads g.E.Engine.body) c.args.within.now.kept.now (record { sheet = c.args.start.now.sheet.now; config = c.args.opening.now.config; path = c.args.opening.now.path }) c.args.start.now.known.now (g.E.Engine.progress c.loop-body.body) (g.E.Engine.progress c.turn.new.body) c.in_ok-end.field-0 (moment_of c.args.moment.now.live (g.H.Hosts.state c.args.hosts.now) c.args.moment.now.results (g.E.Engine.ran c.args.engine.now)) (moment_of c.loop-body.moment.live (g.H.Hosts.state c.loop-body.hosts) c.loop-body.moment.results (g.E.Engine.ran c.loop-body.engine)) (moment_of c.turn.new.moment.live (g.H.Hosts.state c.turn.new.hosts) c.turn.new.moment.results (g.E.Engine.ran c.turn.new.engine))
+    subst (λ l. g.E.Engine.body (record { sheet = c.args.start.now.sheet.now; config = c.args.opening.now.config; path = c.args.opening.now.path }) (answers l) ≡ Ends c.in-Some.end) (sym same) (ended_ends (setting_of g.H.Hosts.answer g.H.Hosts.after g.R.Reader.reads g.E.Engine.body) c.args.within.now.kept.now (record { sheet = c.args.start.now.sheet.now; config = c.args.opening.now.config; path = c.args.opening.now.path }) c.args.start.now.known.now (g.E.Engine.progress c.loop-body.body) (g.E.Engine.progress c.body_turn.new.body) c.in_ok-end.field-0 (moment_of c.args.moment.now.live (g.H.Hosts.state c.args.hosts.now) c.args.moment.now.results (g.E.Engine.ran c.args.engine.now)) (moment_of c.loop-body.moment.live (g.H.Hosts.state c.loop-body.hosts) c.loop-body.moment.results (g.E.Engine.ran c.loop-body.engine)) (moment_of c.body_turn.new.moment.live (g.H.Hosts.state c.body_turn.new.hosts) c.body_turn.new.moment.results (g.E.Engine.ran c.body_turn.new.engine))
     c.loop-body.invariant c.in_ok-end.ensures.turned c.in-Some.end c.in-Some.is c.in_ok-end.ensures.is_body)
 
 pub run_body-returns-in-Some-clause-did : goal.run_body-returns-in-Some-clause-did
 run_body-returns-in-Some-clause-did g t c =
-    runs_end (setting_of g.H.Hosts.answer g.H.Hosts.after g.R.Reader.reads g.E.Engine.body) c.args.within.now.kept.now (record { sheet = c.args.start.now.sheet.now; config = c.args.opening.now.config; path = c.args.opening.now.path }) c.args.start.now.known.now (g.E.Engine.progress c.loop-body.body) (g.E.Engine.progress c.turn.new.body) c.in_ok-end.field-0 (moment_of c.args.moment.now.live (g.H.Hosts.state c.args.hosts.now) c.args.moment.now.results (g.E.Engine.ran c.args.engine.now)) (moment_of c.loop-body.moment.live (g.H.Hosts.state c.loop-body.hosts) c.loop-body.moment.results (g.E.Engine.ran c.loop-body.engine)) (moment_of c.turn.new.moment.live (g.H.Hosts.state c.turn.new.hosts) c.turn.new.moment.results (g.E.Engine.ran c.turn.new.engine))
+    runs_end (setting_of g.H.Hosts.answer g.H.Hosts.after g.R.Reader.reads g.E.Engine.body) c.args.within.now.kept.now (record { sheet = c.args.start.now.sheet.now; config = c.args.opening.now.config; path = c.args.opening.now.path }) c.args.start.now.known.now (g.E.Engine.progress c.loop-body.body) (g.E.Engine.progress c.body_turn.new.body) c.in_ok-end.field-0 (moment_of c.args.moment.now.live (g.H.Hosts.state c.args.hosts.now) c.args.moment.now.results (g.E.Engine.ran c.args.engine.now)) (moment_of c.loop-body.moment.live (g.H.Hosts.state c.loop-body.hosts) c.loop-body.moment.results (g.E.Engine.ran c.loop-body.engine)) (moment_of c.body_turn.new.moment.live (g.H.Hosts.state c.body_turn.new.hosts) c.body_turn.new.moment.results (g.E.Engine.ran c.body_turn.new.engine))
     c.loop-body.invariant c.in_ok-end.ensures.turned
-    c.args.opening.now.text c.args.start.now.cause c.in_ok-ended.ended (moment_of c.turn.new.moment.live (g.H.Hosts.state c.turn.new.hosts) c.add.new.self (g.E.Engine.ran c.turn.new.engine)) (c.in-Some.is ∙ ap Some (sym c.in_ok-ended.ensures)) g.met.E.Engine.ends_in_time c.in_ok-end.ensures.is_body c.requires.differs refl refl
-    (added (record { sheet = c.args.start.now.sheet.now; config = c.args.opening.now.config; path = c.args.opening.now.path }) c.args.opening.now.text (g.E.Engine.progress c.turn.new.body).seen c.close-seen.result c.in-Some.end c.in_ok-ended.ended c.in_ok-named.named c.args.start.now.cause c.turn.new.moment.results c.add.new.self c.in_ok-run.run' c.in_ok-add.ensures.runs c.in_ok-add.ensures.ran c.in_ok-named.ensures c.in_ok-run.ensures c.close-seen.ensures (sym c.in_ok-ended.ensures))
+    c.args.opening.now.text c.args.start.now.cause c.in_ok-ended.ended (moment_of c.body_turn.new.moment.live (g.H.Hosts.state c.body_turn.new.hosts) c.add.new.self (g.E.Engine.ran c.body_turn.new.engine)) (c.in-Some.is ∙ ap Some (sym c.in_ok-ended.ensures)) g.met.E.Engine.ends_in_time c.in_ok-end.ensures.is_body c.requires.differs refl refl
+    (added (record { sheet = c.args.start.now.sheet.now; config = c.args.opening.now.config; path = c.args.opening.now.path }) c.args.opening.now.text (g.E.Engine.progress c.body_turn.new.body).seen c.close-seen.result c.in-Some.end c.in_ok-ended.ended c.in_ok-named.named c.args.start.now.cause c.body_turn.new.moment.results c.add.new.self c.in_ok-run.run' c.in_ok-add.ensures.runs c.in_ok-add.ensures.ran c.in_ok-named.ensures c.in_ok-run.ensures c.close-seen.ensures (sym c.in_ok-ended.ensures))
 
 pub run_body-loop-body-smaller : goal.run_body-loop-body-smaller
 run_body-loop-body-smaller g t c =
-    runs_shorter (setting_of g.H.Hosts.answer g.H.Hosts.after g.R.Reader.reads g.E.Engine.body) c.args.within.now.kept.now (record { sheet = c.args.start.now.sheet.now; config = c.args.opening.now.config; path = c.args.opening.now.path }) c.args.start.now.known.now (g.E.Engine.progress c.loop-body.body) (g.E.Engine.progress c.turn.new.body) c.in_ok-end.field-0 (moment_of c.args.moment.now.live (g.H.Hosts.state c.args.hosts.now) c.args.moment.now.results (g.E.Engine.ran c.args.engine.now)) (moment_of c.loop-body.moment.live (g.H.Hosts.state c.loop-body.hosts) c.loop-body.moment.results (g.E.Engine.ran c.loop-body.engine)) (moment_of c.turn.new.moment.live (g.H.Hosts.state c.turn.new.hosts) c.turn.new.moment.results (g.E.Engine.ran c.turn.new.engine))
+    runs_shorter (setting_of g.H.Hosts.answer g.H.Hosts.after g.R.Reader.reads g.E.Engine.body) c.args.within.now.kept.now (record { sheet = c.args.start.now.sheet.now; config = c.args.opening.now.config; path = c.args.opening.now.path }) c.args.start.now.known.now (g.E.Engine.progress c.loop-body.body) (g.E.Engine.progress c.body_turn.new.body) c.in_ok-end.field-0 (moment_of c.args.moment.now.live (g.H.Hosts.state c.args.hosts.now) c.args.moment.now.results (g.E.Engine.ran c.args.engine.now)) (moment_of c.loop-body.moment.live (g.H.Hosts.state c.loop-body.hosts) c.loop-body.moment.results (g.E.Engine.ran c.loop-body.engine)) (moment_of c.body_turn.new.moment.live (g.H.Hosts.state c.body_turn.new.hosts) c.body_turn.new.moment.results (g.E.Engine.ran c.body_turn.new.engine))
     c.loop-body.invariant c.in_ok-end.ensures.turned c.in_default.is g.met.E.Engine.ends_in_time c.in_ok-end.ensures.is_body
 
 pub run_body-loop-body-preserved : goal.run_body-loop-body-preserved
 run_body-loop-body-preserved g t c =
-    runs_on (setting_of g.H.Hosts.answer g.H.Hosts.after g.R.Reader.reads g.E.Engine.body) c.args.within.now.kept.now (record { sheet = c.args.start.now.sheet.now; config = c.args.opening.now.config; path = c.args.opening.now.path }) c.args.start.now.known.now (g.E.Engine.progress c.loop-body.body) (g.E.Engine.progress c.turn.new.body) c.in_ok-end.field-0 (moment_of c.args.moment.now.live (g.H.Hosts.state c.args.hosts.now) c.args.moment.now.results (g.E.Engine.ran c.args.engine.now)) (moment_of c.loop-body.moment.live (g.H.Hosts.state c.loop-body.hosts) c.loop-body.moment.results (g.E.Engine.ran c.loop-body.engine)) (moment_of c.turn.new.moment.live (g.H.Hosts.state c.turn.new.hosts) c.turn.new.moment.results (g.E.Engine.ran c.turn.new.engine))
+    runs_on (setting_of g.H.Hosts.answer g.H.Hosts.after g.R.Reader.reads g.E.Engine.body) c.args.within.now.kept.now (record { sheet = c.args.start.now.sheet.now; config = c.args.opening.now.config; path = c.args.opening.now.path }) c.args.start.now.known.now (g.E.Engine.progress c.loop-body.body) (g.E.Engine.progress c.body_turn.new.body) c.in_ok-end.field-0 (moment_of c.args.moment.now.live (g.H.Hosts.state c.args.hosts.now) c.args.moment.now.results (g.E.Engine.ran c.args.engine.now)) (moment_of c.loop-body.moment.live (g.H.Hosts.state c.loop-body.hosts) c.loop-body.moment.results (g.E.Engine.ran c.loop-body.engine)) (moment_of c.body_turn.new.moment.live (g.H.Hosts.state c.body_turn.new.hosts) c.body_turn.new.moment.results (g.E.Engine.ran c.body_turn.new.engine))
     c.loop-body.invariant c.in_ok-end.ensures.turned c.in_default.is c.in_ok-end.ensures.is_body
 
 pub replay_turn-returns-in-Same-clause-did : goal.replay_turn-returns-in-Same-clause-did
@@ -203,13 +203,13 @@ load-returns-in_err-answer-in-Open-clause-cut g t c =
     (evaluated_all (setting_of g.H.Hosts.answer g.H.Hosts.after g.R.Reader.reads g.E.Engine.body) c.args.within.now.kept.now c.in-Open.path c.in-Open.text c.in-Open.config c.in_ok-end-in-Open.end (moment_of c.begin.new.self (g.H.Hosts.state c.args.hosts.now) c.args.moment.now.results (g.E.Engine.ran c.args.engine.now)) (moment_of c.evaluate.new.moment.live (g.H.Hosts.state c.evaluate.new.hosts) c.evaluate.new.moment.results (g.E.Engine.ran c.evaluate.new.engine)) c.in_ok-end-in-Open.ensures.did) in
     search (rules, cut)
 
-pub turn-returns-in_err-op-clause-cut : goal.turn-returns-in_err-op-clause-cut
-turn-returns-in_err-op-clause-cut g t c =
+pub body_turn-returns-in_err-op-clause-cut : goal.body_turn-returns-in_err-op-clause-cut
+body_turn-returns-in_err-op-clause-cut g t c =
     let cut = c.in_err-op.ensures.cut in
     search (rules, cut)
 
-pub turn-returns-in_err-answer-in-Load-clause-cut : goal.turn-returns-in_err-answer-in-Load-clause-cut
-turn-returns-in_err-answer-in-Load-clause-cut g t c =
+pub body_turn-returns-in_err-answer-in-Load-clause-cut : goal.body_turn-returns-in_err-answer-in-Load-clause-cut
+body_turn-returns-in_err-answer-in-Load-clause-cut g t c =
     let cut = turn_cut (setting_of g.H.Hosts.answer g.H.Hosts.after g.R.Reader.reads g.E.Engine.body) (g.E.Engine.progress c.args.body.now) (g.E.Engine.progress c.go_outside.new.body) c.in-Load.op (record { live = c.args.moment.now.live; hosts = g.H.Hosts.state c.args.hosts.now }) (record { live = c.go_outside.new.live; hosts = g.H.Hosts.state c.go_outside.new.hosts }) (g.H.Hosts.state c.load.new.hosts) (g.E.Engine.ran c.args.engine.now) (g.E.Engine.ran c.go_outside.new.engine) (g.E.Engine.ran c.load.new.engine)
     g.met.E.Engine.ends_in_time c.in_ok-op.ensures.went c.in_ok-op.ensures.is_body (c.in_ok-op.ensures.stopped.0 ∙ ap stops c.in-Load.is) (ran_by c.in_ok-op.field-0 (g.E.Engine.progress c.go_outside.new.body).job.path, c.in_ok-op.ensures.ran) c.in_err-answer-in-Load.ensures.cut in
     search (rules, cut)
@@ -221,27 +221,27 @@ run_body-returns-in_err-body-clause-cut g t c =
 
 pub run_body-returns-in_err-end-clause-cut : goal.run_body-returns-in_err-end-clause-cut
 run_body-returns-in_err-end-clause-cut g t c =
-    let cut = run_cut (setting_of g.H.Hosts.answer g.H.Hosts.after g.R.Reader.reads g.E.Engine.body) c.args.within.now.kept.now (record { sheet = c.args.start.now.sheet.now; config = c.args.opening.now.config; path = c.args.opening.now.path }) c.args.start.now.known.now (g.E.Engine.progress c.loop-body.body) (moment_of c.args.moment.now.live (g.H.Hosts.state c.args.hosts.now) c.args.moment.now.results (g.E.Engine.ran c.args.engine.now)) (moment_of c.loop-body.moment.live (g.H.Hosts.state c.loop-body.hosts) c.loop-body.moment.results (g.E.Engine.ran c.loop-body.engine)) c.loop-body.invariant (g.H.Hosts.state c.turn.new.hosts) (g.E.Engine.ran c.turn.new.engine) c.in_err-end.ensures.cut in
+    let cut = run_cut (setting_of g.H.Hosts.answer g.H.Hosts.after g.R.Reader.reads g.E.Engine.body) c.args.within.now.kept.now (record { sheet = c.args.start.now.sheet.now; config = c.args.opening.now.config; path = c.args.opening.now.path }) c.args.start.now.known.now (g.E.Engine.progress c.loop-body.body) (moment_of c.args.moment.now.live (g.H.Hosts.state c.args.hosts.now) c.args.moment.now.results (g.E.Engine.ran c.args.engine.now)) (moment_of c.loop-body.moment.live (g.H.Hosts.state c.loop-body.hosts) c.loop-body.moment.results (g.E.Engine.ran c.loop-body.engine)) c.loop-body.invariant (g.H.Hosts.state c.body_turn.new.hosts) (g.E.Engine.ran c.body_turn.new.engine) c.in_err-end.ensures.cut in
     search (rules, cut)
 
 pub run_body-returns-in_err-ended-clause-cut : goal.run_body-returns-in_err-ended-clause-cut
 run_body-returns-in_err-ended-clause-cut g t c =
-    let cut = ended_cut (setting_of g.H.Hosts.answer g.H.Hosts.after g.R.Reader.reads g.E.Engine.body) c.args.within.now.kept.now (record { sheet = c.args.start.now.sheet.now; config = c.args.opening.now.config; path = c.args.opening.now.path }) c.args.start.now.known.now (g.E.Engine.progress c.loop-body.body) (moment_of c.args.moment.now.live (g.H.Hosts.state c.args.hosts.now) c.args.moment.now.results (g.E.Engine.ran c.args.engine.now)) (moment_of c.loop-body.moment.live (g.H.Hosts.state c.loop-body.hosts) c.loop-body.moment.results (g.E.Engine.ran c.loop-body.engine)) c.loop-body.invariant (g.E.Engine.progress c.turn.new.body) c.in_ok-end.field-0 (moment_of c.turn.new.moment.live (g.H.Hosts.state c.turn.new.hosts) c.turn.new.moment.results (g.E.Engine.ran c.turn.new.engine)) c.in_ok-end.ensures.turned in
+    let cut = ended_cut (setting_of g.H.Hosts.answer g.H.Hosts.after g.R.Reader.reads g.E.Engine.body) c.args.within.now.kept.now (record { sheet = c.args.start.now.sheet.now; config = c.args.opening.now.config; path = c.args.opening.now.path }) c.args.start.now.known.now (g.E.Engine.progress c.loop-body.body) (moment_of c.args.moment.now.live (g.H.Hosts.state c.args.hosts.now) c.args.moment.now.results (g.E.Engine.ran c.args.engine.now)) (moment_of c.loop-body.moment.live (g.H.Hosts.state c.loop-body.hosts) c.loop-body.moment.results (g.E.Engine.ran c.loop-body.engine)) c.loop-body.invariant (g.E.Engine.progress c.body_turn.new.body) c.in_ok-end.field-0 (moment_of c.body_turn.new.moment.live (g.H.Hosts.state c.body_turn.new.hosts) c.body_turn.new.moment.results (g.E.Engine.ran c.body_turn.new.engine)) c.in_ok-end.ensures.turned in
     search (rules, cut)
 
 pub run_body-returns-in_err-named-clause-cut : goal.run_body-returns-in_err-named-clause-cut
 run_body-returns-in_err-named-clause-cut g t c =
-    let cut = ended_cut (setting_of g.H.Hosts.answer g.H.Hosts.after g.R.Reader.reads g.E.Engine.body) c.args.within.now.kept.now (record { sheet = c.args.start.now.sheet.now; config = c.args.opening.now.config; path = c.args.opening.now.path }) c.args.start.now.known.now (g.E.Engine.progress c.loop-body.body) (moment_of c.args.moment.now.live (g.H.Hosts.state c.args.hosts.now) c.args.moment.now.results (g.E.Engine.ran c.args.engine.now)) (moment_of c.loop-body.moment.live (g.H.Hosts.state c.loop-body.hosts) c.loop-body.moment.results (g.E.Engine.ran c.loop-body.engine)) c.loop-body.invariant (g.E.Engine.progress c.turn.new.body) c.in_ok-end.field-0 (moment_of c.turn.new.moment.live (g.H.Hosts.state c.turn.new.hosts) c.turn.new.moment.results (g.E.Engine.ran c.turn.new.engine)) c.in_ok-end.ensures.turned in
+    let cut = ended_cut (setting_of g.H.Hosts.answer g.H.Hosts.after g.R.Reader.reads g.E.Engine.body) c.args.within.now.kept.now (record { sheet = c.args.start.now.sheet.now; config = c.args.opening.now.config; path = c.args.opening.now.path }) c.args.start.now.known.now (g.E.Engine.progress c.loop-body.body) (moment_of c.args.moment.now.live (g.H.Hosts.state c.args.hosts.now) c.args.moment.now.results (g.E.Engine.ran c.args.engine.now)) (moment_of c.loop-body.moment.live (g.H.Hosts.state c.loop-body.hosts) c.loop-body.moment.results (g.E.Engine.ran c.loop-body.engine)) c.loop-body.invariant (g.E.Engine.progress c.body_turn.new.body) c.in_ok-end.field-0 (moment_of c.body_turn.new.moment.live (g.H.Hosts.state c.body_turn.new.hosts) c.body_turn.new.moment.results (g.E.Engine.ran c.body_turn.new.engine)) c.in_ok-end.ensures.turned in
     search (rules, cut)
 
 pub run_body-returns-in_err-run-clause-cut : goal.run_body-returns-in_err-run-clause-cut
 run_body-returns-in_err-run-clause-cut g t c =
-    let cut = ended_cut (setting_of g.H.Hosts.answer g.H.Hosts.after g.R.Reader.reads g.E.Engine.body) c.args.within.now.kept.now (record { sheet = c.args.start.now.sheet.now; config = c.args.opening.now.config; path = c.args.opening.now.path }) c.args.start.now.known.now (g.E.Engine.progress c.loop-body.body) (moment_of c.args.moment.now.live (g.H.Hosts.state c.args.hosts.now) c.args.moment.now.results (g.E.Engine.ran c.args.engine.now)) (moment_of c.loop-body.moment.live (g.H.Hosts.state c.loop-body.hosts) c.loop-body.moment.results (g.E.Engine.ran c.loop-body.engine)) c.loop-body.invariant (g.E.Engine.progress c.turn.new.body) c.in_ok-end.field-0 (moment_of c.turn.new.moment.live (g.H.Hosts.state c.turn.new.hosts) c.turn.new.moment.results (g.E.Engine.ran c.turn.new.engine)) c.in_ok-end.ensures.turned in
+    let cut = ended_cut (setting_of g.H.Hosts.answer g.H.Hosts.after g.R.Reader.reads g.E.Engine.body) c.args.within.now.kept.now (record { sheet = c.args.start.now.sheet.now; config = c.args.opening.now.config; path = c.args.opening.now.path }) c.args.start.now.known.now (g.E.Engine.progress c.loop-body.body) (moment_of c.args.moment.now.live (g.H.Hosts.state c.args.hosts.now) c.args.moment.now.results (g.E.Engine.ran c.args.engine.now)) (moment_of c.loop-body.moment.live (g.H.Hosts.state c.loop-body.hosts) c.loop-body.moment.results (g.E.Engine.ran c.loop-body.engine)) c.loop-body.invariant (g.E.Engine.progress c.body_turn.new.body) c.in_ok-end.field-0 (moment_of c.body_turn.new.moment.live (g.H.Hosts.state c.body_turn.new.hosts) c.body_turn.new.moment.results (g.E.Engine.ran c.body_turn.new.engine)) c.in_ok-end.ensures.turned in
     search (rules, cut)
 
 pub run_body-returns-in_err-add-clause-cut : goal.run_body-returns-in_err-add-clause-cut
 run_body-returns-in_err-add-clause-cut g t c =
-    let cut = ended_cut (setting_of g.H.Hosts.answer g.H.Hosts.after g.R.Reader.reads g.E.Engine.body) c.args.within.now.kept.now (record { sheet = c.args.start.now.sheet.now; config = c.args.opening.now.config; path = c.args.opening.now.path }) c.args.start.now.known.now (g.E.Engine.progress c.loop-body.body) (moment_of c.args.moment.now.live (g.H.Hosts.state c.args.hosts.now) c.args.moment.now.results (g.E.Engine.ran c.args.engine.now)) (moment_of c.loop-body.moment.live (g.H.Hosts.state c.loop-body.hosts) c.loop-body.moment.results (g.E.Engine.ran c.loop-body.engine)) c.loop-body.invariant (g.E.Engine.progress c.turn.new.body) c.in_ok-end.field-0 (moment_of c.turn.new.moment.live (g.H.Hosts.state c.turn.new.hosts) c.turn.new.moment.results (g.E.Engine.ran c.turn.new.engine)) c.in_ok-end.ensures.turned in
+    let cut = ended_cut (setting_of g.H.Hosts.answer g.H.Hosts.after g.R.Reader.reads g.E.Engine.body) c.args.within.now.kept.now (record { sheet = c.args.start.now.sheet.now; config = c.args.opening.now.config; path = c.args.opening.now.path }) c.args.start.now.known.now (g.E.Engine.progress c.loop-body.body) (moment_of c.args.moment.now.live (g.H.Hosts.state c.args.hosts.now) c.args.moment.now.results (g.E.Engine.ran c.args.engine.now)) (moment_of c.loop-body.moment.live (g.H.Hosts.state c.loop-body.hosts) c.loop-body.moment.results (g.E.Engine.ran c.loop-body.engine)) c.loop-body.invariant (g.E.Engine.progress c.body_turn.new.body) c.in_ok-end.field-0 (moment_of c.body_turn.new.moment.live (g.H.Hosts.state c.body_turn.new.hosts) c.body_turn.new.moment.results (g.E.Engine.ran c.body_turn.new.engine)) c.in_ok-end.ensures.turned in
     search (rules, cut)
 
 pub replay_turn-returns-in_err-replay_outside-clause-cut : goal.replay_turn-returns-in_err-replay_outside-clause-cut

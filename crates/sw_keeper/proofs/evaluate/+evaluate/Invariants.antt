@@ -20,8 +20,8 @@ decreases-replay_turn g l = 4 * room l.moment.now.live + 1
 abbrev pub decreases-run_body : goal.decreases-run_body
 decreases-run_body g l = 4 * room l.moment.now.live + 2
 
-abbrev pub decreases-turn : goal.decreases-turn
-decreases-turn g l = 4 * room l.moment.now.live + 1
+abbrev pub decreases-body_turn : goal.decreases-body_turn
+decreases-body_turn g l = 4 * room l.moment.now.live + 1
 
 abbrev pub invariant-replay_all-loop-to : goal.invariant-replay_all-loop-to
 invariant-replay_all-loop-to g l =

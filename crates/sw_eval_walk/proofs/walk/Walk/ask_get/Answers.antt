@@ -18,4 +18,4 @@ returns-in-Some g c =
 pub returns-in-None : goal.returns-in-None
 unfolding most_asked
 returns-in-None g c =
-    ask_none (Gets c.args.owner) c.args.at.now c.args.self.now.state _ _ _ (c.in_ok-path.ensures (λ (p : List ℕ). λ (n : List ℕ). Get p n) ∙ ap (option_map (λ r. (λ (p : List ℕ). λ (n : List ℕ). Get p n) r.0 r.1)) c.in-None.is) (λ m. failed _ _ c.args.self.now.state (c.lost.ensures.full m)) (λ m. failed _ _ c.args.self.now.state (c.lost.ensures.lost m))
+    ask_none (Gets c.args.owner) c.args.span.now c.args.self.now.state _ _ _ (c.in_ok-path.ensures (λ (p : List ℕ). λ (n : List ℕ). Get p n) ∙ ap (option_map (λ r. (λ (p : List ℕ). λ (n : List ℕ). Get p n) r.0 r.1)) c.in-None.is) (λ m. failed _ _ c.args.self.now.state (c.lost.ensures.full m)) (λ m. failed _ _ c.args.self.now.state (c.lost.ensures.lost m))

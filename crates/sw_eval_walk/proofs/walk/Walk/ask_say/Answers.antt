@@ -10,4 +10,4 @@ returns-in_err-span g c =
 
 pub returns : goal.returns
 returns g c =
-    heard _ _ c.args.self.now.asked c.ask.new.asked c.args.self.now.state (c.ask.ensures.did (Says c.args.kind c.args.at.now c.args.text) (rw c.in_ok-span.ensures refl))
+    heard _ _ c.args.self.now.asked c.ask.new.asked c.args.self.now.state (c.ask.ensures.did (Says c.args.kind c.args.span.now c.args.text) (rw c.in_ok-span.ensures refl))

@@ -17,4 +17,4 @@ returns-in_ok-holds-in-Asked g c =
 
 pub returns-in_default : goal.returns-in_default
 returns-in_default g c =
-    rw (← not_asked c.args.function c.args.passed.now c.args.at.now c.args.self.now.state c.in_default.not-Asked) (did_stopped _ _ _ c.args.self.now.state _ _ c.built_in_value.ensures c.stopped-in_default.ensures)
+    rw (← not_asked c.args.function c.args.passed.now c.args.span.now c.args.self.now.state c.in_default.not-Asked) (did_stopped _ _ _ c.args.self.now.state _ _ c.built_in_value.ensures c.stopped-in_default.ensures)
