@@ -1,0 +1,135 @@
+// Each recipe of `recipes/` as it stands there, over real folders.
+// @ts-check
+import assert from 'node:assert/strict';
+import { renameSync } from 'node:fs';
+import { chmod, rename, rm, stat } from 'node:fs/promises';
+import { join } from 'node:path';
+import { test } from 'node:test';
+import { Room, missing, program, repository } from './room.js';
+
+const recipe = (name) => join(repository, 'recipes', name);
+const rule = (name, value) => `${name} {\n  b: ${value};\n}\n`;
+const site = {
+  'src/main.scss': '@use "lib";\na { b: lib.$n; }\n',
+  'src/_lib.scss': '$n: one;\n',
+  'src/pages/home.scss': '@use "../lib";\n.home { b: lib.$n; }\n',
+  'src/lines.sass': 'p\n  b: c\n',
+};
+const needs = (...programs) => ({ timeout: 120_000, skip: missing(...programs) });
+
+test('the Makefile builds every entry, and again just where a sheet changed', needs('make'), async (context) => {
+  const room = await Room.of(context);
+  await room.write(site);
+  const make = (...words) => room.run(['make', '-f', recipe('Makefile'), ...words]);
+  assert.deepEqual(await make(), { status: 0, out: '', err: '' });
+  assert.equal(await room.read('css/main.css'), rule('a', 'one'));
+  assert.equal(await room.read('css/pages/home.css'), rule('.home', 'one'));
+  assert.equal(await room.read('css/lines.css'), rule('p', 'c'));
+  assert.equal(room.has('css/_lib.css'), false);
+  const { mtimeMs } = await stat(room.at('css/main.css'));
+  assert.equal((await make()).status, 0);
+  assert.equal((await stat(room.at('css/main.css'))).mtimeMs, mtimeMs);
+  await room.write({ 'src/_lib.scss': '$n: two;\n' });
+  assert.equal((await make()).status, 0);
+  assert.equal(await room.read('css/main.css'), rule('a', 'two'));
+});
+
+test('the Makefile shows a fault and keeps the last good CSS', needs('make'), async (context) => {
+  const room = await Room.of(context);
+  await room.write(site);
+  const make = (...words) => room.run(['make', '-f', recipe('Makefile'), ...words]);
+  await make();
+  await room.write({ 'src/main.scss': 'a {\n  b: $x;\n}\n', 'src/_lib.scss': '$n: two;\n' });
+  const { status, err } = await make('-k');
+  assert.equal(status, 2);
+  assert.match(err, /^src\/main\.scss:2:6: fault 11\n {2}b: \$x;\nmake: .*main\.css.* 1$/m);
+  assert.equal(await room.read('css/main.css'), rule('a', 'one'));
+  assert.equal(room.has('css/main.css.new'), false);
+  assert.equal(await room.read('css/pages/home.css'), rule('.home', 'two'), 'the other entries are built');
+  await rm(room.at('src/_lib.scss'));
+  await room.write({ 'src/main.scss': site['src/main.scss'] });
+  assert.match((await make()).err, /^src\/main\.scss:1:6: fault 19$/m, 'a sheet that went is seen');
+});
+
+test('the Makefile tells that the program or the folder is missing', needs('make'), async (context) => {
+  const room = await Room.of(context);
+  await room.write(site);
+  const make = (...words) => room.run(['make', '-f', recipe('Makefile'), ...words]);
+  assert.match((await make('SASSW=no-such-program')).err, /^sassw ended with status 127$/m);
+  const { status, err } = await make('SRC=nowhere');
+  assert.equal(status, 2);
+  assert.match(err, /there is no folder nowhere/);
+});
+
+/** `watch.sh` over the site, once its first builds stand. */
+async function watching(room, out, ...entries) {
+  await room.write(site);
+  const started = room.start([recipe('watch.sh'), 'src', out, ...entries]);
+  for (const entry of entries) {
+    await started.writes(`${out}/${entry.replace(/\.\w+$/, '.css')} `);
+  }
+  return started;
+}
+
+test('watch.sh builds several entries, shows a fault and says that it is fixed', needs('inotifywait'), async (context) => {
+  const room = await Room.of(context);
+  const watch = await watching(room, 'css', 'main.scss', 'pages/home.scss');
+  assert.equal(await room.read('css/main.css'), rule('a', 'one'));
+  assert.equal(await room.read('css/pages/home.css'), rule('.home', 'one'));
+  await room.write({ 'src/main.scss': 'a { b: $x; }\n' });
+  await watch.writes('src/main.scss:1:8: fault 11\na { b: $x; }\n');
+  assert.equal(await room.read('css/main.css'), rule('a', 'one'));
+  await room.replace('src/main.scss', site['src/main.scss']);
+  await watch.writes('main.scss fixed\n');
+  await room.write({ 'src/_lib.scss': '$n: two;\n' });
+  await room.holds('css/main.css', rule('a', 'two'), () => watch.out + watch.err);
+  await room.holds('css/pages/home.css', rule('.home', 'two'), () => watch.out + watch.err);
+});
+
+test('watch.sh makes few scans of many events, and none of its own output in SRC', needs('inotifywait'), async (context) => {
+  const room = await Room.of(context);
+  const watch = await watching(room, 'src', 'main.scss');
+  const before = watch.out.length;
+  for (let number = 1; number <= 300; number++) {
+    await room.write({ [`away/m${number}.scss`]: `$n: ${number};\n`, [`away/lib${number}.scss`]: `$n: n${number};\n` });
+  }
+  for (let number = 1; number <= 300; number++) {
+    renameSync(room.at(`away/m${number}.scss`), room.at(`src/m${number}.scss`));
+    renameSync(room.at(`away/lib${number}.scss`), room.at('src/_lib.scss'));
+  }
+  await room.holds('src/main.css', rule('a', 'n300'), () => watch.out + watch.err);
+  await room.write({ 'src/main.scss': 'a { b: $x; }\n' });
+  await watch.writes('fault 11', before);
+  // What stands between is one line a CSS that was put: 600 events came, and its own output may add nothing.
+  const lines = watch.out.slice(before).split('\n').filter((line) => line.startsWith('src/main.css'));
+  assert.ok(lines.length <= 30, watch.out);
+  assert.equal(watch.err, '');
+});
+
+test('watch.sh tells that its folder went', needs('inotifywait'), async (context) => {
+  const room = await Room.of(context);
+  const watch = await watching(room, 'css', 'main.scss');
+  await rename(room.at('src'), room.at('away'));
+  assert.equal(await watch.status, 8);
+  assert.match(watch.err, /^the poll of main\.scss ended with status 8: the folder src isn't there/m);
+  assert.equal(await room.read('css/main.css'), rule('a', 'one'));
+});
+
+test('watch.sh tells that a poll was killed, without an event', needs('inotifywait'), async (context) => {
+  const room = await Room.of(context);
+  // In the place of the program stands a script that tells its number and becomes the program.
+  await rm(room.at('bin/sassw'));
+  await room.write({ 'bin/sassw': `#!/bin/sh\necho $$ > number\nexec '${program()}' "$@"\n` });
+  await chmod(room.at('bin/sassw'), 0o755);
+  const watch = await watching(room, 'css', 'main.scss');
+  process.kill(Number(await room.read('number')), 'SIGKILL');
+  assert.equal(await watch.status, 137);
+  assert.match(watch.err, /the poll of main\.scss ended with status 137/);
+});
+
+test('watch.sh tells wrong words', needs(), async (context) => {
+  const room = await Room.of(context);
+  const { status, err } = await room.run([recipe('watch.sh'), 'src', 'css']);
+  assert.equal(status, 7);
+  assert.match(err, /^usage: /);
+});
