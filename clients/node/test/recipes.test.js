@@ -2,7 +2,7 @@
 // @ts-check
 import assert from 'node:assert/strict';
 import { renameSync } from 'node:fs';
-import { chmod, rename, rm, stat } from 'node:fs/promises';
+import { chmod, copyFile, cp, mkdir, rename, rm, stat } from 'node:fs/promises';
 import { join } from 'node:path';
 import { test } from 'node:test';
 import { Room, missing, program, repository } from './room.js';
@@ -132,4 +132,39 @@ test('watch.sh tells wrong words', needs(), async (context) => {
   const { status, err } = await room.run([recipe('watch.sh'), 'src', 'css']);
   assert.equal(status, 7);
   assert.match(err, /^usage: /);
+});
+
+/** Builds both entries by Bazel in a folder of the room; all folders of it share one cache. How many actions ran there, and how many didn't. */
+async function bazel(room, folder) {
+  const own = ['--batch', `--output_user_root=${room.at('bazel')}`];
+  const words = ['build', `--disk_cache=${room.at('cache')}`, '--noshow_progress', '--color=no', '//:all'];
+  const { status, err } = await room.run(['bazel', ...own, ...words], { cwd: room.at(folder) });
+  const counts = [...(/ process(?:es)?: (.*)\.$/m.exec(err)?.[1] ?? '').matchAll(/(\d+) ([a-z -]+)/g)];
+  const sum = (wanted) => counts.reduce((all, [, count, what]) => all + (wanted(what) ? Number(count) : 0), 0);
+  const isKept = (what) => what.endsWith('cache hit');
+  return { status, err, kept: sum(isKept), ran: sum((what) => !isKept(what) && what !== 'internal') };
+}
+
+test('Bazel runs an entry again just where its files changed, and takes it from a cache', needs('bazel'), async (context) => {
+  const room = await Room.of(context);
+  for (const folder of ['here', 'there']) {
+    await room.write(Object.fromEntries(Object.entries({ ...site, WORKSPACE: '' }).map(([path, text]) => [`${folder}/${path}`, text])));
+    await cp(recipe('bazel'), room.at(folder), { recursive: true });
+    await mkdir(room.at(`${folder}/bin`));
+    await copyFile(program(), room.at(`${folder}/bin/sassw`));
+  }
+  const first = await bazel(room, 'here');
+  assert.deepEqual([first.status, first.ran, first.kept], [0, 2, 0], first.err);
+  assert.equal(await room.read('here/bazel-bin/main.css'), rule('a', 'one'));
+  assert.equal(await room.read('here/bazel-bin/pages/home.css'), rule('.home', 'one'));
+  const elsewhere = await bazel(room, 'there');
+  assert.deepEqual([elsewhere.status, elsewhere.ran, elsewhere.kept], [0, 0, 2], elsewhere.err);
+  assert.equal(await room.read('there/bazel-bin/main.css'), rule('a', 'one'));
+  await room.write({ 'here/src/_other.scss': '$n: one;\n' });
+  const beside = await bazel(room, 'here');
+  assert.deepEqual([beside.status, beside.ran], [0, 1], 'just the entry that names the whole folder\n' + beside.err);
+  await room.write({ 'here/src/main.scss': 'a {\n  b: $x;\n}\n' });
+  const wrong = await bazel(room, 'here');
+  assert.equal(wrong.status, 1);
+  assert.match(wrong.err, /^src\/main\.scss:2:6: fault 11\n {2}b: \$x;$/m);
 });

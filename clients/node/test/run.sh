@@ -16,6 +16,7 @@ absent() {
 # The Debian package that has a program.
 package_of() {
     case $1 in
+        bazel) echo bazel-bootstrap ;;
         node) echo nodejs ;;
         inotifywait) echo inotify-tools ;;
         *) echo "$1" ;;
@@ -41,7 +42,7 @@ install_absent() {
     rm -f "$log"
 }
 
-install_absent node bash make git inotifywait rollup chromium
+install_absent node bash make git inotifywait bazel rollup chromium
 
 if [ -n "$(absent node)" ]; then
     echo "the tests can't run without node" >&2
