@@ -5,7 +5,7 @@ import path from 'node:path';
 import { explain, problemsOf } from './explain.js';
 import { loadAt } from './loads.js';
 import { Mounts, isIn } from './mounts.js';
-import { MOST_LOAD_PATHS, extensionOf, isPath } from './names.js';
+import { MOST_FILES, MOST_LOAD_PATHS, extensionOf, isPath } from './names.js';
 import { RequestError, Session } from './session.js';
 import { Surroundings } from './surroundings.js';
 import { lineStarts, offsetOf } from './text.js';
@@ -38,6 +38,7 @@ import { lineStarts, offsetOf } from './text.js';
  * @property {string} [program] the path of the program; without it as `findProgram` says
  * @property {'text' | 'json' | 'github'} [format] of `explanation`; `text` without it
  * @property {boolean} [colour] whether `explanation` has colours for a terminal
+ * @property {boolean} [told] whether `changed` tells of every change, so that a compile looks at nothing else again
  * @property {(folder: string) => void} [beforeFolder] is called with each folder before it is looked at, so that a
  *   watcher that is set there misses nothing
  */
@@ -52,8 +53,8 @@ export class Compiler {
   #held = new Map();
   /** @type {Promise<unknown>} */
   #turn = Promise.resolve();
-  /** @type {string[] | null} */
-  #told = null;
+  /** @type {string[]} */
+  #told = [];
   #floor = '';
   /** Of each entry what its last compile saw. @type {Map<string, string>} */
   #seen = new Map();
@@ -72,8 +73,8 @@ export class Compiler {
   }
 
   /**
-   * Compiles an entry. It looks at all files and folders again that it saw before; but where `changed` told since the
-   * last compile which ones did, then at these alone.
+   * Compiles an entry. It looks at all files and folders again that it saw before; with the option `told` only at those
+   * of which `changed` told.
    * @param {string} entryFile a path, relative to the root or absolute
    * @returns {Promise<Compiled>}
    * @throws {import('./program.js').ProgramError} (by the promise) where the program isn't found
@@ -86,16 +87,15 @@ export class Compiler {
   }
 
   /**
-   * Tells which files and folders were changed, made or removed since the last compile.
+   * Tells which files and folders were changed, made or removed.
    * @param {Iterable<string>} paths absolute, with links or without
    */
   changed(paths) {
-    this.#told = [...(this.#told ?? []), ...paths];
+    this.#told.push(...paths);
   }
 
   /**
-   * Whether a compile of an entry would see just what the last one saw, so that it came to the same. It looks at what
-   * `changed` told, and starts no process.
+   * Whether a compile of an entry would see just what the last one saw, so that it came to the same. It starts no process.
    * @param {string} entryFile
    * @returns {boolean}
    */
@@ -130,8 +130,8 @@ export class Compiler {
 
   // Has what may have changed looked at again.
   #look() {
-    if (this.#told) this.mounts.disk.doubt(this.#told);
-    else this.mounts.disk.doubtAll();
+    if (this.#told.length > 0) this.mounts.disk.doubt(this.#told);
+    if (!this.options.told) this.mounts.disk.doubtAll();
     this.#told = [];
   }
 
@@ -142,7 +142,6 @@ export class Compiler {
   async #compile(entry) {
     const start = performance.now();
     this.#look();
-    this.#told = null;
     for (let round = 0; ; round += 1) {
       const graph = this.mounts.graph(entry);
       this.#seen.set(entry, signature(graph));
@@ -210,7 +209,7 @@ export class Compiler {
    * @param {(name: string) => void} remove
    */
   #makeRoom(needed, isNew, remove) {
-    if (this.#held.size + isNew <= 4096) return;
+    if (this.#held.size + isNew <= MOST_FILES) return;
     for (const it of [...this.#held.keys()]) if (!needed.has(it)) remove(it);
   }
 
@@ -296,7 +295,7 @@ function dependenciesOf(graph) {
   const files = new Set();
   for (const it of graph.sheets.values()) {
     files.add(it.real);
-    if (it.path !== it.real && realFolder(it.path) !== path.dirname(it.real)) files.add(it.path);
+    if (it.path !== it.real && path.join(realFolder(it.path), path.basename(it.path)) !== it.real) files.add(it.path);
   }
   for (const it of graph.passed) files.add(it);
   return [...files];
