@@ -53,8 +53,6 @@ export class Compiler {
   #held = new Map();
   /** @type {Promise<unknown>} */
   #turn = Promise.resolve();
-  /** @type {string[]} */
-  #told = [];
   #floor = '';
   /** Of each entry what its last compile saw. @type {Map<string, string>} */
   #seen = new Map();
@@ -91,7 +89,7 @@ export class Compiler {
    * @param {Iterable<string>} paths absolute, with links or without
    */
   changed(paths) {
-    this.#told.push(...paths);
+    this.mounts.disk.doubt([...paths]);
   }
 
   /**
@@ -130,9 +128,7 @@ export class Compiler {
 
   // Has what may have changed looked at again.
   #look() {
-    if (this.#told.length > 0) this.mounts.disk.doubt(this.#told);
     if (!this.options.told) this.mounts.disk.doubtAll();
-    this.#told = [];
   }
 
   /**
