@@ -106,37 +106,85 @@ function readEdit(cursor) {
   return { refused: Number(found[1] ?? 0) };
 }
 
+/** @returns {Reply} */
+function emptyReply() {
+  return { messages: [], ran: [], css: null, fault: null, memory: false };
+}
+
+/**
+ * Reads what a line of a reply to a compile begins.
+ * @param {Cursor} cursor behind the line
+ * @param {string} line
+ * @param {Reply} reply gets what is read
+ * @returns {'more' | 'end' | null} whether it ends the reply; null where more bytes have to come
+ * @throws {ReplyError} where it is no such line
+ */
+function readItem(cursor, line, reply) {
+  const [word, ...rest] = line.split(' ');
+  if (KINDS.includes(word) && rest.length === 4) {
+    const text = cursor.counted(rest[3]);
+    if (text === null) return null;
+    const kind = /** @type {MessageKind} */ (word);
+    reply.messages.push({ kind, path: rest[0], span: spanOf(rest[1], rest[2]), text: text.toString('utf8') });
+    return 'more';
+  }
+  if (word === 'ran' && rest.length === 2) {
+    reply.ran.push({ path: rest[0], cause: rest[1] });
+    return 'more';
+  }
+  if (word === 'css' && rest.length === 1) {
+    reply.css = cursor.counted(rest[0]);
+    return reply.css && 'end';
+  }
+  if (word === 'error' && rest.length === 4 && /^[0-9]+$/.test(rest[0])) {
+    reply.fault = { code: Number(rest[0]), path: rest[1], span: spanOf(rest[2], rest[3]) };
+    return 'end';
+  }
+  if (line !== 'memory') throw new ReplyError(`no line of a reply: ${line}`);
+  reply.memory = true;
+  return 'end';
+}
+
 /**
  * @param {Cursor} cursor
  * @returns {Reply | null}
  */
 function readCompile(cursor) {
-  /** @type {Reply} */
-  const reply = { messages: [], ran: [], css: null, fault: null, memory: false };
+  const reply = emptyReply();
   for (;;) {
     const line = cursor.line();
-    if (line === null) return null;
-    const [word, ...rest] = line.split(' ');
-    if (KINDS.includes(word) && rest.length === 4) {
-      const text = cursor.counted(rest[3]);
-      if (text === null) return null;
-      const kind = /** @type {MessageKind} */ (word);
-      reply.messages.push({ kind, path: rest[0], span: spanOf(rest[1], rest[2]), text: text.toString('utf8') });
-    } else if (word === 'ran' && rest.length === 2) {
-      reply.ran.push({ path: rest[0], cause: rest[1] });
-    } else if (word === 'css' && rest.length === 1) {
-      reply.css = cursor.counted(rest[0]);
-      return reply.css && reply;
-    } else if (word === 'error' && rest.length === 4 && /^[0-9]+$/.test(rest[0])) {
-      reply.fault = { code: Number(rest[0]), path: rest[1], span: spanOf(rest[2], rest[3]) };
-      return reply;
-    } else if (line === 'memory') {
-      reply.memory = true;
-      return reply;
-    } else {
-      throw new ReplyError(`no line of a reply: ${line}`);
+    const found = line === null ? null : readItem(cursor, line, reply);
+    if (found === null) return null;
+    if (found === 'end') return reply;
+  }
+}
+
+/**
+ * Reads what a command of the program wrote, with its standard error before it, behind it or without it: the messages and
+ * the outcome of the last compile. Answers to edits are passed over.
+ * @param {Buffer} bytes
+ * @returns {Reply | null} null where it begins with something else, as the CSS of `once` does
+ * @throws {ReplyError} where something else follows, or it ends in the middle
+ */
+export function readWritten(bytes) {
+  const cursor = new Cursor(bytes);
+  let reply = emptyReply();
+  let isOver = false;
+  for (let count = 0; cursor.at < bytes.length; count += 1) {
+    const line = cursor.line() ?? bytes.toString('utf8', cursor.at);
+    if (/^(?:ok|refused [0-9]+)$/.test(line)) continue;
+    // Behind an outcome come its messages again, as standard error has them, or the next compile.
+    if (isOver && line.startsWith('ran ')) [reply, isOver] = [emptyReply(), false];
+    try {
+      const found = readItem(cursor, line, reply);
+      if (found === null) throw new ReplyError(`it ends in the middle of: ${line}`);
+      isOver ||= found === 'end';
+    } catch (error) {
+      if (count === 0 && !(/^(?:css|error|warn|debug|fatal) /.test(line))) return null;
+      throw error;
     }
   }
+  return reply;
 }
 
 /**
