@@ -2,6 +2,7 @@
 
 import { existsSync } from 'node:fs';
 import path from 'node:path';
+import { Appearances } from './appearances.js';
 import { Compiler } from './compiler.js';
 
 /**
@@ -15,6 +16,12 @@ import { Compiler } from './compiler.js';
  * @property {'module' | 'css'} [gives] what a sheet becomes: `module`, a module whose default export is the CSS as a text, and an asset with
  *   it; `css`, a file of CSS whose name ends in `.css`, for the plugins that take such ones. Without it `css` under Vite, else `module`
  * @property {boolean} [asset] false where no asset is wanted beside a module
+ *
+ * Of Vite's server what is used here.
+ * @typedef {object} ViteServer
+ * @property {{ on(event: 'add' | 'unlink', call: (file: string) => void): unknown }} watcher
+ * @property {{ getModulesByFile(file: string): Set<object> | undefined }} moduleGraph
+ * @property {(module: object) => Promise<void>} reloadModule
  *
  * What Rollup gives to hooks as `this`, as far as it is used here.
  * @typedef {object} Context
@@ -55,8 +62,11 @@ export function sassw(options = {}) {
       state.isServing = command === 'serve';
     },
 
-    buildStart() {
-      state.isLooked = false;
+    /** Has Vite put in place what depends on a file that came or went. @param {ViteServer} server */
+    configureServer(server) {
+      const again = (/** @type {string} */ file) => state.modulesOf(file, server).forEach((it) => void server.reloadModule(it));
+      server.watcher.on('add', again);
+      server.watcher.on('unlink', again);
     },
 
     /** @this {Context} @param {string} source @param {string | undefined} importer @param {object} asked */
@@ -76,9 +86,10 @@ export function sassw(options = {}) {
       const file = state.gives === 'css' ? sheetOf(id, include) : path.isAbsolute(id) && include.test(id) ? id : null;
       if (file === null) return null;
       const compiled = await state.compile(file);
-      const files = [...compiled.dependencies, ...compiled.absent];
-      files.forEach((it) => this.addWatchFile(it));
-      state.files.set(withoutQuery(id), new Set(files));
+      const { dependencies, absent } = compiled;
+      dependencies.forEach((it) => this.addWatchFile(it));
+      if (this.meta?.watchMode && !state.isServing) this.addWatchFile(state.waits(id, absent));
+      state.files.set(withoutQuery(id), new Set([...dependencies, ...absent]));
       tell(this, file, compiled.problems);
       return state.given(this, file, /** @type {Buffer} */ (compiled.css));
     },
@@ -94,11 +105,10 @@ export function sassw(options = {}) {
 
     /**
      * Has Vite put in place what depends on a file, beside what it knows of itself.
-     * @param {{ file: string, modules: object[], server: { moduleGraph: { getModulesByFile(file: string): Set<object> | undefined } } }} update
+     * @param {{ file: string, modules: object[], server: ViteServer }} update
      */
     handleHotUpdate({ file, modules, server }) {
-      const ids = [...state.files].filter(([, files]) => files.has(file)).map(([id]) => id);
-      const found = ids.flatMap((id) => [...(server.moduleGraph.getModulesByFile(id) ?? [])]);
+      const found = state.modulesOf(file, server);
       return found.length > 0 ? [...new Set([...modules, ...found])] : undefined;
     },
   };
@@ -110,14 +120,13 @@ export default sassw;
 class State {
   /** @type {Compiler | null} */
   #compiler = null;
-  /** @type {Promise<unknown>} */
-  #turn = Promise.resolve();
+  /** @type {Appearances | null} */
+  #appearances = null;
   /** Of each sheet's id the files on which it depends. @type {Map<string, Set<string>>} */
   files = new Map();
-  /** Whether this build has looked at the disk: its further sheets are compiled of what was seen then. */
-  isLooked = false;
   isServing = false;
-  root = process.cwd();
+  /** As Rollup is run, so that paths are told from there. */
+  root = '.';
 
   /** @param {PluginOptions} options */
   constructor(options) {
@@ -130,15 +139,31 @@ class State {
    * @returns {Promise<Compiled>}
    */
   compile(file) {
-    const turn = this.#turn.then(() => {
-      const { loadPaths, program } = this.options;
-      this.#compiler ??= new Compiler({ root: this.root, loadPaths, program });
-      if (this.isLooked && !this.isServing) this.#compiler.changed([]);
-      this.isLooked = true;
-      return this.#compiler.compile(file);
-    });
-    this.#turn = turn.catch(() => {});
-    return turn;
+    const { loadPaths, program } = this.options;
+    this.#compiler ??= new Compiler({ root: this.root, loadPaths, program });
+    return this.#compiler.compile(file);
+  }
+
+  /**
+   * Waits for files that would change what a sheet means, were they made. Rollup's own watch tells of few that aren't there yet.
+   * @param {string} id
+   * @param {string[]} absent
+   * @returns {string} a file that is written when one comes
+   */
+  waits(id, absent) {
+    this.#appearances ??= new Appearances(path.resolve(this.root));
+    this.#appearances.wait(id, absent);
+    return this.#appearances.sentinel;
+  }
+
+  /**
+   * @param {string} file
+   * @param {ViteServer} server
+   * @returns {object[]} the modules of a server whose CSS depends on a file
+   */
+  modulesOf(file, server) {
+    const ids = [...this.files].filter(([, files]) => files.has(file)).map(([id]) => id);
+    return ids.flatMap((id) => [...(server.moduleGraph.getModulesByFile(id) ?? [])]);
   }
 
   /**
@@ -159,6 +184,8 @@ class State {
   async close() {
     const compiler = this.#compiler;
     this.#compiler = null;
+    this.#appearances?.close();
+    this.#appearances = null;
     await compiler?.close();
   }
 }

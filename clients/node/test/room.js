@@ -59,15 +59,24 @@ class Started {
     this.status = once(child, 'close').then(([status, signal]) => status ?? signal);
   }
 
-  /** Waits until what it wrote has the text or pattern, from the character `from` on; gives the place behind it. */
-  async writes(pattern, from = 0) {
-    const text = () => this.out + this.err;
+  /** Waits until its standard output has this text; gives the place behind it. */
+  writes(text, from = 0) {
+    return this.#has(() => this.out, text, from);
+  }
+
+  /** The same of its standard error. */
+  says(text, from = 0) {
+    return this.#has(() => this.err, text, from);
+  }
+
+  /** @param {() => string} all @param {string | RegExp} text @param {number} from */
+  async #has(all, text, from) {
     const found = () => {
-      const rest = this.out.slice(from);
-      const match = typeof pattern === 'string' ? rest.indexOf(pattern) : rest.search(pattern);
-      return match >= 0 ? { place: from + match + (typeof pattern === 'string' ? pattern.length : 1) } : null;
+      const rest = all().slice(from);
+      const at = typeof text === 'string' ? rest.indexOf(text) : rest.search(text);
+      return at < 0 ? null : { place: from + at + 1 };
     };
-    return (await until(String(pattern), found, text)).place;
+    return (await until(`${this.child.spawnfile} tells ${text}`, found, () => this.out + this.err)).place;
   }
 }
 
