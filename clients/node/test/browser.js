@@ -97,7 +97,7 @@ export class Browser {
     const { targetId } = await this.ask('Target.createTarget', { url });
     const { sessionId } = await this.ask('Target.attachToTarget', { targetId, flatten: true });
     const page = new Page(this, sessionId);
-    await page.until('document.readyState === "complete"');
+    await page.until(`location.href === ${JSON.stringify(new URL(url).href)} && document.readyState === "complete"`);
     return page;
   }
 }
