@@ -40,6 +40,9 @@ export function excerptOf(lines, span, paint, tone = 'red') {
   const wide = String(Math.max(last, from.line)).length;
   const bar = (/** @type {string} */ number) => give(`${number.padStart(wide)} |`, 'blue');
   const rows = [bar('')];
+  // A line without text shows nothing, so the one before it is shown too.
+  const isBlank = (lines[from.line - 1] ?? '').trim() === '';
+  if (isBlank && from.line > 1) rows.push(`${bar(String(from.line - 1))} ${shown(lines[from.line - 2])}`.trimEnd());
   for (let line = from.line; line <= Math.max(last, from.line); line += 1) {
     const isLeftOut = last - from.line >= MOST_LINES && line >= from.line + MOST_LINES - 2 && line < last;
     if (isLeftOut) {

@@ -129,7 +129,7 @@ export function quoted(text, span) {
   if (whole === '') return 'what stands here';
   const line = whole.replace(/\s+/g, ' ');
   const short = [...line].length > LONGEST ? `${[...line].slice(0, LONGEST - 1).join('')}…` : line;
-  return `\`${short}\``;
+  return /^["']/.test(short) ? short : `\`${short}\``;
 }
 
 /**

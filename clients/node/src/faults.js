@@ -18,7 +18,7 @@ export const FAULTS = Object.freeze([
     at: 'that token; the end of the text where it only stops early; an unclosed string or `#{` at its first character; a URL whose default namespace is no name and that has no `as`; of a sheet in lines also what its lines refuse',
     example: '`a { b: }` → `error 10 a.scss 1:8 1:9`',
     says: "{it} can't stand here",
-    help: 'Look at what stands directly before the place: something isn\'t closed there, or a `;` is missing.',
+    help: 'look at what stands directly before the place: something isn\'t closed there, or a `;` is missing',
   },
   {
     code: 11,
@@ -26,7 +26,7 @@ export const FAULTS = Object.freeze([
     at: 'it',
     example: '`a { b: $x; }` → `error 11 a.scss 1:8 1:10`',
     says: 'unknown variable {it}',
-    help: 'Declare it above, or name the module that has it, as in `colors.$brand`.',
+    help: 'declare it above, or name the module that has it, as in `colors.$brand`',
   },
   {
     code: 12,
@@ -34,7 +34,7 @@ export const FAULTS = Object.freeze([
     at: 'it',
     example: '`a { b: m.$x; }` → `error 12 a.scss 1:8 1:9`',
     says: 'unknown namespace {it}',
-    help: 'Load the module with `@use` at the top of the sheet; its namespace is the last part of its URL, or what `as` says.',
+    help: 'load the module with `@use` at the top of the sheet; its namespace is the last part of its URL, or what `as` says',
   },
   {
     code: 13,
@@ -42,7 +42,7 @@ export const FAULTS = Object.freeze([
     at: 'its name, with the namespace before it',
     example: '`@use "lib"; a { b: lib.$zz; }` → `error 13 a.scss 1:20 1:27`',
     says: 'unknown member {it}',
-    help: 'Members of other modules are named with their namespace, as in `@include lib.box`; what they have stands in their sheets and `@forward`s.',
+    help: 'members of other modules are named with their namespace, as in `@include lib.box`; what they have stands in their sheets and `@forward`s',
   },
   {
     code: 14,
@@ -50,7 +50,7 @@ export const FAULTS = Object.freeze([
     at: 'the operation or the call',
     example: '`a { b: if(true); }` → `error 14 a.scss 1:8 1:16`',
     says: "the arguments don't fit in {it}",
-    help: "Compare the call with the parameters: too many, missing, unknown or doubled ones, or a value that isn't taken.",
+    help: "compare the call with the parameters: too many, missing, unknown or doubled ones, or a value that isn't taken",
   },
   {
     code: 15,
@@ -58,7 +58,7 @@ export const FAULTS = Object.freeze([
     at: 'the operation or the call',
     example: '`a { b: c * 2; }` → `error 15 a.scss 1:8 1:13`',
     says: 'a value of the wrong kind in {it}',
-    help: 'Look at what the values are with `@debug meta.inspect($value)`.',
+    help: 'look at what the values are with `@debug meta.inspect($value)`',
   },
   {
     code: 16,
@@ -66,7 +66,7 @@ export const FAULTS = Object.freeze([
     at: 'the operation or the call',
     example: '`a { b: 1px + 1s; }` → `error 16 a.scss 1:8 1:16`',
     says: "units that don't fit in {it}",
-    help: 'Only units of one kind are added and compared, as `px` and `in`, or `s` and `ms`; for others write `calc()`.',
+    help: 'only units of one kind are added and compared, as `px` and `in`, or `s` and `ms`; for others write `calc()`',
   },
   {
     code: 17,
@@ -74,7 +74,7 @@ export const FAULTS = Object.freeze([
     at: 'the operation or the call',
     example: '`a { b: 1 % 0; }` → `error 17 a.scss 1:8 1:13`',
     says: 'a division by zero in {it}',
-    help: 'Ask with `@if` whether the divisor is 0.',
+    help: 'ask with `@if` whether the divisor is 0',
   },
   {
     code: 18,
@@ -82,7 +82,7 @@ export const FAULTS = Object.freeze([
     at: 'the operation, the call or the literal',
     example: '`a { b: 1e28; }` → `error 18 a.scss 1:8 1:12`',
     says: 'a number that is too large in {it}',
-    help: 'Numbers go up to 10^27.',
+    help: 'numbers go up to 10^27',
   },
   {
     code: 19,
@@ -90,7 +90,7 @@ export const FAULTS = Object.freeze([
     at: '1:1 of the entry; the URL',
     example: '`@use "nowhere";` → `error 19 a.scss 1:6 1:15`',
     says: 'no file is meant by {it}',
-    help: 'The URL is looked for from the folder of its sheet, then from each load path, with `_` in front and without it, and with `.scss`, `.sass` and `.css`.',
+    help: 'the URL is looked for from the folder of its sheet, then from each load path, with `_` in front and without it, and with `.scss`, `.sass` and `.css`',
   },
   {
     code: 20,
@@ -98,7 +98,7 @@ export const FAULTS = Object.freeze([
     at: 'the URL',
     example: '`@use "lib";` beside `lib.scss` and `_lib.scss` → `error 20 a.scss 1:6 1:11`',
     says: 'several files are meant by {it}',
-    help: 'Keep one of the files, or write the URL with its extension.',
+    help: 'keep one of the files, or write the URL with its extension',
   },
   {
     code: 21,
@@ -106,7 +106,7 @@ export const FAULTS = Object.freeze([
     at: 'the URL',
     example: '`a.scss` loads `b.scss`, which loads `a.scss` → `error 21 b.scss 1:6 1:9`',
     says: '{it} is being loaded already: the sheets load each other in a circle',
-    help: 'Move what both need to a third sheet that both load.',
+    help: 'move what both need to a third sheet that both load',
   },
   {
     code: 22,
@@ -114,7 +114,7 @@ export const FAULTS = Object.freeze([
     at: 'the URL',
     example: '`@use "lib"; @use "lib" as l with ($a: 2);` → `error 22 a.scss 1:18 1:23`',
     says: "{it} is loaded already, and can't be configured any more",
-    help: 'Give the `with` where the module is loaded first.',
+    help: 'give the `with` where the module is loaded first',
   },
   {
     code: 23,
@@ -122,7 +122,7 @@ export const FAULTS = Object.freeze([
     at: 'the name; the statement',
     example: '`@use "lib" with ($a: 2);` where `lib.scss` is `$a: 1;` → `error 23 a.scss 1:18 1:20`',
     says: "{it} can't be set",
-    help: 'A module takes what it declares with `!default` at its top level; variables of built-in modules stay as they are.',
+    help: 'a module takes what it declares with `!default` at its top level; variables of built-in modules stay as they are',
   },
   {
     code: 24,
@@ -130,7 +130,7 @@ export const FAULTS = Object.freeze([
     at: 'the second URL; the name',
     example: '`@use "lib"; @use "x/lib";` → `error 24 a.scss 1:18 1:25`',
     says: '{it} means two things',
-    help: 'Give one of them another namespace with `as`, or hide the member in one `@forward`.',
+    help: 'give one of them another namespace with `as`, or hide the member in one `@forward`',
   },
   {
     code: 25,
@@ -138,7 +138,7 @@ export const FAULTS = Object.freeze([
     at: 'the statement',
     example: '`@error "no";` → `error 25 a.scss 1:1 1:12`',
     says: '{it}',
-    help: 'The sheet itself says so, by `@error`.',
+    help: 'the sheet itself says so, by `@error`',
   },
   {
     code: 26,
@@ -146,7 +146,7 @@ export const FAULTS = Object.freeze([
     at: 'the selector',
     example: '`& { b: c; }` → `error 26 a.scss 1:1 1:2`',
     says: '{it} has no parent',
-    help: '`&` stands for the rule around it: write it inside of one.',
+    help: '`&` stands for the rule around it: write it inside of one',
   },
   {
     code: 27,
@@ -154,7 +154,7 @@ export const FAULTS = Object.freeze([
     at: 'the selector',
     example: '`a > { b: c; }` → `error 27 a.scss 1:1 1:4`',
     says: '{it} is no selector that may stand here',
-    help: 'Look for a `{` or a `;` that is missing before it, and for a combinator at its end.',
+    help: 'look for a `{` or a `;` that is missing before it, and for a combinator at its end',
   },
   {
     code: 28,
@@ -162,7 +162,7 @@ export const FAULTS = Object.freeze([
     at: 'the expression',
     example: '`a { b: (c: d); }` → `error 28 a.scss 1:8 1:14`',
     says: "{it} isn't a value of CSS",
-    help: 'A map, for one, can\'t be written: take a value out of it with `map.get`.',
+    help: 'a map, for one, can\'t be written: take a value out of it with `map.get`',
   },
   {
     code: 29,
@@ -170,7 +170,7 @@ export const FAULTS = Object.freeze([
     at: 'the inner queries',
     example: '`@media a { @media not b { c { d: e; } } }` → `error 29 a.scss 1:19 1:24`',
     says: "the media queries {it} can't be joined with those around them",
-    help: 'Write the rule outside of the other `@media`.',
+    help: 'write the rule outside of the other `@media`',
   },
   {
     code: 30,
@@ -178,7 +178,7 @@ export const FAULTS = Object.freeze([
     at: 'the statement',
     example: '`a { @extend .b; }` → `error 30 a.scss 1:5 1:15`',
     says: '`@extend` isn\'t supported',
-    help: 'Write what is shared as a `@mixin` and `@include` it, or give the element both classes.',
+    help: 'write what is shared as a `@mixin` and `@include` it, or give the element both classes',
   },
   {
     code: 31,
@@ -186,7 +186,7 @@ export const FAULTS = Object.freeze([
     at: 'the statement',
     example: '`@import "a", "b.css";` → `error 31 a.scss 1:1 1:21`',
     says: '`@import` of a sheet isn\'t supported',
-    help: 'Load the sheet with `@use`, and write its members with the namespace: `@use "colors"; a { color: colors.$brand; }`.',
+    help: 'load the sheet with `@use`, and write its members with the namespace: `@use "colors"; a { color: colors.$brand; }`',
   },
   {
     code: 32,
@@ -194,7 +194,7 @@ export const FAULTS = Object.freeze([
     at: 'the token; the URL; the expression or statement',
     example: 'a chain of 65 files → `error 32 f63.scss 1:6 1:11`',
     says: 'too deeply nested at {it}',
-    help: '128 blocks and brackets, 64 loads and 1,000 levels of evaluation may be open.',
+    help: '128 blocks and brackets, 64 loads and 1,000 levels of evaluation may be open',
   },
   {
     code: 33,
@@ -202,7 +202,7 @@ export const FAULTS = Object.freeze([
     at: 'the statement or the call; what asks',
     example: '`$i: 0; @while true { $i: $i + 1; }` → `error 33 a.scss 1:8 1:19`',
     says: 'too many turns at {it}',
-    help: "One sheet may take 1,000,000 turns of loops and calls: look for a loop that doesn't end.",
+    help: "one sheet may take 1,000,000 turns of loops and calls: look for a loop that doesn't end",
   },
   {
     code: 34,
@@ -210,7 +210,7 @@ export const FAULTS = Object.freeze([
     at: 'the expression, selector, queries or statement',
     example: '',
     says: '{it} is too large',
-    help: 'A value may weigh 1,048,576, and one sheet may write 16 MiB of CSS.',
+    help: 'a value may weigh 1,048,576, and one sheet may write 16 MiB of CSS',
   },
   {
     code: 35,
@@ -218,7 +218,7 @@ export const FAULTS = Object.freeze([
     at: 'the second key',
     example: '`$m: (a: b, a: c);` → `error 35 a.scss 1:12 1:13`',
     says: 'the key {it} stands twice in the map',
-    help: 'Keep one of the two.',
+    help: 'keep one of the two',
   },
   {
     code: 36,
@@ -226,7 +226,7 @@ export const FAULTS = Object.freeze([
     at: 'the operation or the call',
     example: '`a { b: nth(c, 2); }` → `error 36 a.scss 1:8 1:17`',
     says: 'there is no such place in {it}',
-    help: 'Places count from 1, and up to `list.length`.',
+    help: 'places count from 1, and up to `list.length`',
   },
   {
     code: 37,
@@ -234,7 +234,7 @@ export const FAULTS = Object.freeze([
     at: 'its name, with the namespace before it',
     example: '`@use "lib"; a { b: lib.$-p; }` → `error 37 a.scss 1:20 1:27`',
     says: '{it} is private',
-    help: 'Names that begin with `-` or `_` are seen in their own sheet alone: give it another name there.',
+    help: 'names that begin with `-` or `_` are seen in their own sheet alone: give it another name there',
   },
   {
     code: 38,
@@ -242,7 +242,7 @@ export const FAULTS = Object.freeze([
     at: 'the statement',
     example: '`a { b: c; } @use "lib";` → `error 38 a.scss 1:13 1:23`',
     says: '{it} must stand before all else',
-    help: 'Move it to the top of the sheet, above every rule.',
+    help: 'move it to the top of the sheet, above every rule',
   },
   {
     code: 39,
@@ -250,7 +250,7 @@ export const FAULTS = Object.freeze([
     at: 'the call',
     example: '`@function f() { $x: 1; } a { b: f(); }` → `error 39 a.scss 1:33 1:36`',
     says: '{it} came to no `@return`',
-    help: 'End the function with a `@return` on every way through it.',
+    help: 'end the function with a `@return` on every way through it',
   },
   {
     code: 40,
@@ -258,7 +258,7 @@ export const FAULTS = Object.freeze([
     at: 'the statement or the expression',
     example: '`a { @use "b"; }` → `error 40 a.scss 1:5 1:13`',
     says: '{it} may not stand here',
-    help: 'Loads, functions and mixins stand at the top level, declarations in rules, and `@return` in functions.',
+    help: 'loads, functions and mixins stand at the top level, declarations in rules, and `@return` in functions',
   },
   {
     code: 41,
@@ -266,7 +266,7 @@ export const FAULTS = Object.freeze([
     at: 'the call or the variable',
     example: '`@use "sass:math"; a { b: math.$epsilon; }` → `error 41 a.scss 1:26 1:39`',
     says: '{it} is left out',
-    help: "This built-in member isn't there; which ones are stands in docs/LANGUAGE.md.",
+    help: "this built-in member isn't there; which ones are stands in docs/LANGUAGE.md",
   },
 ]);
 

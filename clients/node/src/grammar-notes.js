@@ -75,7 +75,7 @@ function ofEnd(at) {
   const inner = open.at(-1);
   if (!inner) {
     const isLines = extensionOf(at.fault.path) === '.sass';
-    const text = isLines ? 'a block, or a `:` and a value, is missing behind the line before' : 'a `;`, a `{` or a value is missing before it';
+    const text = isLines ? 'a block, or a `:` and a value, is missing here' : 'a `;`, a `{` or a value is missing before it';
     return { head: 'the sheet ends too early', sure: true, notes: [{ text }] };
   }
   const notes = [noteAt(at, `\`${inner.sign}\` of line ${lineOf(at, inner.at)} is still open: \`${CLOSERS[inner.sign]}\` is missing`, inner.at, inner.sign.length)];
@@ -123,7 +123,7 @@ function ofSyntax({ fault, it, text, from, starts }) {
   const hasBoth = others.some((row) => row.includes(' ')) && others.some((row) => row.includes('\t'));
   if (hasBoth) return { head: 'tabs and spaces are mixed in the indentation', sure: true, notes: [{ text: 'a sheet is indented by one of the two' }] };
   if (line === '') return null;
-  return { head: null, sure: false, notes: [{ text: 'its indentation has to be that of a line above whose block is still open' }] };
+  return { head: 'this line is indented like no line above', sure: true, notes: [{ text: 'its indentation has to be that of a line above whose block is still open' }] };
 }
 
 /**

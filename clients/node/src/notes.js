@@ -31,7 +31,7 @@ export function notesOf(fault, files) {
   const text = files.text(fault.path);
   if (text === null) return fault.code === 19 ? entryNotes(fault, files) : NONE;
   const merge = mergeNote(fault, text);
-  if (merge) return { head: null, sure: true, notes: [merge] };
+  if (merge) return { head: 'the sheet holds a merge that isn\'t settled', sure: true, notes: [merge] };
   const starts = lineStarts(text);
   const from = offsetOf(text, starts, fault.span.from);
   const to = offsetOf(text, starts, fault.span.to);
@@ -79,7 +79,7 @@ function mergeNote({ path }, text) {
   const from = placeAt(text, lineStarts(text), ours.index);
   const span = { from, to: { line: from.line, column: from.column + [...ours[0]].length } };
   const line = placeAt(text, lineStarts(text), theirs.index).line;
-  return { text: `the sheet has the markers of a merge, from here to line ${line}: settle it, and take them out`, path, span };
+  return { text: `its markers go from here to line ${line}: choose what stays, and take them out`, path, span };
 }
 
 /**
@@ -188,7 +188,7 @@ function memberNotes(at) {
   const near = nearest(member, [...members, ...own]).map(shown);
   if (near.length > 0) return { head: null, sure: true, notes: [{ text: `did you mean ${either(near)}?` }] };
   if (fault.code === 13 && space !== null && meant.length > 0) {
-    const where = meant.flatMap((load) => files.meant(fault.path, load.url)).map(files.shown);
+    const where = meant.flatMap((load) => files.meant(fault.path, load.url)).map((file) => files.shown(file));
     if (where.length > 0) return { head: null, sure: false, notes: [{ text: `\`${space}\` is ${either(where)}` }] };
   }
   return NONE;
@@ -203,8 +203,8 @@ function missingNotes({ it, fault, files }) {
   if (!isUrl) return entryNotes(fault, files);
   const url = decodedString(it);
   if (url.startsWith('sass:')) {
-    const near = nearest(url, BUILT_IN);
-    const text = near.length > 0 ? `did you mean ${either(near.map((name) => `"${name}"`))}?` : `the built-in modules are ${BUILT_IN.join(', ')}`;
+    const near = nearest(url.slice(5), BUILT_IN.map((name) => name.slice(5)));
+    const text = near.length > 0 ? `did you mean ${either(near.map((name) => `"sass:${name}"`))}?` : `the built-in modules are ${BUILT_IN.join(', ')}`;
     return { head: `there is no built-in module ${it}`, sure: true, notes: [{ text }] };
   }
   const said = files.missing(fault.path, url);
@@ -218,5 +218,5 @@ function missingNotes({ it, fault, files }) {
 function severalNotes({ it, fault, files }) {
   const meant = /^(["']).*\1$/s.test(it) ? files.meant(fault.path, decodedString(it)) : [];
   if (meant.length < 2) return NONE;
-  return { head: null, sure: false, notes: [{ text: `they are ${meant.map(files.shown).join(' and ')}` }] };
+  return { head: null, sure: false, notes: [{ text: `they are ${meant.map((file) => files.shown(file)).join(' and ')}` }] };
 }

@@ -234,7 +234,13 @@ export class Session {
   /** @param {Request} request */
   #send(request) {
     request.sends += 1;
-    for (const it of request.bytes) this.#child?.stdin?.write(it);
+    const pipe = this.#child?.stdin;
+    // What is asked in one go is written in one go.
+    if (pipe?.writableCorked === 0) {
+      pipe.cork();
+      process.nextTick(() => pipe.uncork());
+    }
+    for (const it of request.bytes) pipe?.write(it);
   }
 
   /**
@@ -247,33 +253,28 @@ export class Session {
     this.#size += chunk.length;
     if (this.#size < this.#needs) return;
     const bytes = Buffer.concat(this.#chunks);
-    let at = 0;
-    let needs = 1;
+    let [at, answered, needs] = [0, 0, 1];
     try {
-      while (at < bytes.length && this.#waiting.length > 0) {
-        const found = readReply(this.#waiting[0].kind, bytes.subarray(at));
+      while (at < bytes.length && answered < this.#waiting.length) {
+        const request = this.#waiting[answered];
+        const found = readReply(request.kind, bytes.subarray(at));
         needs = found.needs;
         if (!found.reply) break;
         at += found.taken;
-        this.#answer(found.reply);
-        needs = 1;
+        answered += 1;
+        answer(request, found.reply);
       }
     } catch (error) {
       // It isn't the program that it should be: no later bytes can be trusted.
+      this.#waiting.splice(0, answered);
       this.#fail(new ProgramError(`the program ${child.spawnfile} gave no reply of a session: ${/** @type {Error} */ (error).message}`));
       return;
     }
+    this.#waiting.splice(0, answered);
     const left = bytes.subarray(at);
     this.#chunks = left.length > 0 ? [left] : [];
     this.#size = left.length;
-    this.#needs = needs;
-  }
-
-  /** @param {Reply | EditReply} reply */
-  #answer(reply) {
-    const request = /** @type {Request} */ (this.#waiting.shift());
-    if (!('refused' in reply) || reply.refused === 0) request.carry();
-    request.resolve(reply);
+    this.#needs = Math.max(1, needs);
   }
 
   /**
@@ -316,6 +317,15 @@ export class Session {
     this.#waiting = [];
     for (const it of waiting) it.reject(error);
   }
+}
+
+/**
+ * @param {Request} request
+ * @param {Reply | EditReply} reply
+ */
+function answer(request, reply) {
+  if (!('refused' in reply) || reply.refused === 0) request.carry();
+  request.resolve(reply);
 }
 
 /**
