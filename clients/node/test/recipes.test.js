@@ -2,7 +2,7 @@
 // @ts-check
 import assert from 'node:assert/strict';
 import { renameSync } from 'node:fs';
-import { chmod, copyFile, cp, mkdir, rename, rm, stat } from 'node:fs/promises';
+import { chmod, copyFile, cp, mkdir, readFile, rename, rm, stat, symlink } from 'node:fs/promises';
 import { join } from 'node:path';
 import { test } from 'node:test';
 import { Room, missing, program, repository } from './room.js';
@@ -59,6 +59,67 @@ test('the Makefile tells that the program or the folder is missing', needs('make
   const { status, err } = await make('SRC=nowhere');
   assert.equal(status, 2);
   assert.match(err, /there is no folder nowhere/);
+});
+
+/** Puts the commands of the package on the room's PATH. */
+async function withCommands(room) {
+  for (const name of ['build', 'watch', 'explain', 'serve']) {
+    await symlink(join(repository, `clients/node/bin/sassw-${name}.js`), room.at(`bin/sassw-${name}`));
+  }
+}
+
+test('Makefile.deps builds just what loads a file that changed, also where one came or went', needs('make'), async (context) => {
+  const room = await Room.of(context);
+  await withCommands(room);
+  await room.write({ ...site, 'src/alone.scss': 'p { b: c; }\n' });
+  const make = (...words) => room.run(['make', '-j', '-f', recipe('Makefile.deps'), ...words]);
+  const built = async (...words) => (await make(...words)).out.split('\n').map((line) => /^css\/(\S+) /.exec(line)?.[1]).filter(Boolean).sort();
+  assert.deepEqual(await built(), ['alone.css', 'lines.css', 'main.css', 'pages/home.css']);
+  assert.equal(await room.read('css/pages/home.css'), rule('.home', 'one'));
+  assert.deepEqual(await built(), []);
+  await room.replace('src/_lib.scss', '$n: two;\n');
+  assert.deepEqual(await built(), ['main.css', 'pages/home.css']);
+  assert.equal(await room.read('css/main.css'), rule('a', 'two'));
+  await room.write({ 'src/pages/_lib.scss': '$n: near;\n' });
+  assert.equal((await built()).length, 4, 'another sheet may be meant now');
+  await rm(room.at('src/_lib.scss'));
+  const gone = await make('-k');
+  assert.equal(gone.status, 2);
+  assert.match(gone.err, /^src\/main\.scss:1:6: .*\(fault 19\)$/m);
+  assert.equal(await room.read('css/main.css'), rule('a', 'two'), 'the last good CSS stays');
+  await room.write({ 'src/_lib.scss': '$n: $x;\n' });
+  assert.match((await make('-k')).err, /^src\/_lib\.scss:1:5: unknown variable `\$x` \(fault 11\)$/m);
+  await room.write({ 'src/_lib.scss': '$n: three;\n' });
+  assert.equal((await make()).status, 0);
+  assert.equal(await room.read('css/main.css'), rule('a', 'three'));
+});
+
+/** The steps of the workflow, as a shell runs them there. */
+async function steps() {
+  const lines = (await readFile(recipe('github.yml'), 'utf8')).split('\n');
+  return lines.map((line) => /^ +run: (.+)$/.exec(line)?.[1]).filter((line) => line !== undefined);
+}
+
+test('the workflow passes, fails with a fault at its line, and with CSS that is old', needs('git', 'bash'), async (context) => {
+  const room = await Room.of(context);
+  await withCommands(room);
+  await room.write({ ...site, '.gitignore': 'bin\n' });
+  const run = await steps();
+  assert.equal(run.length, 2);
+  const git = (...words) => room.run(['git', '-c', 'user.name=a', '-c', 'user.email=a@b.test', ...words]);
+  await git('init', '-q');
+  assert.equal((await room.run(['bash', '-e', '-c', run[0]])).status, 0);
+  await git('add', '.');
+  await git('commit', '-q', '-m', 'all');
+  assert.equal((await room.run(['bash', '-e', '-c', run[1]])).status, 0);
+  await room.write({ 'src/main.scss': 'a {\n  b: $x;\n}\n', 'src/_lib.scss': '$n: two;\n' });
+  const wrong = await room.run(['bash', '-e', '-c', run[0]]);
+  assert.equal(wrong.status, 1);
+  assert.match(wrong.err, /^::error file=src\/main\.scss,line=2,col=6,endLine=2,endColumn=8,title=sassw fault 11::unknown variable `\$x`/m);
+  const old = await room.run(['bash', '-e', '-c', run[1]]);
+  assert.equal(old.status, 1);
+  assert.match(old.out, /css\/pages\/home\.css/);
+  assert.doesNotMatch(old.out, /css\/main\.css/, 'that of the faulty sheet stays');
 });
 
 /** `watch.sh` over the site, once its first builds stand. */
