@@ -12,6 +12,7 @@ const MODULES = 400;
 const RULES = 10;
 const SAVES = Number(process.argv[2] ?? 20);
 const MOST_MILLISECONDS = 60_000;
+const FIRST_MILLISECONDS = 600_000;
 
 /** What both kinds of CSS end with, whichever of the two sheets was saved; white space counts as one space. */
 const LAST_RULE = `.m${MODULES - 1}-${RULES - 1}:hover { width: ${2 * RULES}px; }`;
@@ -85,7 +86,7 @@ async function measured(way) {
     const started = room.start(way.words);
     const css = () => (room.has('css/main.css') ? readFileSync(room.at('css/main.css'), 'utf8').trimEnd() : '');
     const isWhole = () => css().slice(-LAST_RULE.length * 2).replaceAll(/\s+/g, ' ').endsWith(LAST_RULE);
-    await until('the first CSS', isWhole, () => started.out + started.err);
+    await until('the first CSS', isWhole, () => started.out + started.err, FIRST_MILLISECONDS);
     const ends = css().slice(-LAST_RULE.length);
     const result = {};
     for (const [kind, path, of] of [['leaf', '_m7.scss', (turn) => `-x${turn}-width`], ['shared', '_lib.scss', (turn) => `width: ${turn}px`]]) {

@@ -3,7 +3,7 @@
 import assert from 'node:assert/strict';
 import { renameSync } from 'node:fs';
 import { chmod, copyFile, cp, mkdir, readFile, rename, rm, stat, symlink } from 'node:fs/promises';
-import { join } from 'node:path';
+import { dirname, join } from 'node:path';
 import { test } from 'node:test';
 import { Room, missing, program, repository } from './room.js';
 
@@ -92,6 +92,46 @@ test('Makefile.deps builds just what loads a file that changed, also where one c
   await room.write({ 'src/_lib.scss': '$n: three;\n' });
   assert.equal((await make()).status, 0);
   assert.equal(await room.read('css/main.css'), rule('a', 'three'));
+});
+
+test('the parts of shard.sh are together the whole, each sheet in one of them', needs(), async (context) => {
+  const room = await Room.of(context);
+  await withCommands(room);
+  await room.write({ ...site, 'src/with space.scss': 'p { b: c; }\n' });
+  const part = (...words) => room.run([recipe('shard.sh'), ...words]);
+  const names = [];
+  for (const number of ['1', '2', '3']) {
+    const { status, out, err } = await part(number, '3', 'src', `css${number}`);
+    assert.equal(status, 0, err);
+    names.push(out.split('\n').map((line) => /^css\d\/(.+?) [\d.]+ k?B,/.exec(line)?.[1]).filter(Boolean));
+  }
+  // In byte order: lines.sass, main.scss, pages/home.scss, with space.scss.
+  assert.deepEqual(names, [['lines.css', 'with space.css'], ['main.css'], ['pages/home.css']]);
+  assert.equal(await room.read('css3/pages/home.css'), rule('.home', 'one'));
+  assert.match(await room.read('css2/part2.d'), /^css2\/main\.css: src\/main\.scss/);
+  assert.equal((await part('9', '9', 'src', 'css9')).status, 0, 'a part without a sheet');
+  await room.write({ 'src/_lib.scss': '$n: $x;\n' });
+  assert.equal((await part('2', '3', 'src', 'css2')).status, 1);
+  assert.equal((await part('2', '3')).status, 7);
+});
+
+test('of the files that the rules name alone, once gives the same CSS', needs(), async (context) => {
+  const room = await Room.of(context);
+  await withCommands(room);
+  await room.write({ ...site, 'src/theme/_index.scss': '@forward "colors";\n', 'src/theme/_colors.scss': '$ink: navy;\n', 'src/_unused.scss': '$n: 0;\n' });
+  await room.write({ 'src/main.scss': '@use "lib";\n@use "theme";\na { b: lib.$n; c: theme.$ink; }\n' });
+  const { status, err } = await room.run(['sassw-build', 'src', 'main.scss', '--out', 'css', '--deps', 'css/main.d']);
+  assert.equal(status, 0, err);
+  const [, list] = /^css\/main\.css: ((?:.*\\\n)*.*)\n/.exec(await room.read('css/main.d')) ?? [];
+  const files = list.split(/[\s\\]+/).sort();
+  assert.deepEqual(files, ['src/_lib.scss', 'src/main.scss', 'src/theme/_colors.scss', 'src/theme/_index.scss']);
+  for (const file of files) {
+    await mkdir(dirname(room.at(`elsewhere/${file}`)), { recursive: true });
+    await copyFile(room.at(file), room.at(`elsewhere/${file}`));
+  }
+  const once = await room.run(['sassw', 'once', 'elsewhere/src', 'main.scss'], { env: { PATH: room.at('bin') } });
+  assert.deepEqual(once, { status: 0, out: 'a {\n  b: one;\n  c: navy;\n}\n', err: '' });
+  assert.equal(await room.read('css/main.css'), once.out);
 });
 
 /** The steps of the workflow, as a shell runs them there. */

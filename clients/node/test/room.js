@@ -33,9 +33,9 @@ export function missing(...programs) {
   return absent.length > 0 && `not installed: ${absent.join(', ')}`;
 }
 
-/** Waits until `holds` gives what counts as true, and gives that; throws with `what` and `state()` where it never comes. */
-export async function until(what, holds, state = () => '') {
-  const latest = Date.now() + PATIENCE;
+/** Waits until `holds` gives what counts as true, and gives that; throws with `what` and `state()` where it doesn't come in time. */
+export async function until(what, holds, state = () => '', patience = PATIENCE) {
+  const latest = Date.now() + patience;
   for (;;) {
     const value = await holds();
     if (value) {
