@@ -216,22 +216,32 @@ function sameNames(one, other) {
 }
 
 /**
- * Where bytes stop being UTF-8.
+ * Where bytes stop being UTF-8: at the first byte of what is no character.
  * @param {Buffer} bytes
  * @returns {Problem}
  */
 function notUtf8(bytes) {
   let [good, bad] = [0, bytes.length];
-  const reader = () => new TextDecoder('utf-8', { fatal: true });
   while (bad - good > 1) {
     const middle = (good + bad) >> 1;
-    try {
-      reader().decode(bytes.subarray(0, middle), { stream: true });
-      good = middle;
-    } catch {
-      bad = middle;
-    }
+    if (isUtf8(bytes.subarray(0, middle), true)) good = middle;
+    else bad = middle;
   }
+  while (!isUtf8(bytes.subarray(0, good), false)) good -= 1;
   const line = bytes.subarray(0, good).filter((it) => it === 10).length + 1;
   return { kind: 'text', line, byte: good + 1 };
+}
+
+/**
+ * @param {Buffer} bytes
+ * @param {boolean} goesOn whether the last character may be cut off
+ * @returns {boolean}
+ */
+function isUtf8(bytes, goesOn) {
+  try {
+    new TextDecoder('utf-8', { fatal: true }).decode(bytes, { stream: goesOn });
+    return true;
+  } catch {
+    return false;
+  }
 }
