@@ -69,6 +69,11 @@ export class Disk {
     }
   }
 
+  /** Looks again at all folders that are doubted, so that `listings` tells whether names lead elsewhere now. */
+  refresh() {
+    for (const [at, folder] of [...this.#folders]) if (folder.doubted) this.list(at);
+  }
+
   /**
    * What a folder holds.
    * @param {string} folder absolute

@@ -80,6 +80,7 @@ export class Mounts {
   graph(entry) {
     /** @type {Graph} */
     const graph = { entry, sheets: new Map(), edges: new Map(), absent: new Set(), passed: [] };
+    this.disk.refresh();
     const first = this.disk.sheet(entry);
     if (!first) graph.absent.add(entry);
     else if (first.problem) graph.passed.push(entry);
