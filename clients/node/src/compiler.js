@@ -250,9 +250,10 @@ export class Compiler {
    */
   #compiled(graph, refused, reply, start) {
     const files = new Surroundings(this, graph, refused);
-    const problems = problemsOf(reply, files);
+    const told = { ...reply, messages: [...files.passedOver(), ...reply.messages] };
+    const problems = problemsOf(told, files);
     const { css, messages, fault, ran, memory } = reply;
-    const explanation = explain(reply, files, this.options);
+    const explanation = explain(told, files, this.options);
     return {
       css, messages, fault, memory, explanation, problems, ran,
       dependencies: dependenciesOf(graph),

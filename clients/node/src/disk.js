@@ -152,8 +152,10 @@ export class Disk {
   #realOf(file) {
     const folder = this.list(path.dirname(file));
     const name = path.basename(file);
-    if (folder.names.get(name) === 'link') return realpathSync(file);
-    return path.join(folder.real, name);
+    if (folder.names.get(name) !== 'link') return path.join(folder.real, name);
+    const real = realpathSync(file);
+    this.beforeFolder(path.dirname(real));
+    return real;
   }
 
   /**

@@ -3,6 +3,7 @@
 import { existsSync, readFileSync, statSync, watch } from 'node:fs';
 import path from 'node:path';
 import { isBeside } from './output.js';
+import { SurroundingsError } from './plan.js';
 
 // How long nothing has to happen until a burst counts as over, in milliseconds: after one or two files, and after more.
 const QUIET = 8;
@@ -98,7 +99,7 @@ export class Folders {
    * @param {string} stamp
    */
   #watch(folder, stamp) {
-    const watcher = watch(folder, (_, name) => this.#note(name === null ? folder : path.join(folder, name)));
+    const watcher = watcherOf(folder, (name) => this.#note(name === null ? folder : path.join(folder, name)));
     watcher.on('error', () => this.#note(folder));
     this.#watched.set(folder, { watcher, stamp });
     this.#absent.delete(folder);
@@ -182,6 +183,22 @@ export class Folders {
   #verify() {
     for (const [folder, { stamp }] of this.#watched) if (stampOf(folder) !== stamp) this.#note(folder);
     for (const folder of this.#absent) if (stampOf(folder) !== '') this.#note(folder);
+  }
+}
+
+/**
+ * @param {string} folder
+ * @param {(name: string | null) => void} tell gets the name of what changed in it, where that is known
+ * @returns {import('node:fs').FSWatcher}
+ * @throws {SurroundingsError} where the system watches no more
+ */
+function watcherOf(folder, tell) {
+  try {
+    return watch(folder, (_, name) => tell(name));
+  } catch (error) {
+    const { code, message } = /** @type {NodeJS.ErrnoException} */ (error);
+    const isFull = code === 'ENOSPC' || code === 'EMFILE';
+    throw new SurroundingsError(isFull ? `the system watches no more folders than it does: raise fs.inotify.max_user_watches or max_user_instances` : `the folder ${folder} can't be watched: ${message}`);
   }
 }
 

@@ -118,6 +118,23 @@ export class Surroundings {
   }
 
   /**
+   * Warnings of files that are there and can't be loaded, where a load means another file in their place.
+   * @returns {import('./reply.js').Message[]}
+   */
+  passedOver() {
+    /** @type {import('./reply.js').Message[]} */
+    const messages = [];
+    for (const [file, edges] of this.graph.edges) {
+      for (const { load, found } of edges.filter((it) => it.found.targets.length > 0)) {
+        const { path: at, span } = this.#step(file, load);
+        const problems = found.passed.map((it) => this.#problem(it)).filter((it) => it !== null);
+        for (const it of problems) messages.push({ kind: 'warn', path: at, span, text: `${it}; it is passed over` });
+      }
+    }
+    return messages;
+  }
+
+  /**
    * @param {string} url
    * @returns {string}
    */

@@ -205,7 +205,7 @@ class Watch {
       if (this.options.why) this.#sayWhy(compiled);
     } catch (error) {
       const it = /** @type {Error} */ (error);
-      if (it.name === 'ProgramError') throw it;
+      if (it.name === 'ProgramError' || it.name === 'SurroundingsError') throw it;
       state.isFaulty = true;
       this.tell(`${task.shown}: ${it.message}\n`);
     }

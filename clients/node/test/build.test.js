@@ -56,6 +56,14 @@ test('a sheet with a fault keeps its CSS, and the others are built', async (t) =
   assert.deepEqual([await room.read('src/a.css'), await room.read('src/b.css')], ['old', CSS('b')]);
 });
 
+test('faults and messages in the form that is asked for', async (t) => {
+  await roomWith(t, { 'src/a.scss': '@warn "x";\na { b: $c; }\n' });
+  const { told } = await built({ root: 'src', format: 'json' });
+  const [warning, fault] = told.trimEnd().split('\n').map((it) => JSON.parse(it));
+  assert.deepEqual([warning.kind, warning.message, fault.code, fault.path, fault.from], ['warning', 'x', 11, 'src/a.scss', { line: 2, column: 8 }]);
+  assert.match((await built({ root: 'src', format: 'github' })).told, /^::warning file=src\/a\.scss,line=1,.*\n::error file=src\/a\.scss,line=2,col=8,/);
+});
+
 test('an entry has a file for its CSS of its own', async (t) => {
   const room = await roomWith(t, { 'src/a.scss': SCSS('a'), 'src/b.scss': SCSS('b'), 'src/_c.scss': SCSS('c') });
   const { status, said } = await built({ root: 'src', entries: ['a.scss:dist/x/one.css', '_c.scss'] });

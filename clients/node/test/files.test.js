@@ -4,6 +4,8 @@ import assert from 'node:assert/strict';
 import { linkSync, mkdirSync, rmSync, symlinkSync } from 'node:fs';
 import test from 'node:test';
 import { Compiler } from '../src/index.js';
+import { Mounts } from '../src/mounts.js';
+import { Surroundings } from '../src/surroundings.js';
 import { Room, program } from './room.js';
 
 /** A room that is the current folder, with files, and a compiler of its `src`. */
@@ -157,4 +159,36 @@ test('loads in comments and strings are none', async (t) => {
   const text = '// @use "x";\n/* @use "y"; */\n@use /* so */ "l\\69 b" /* and */ as l;\na { b: l.$x; c: "@use \\"z\\""; d: url(http://x/@use"w"); }\n';
   const { room, compiler } = await compilerOf(t, { 'src/main.scss': text, 'src/_lib.scss': '$x: 1;', 'src/x.scss': '', 'src/y.scss': '', 'src/z.scss': '', 'src/w.scss': '' });
   assert.deepEqual((await compiler.compile('main.scss')).dependencies, [room.at('src/main.scss'), room.at('src/_lib.scss')]);
+});
+
+test('a file that cannot be loaded is told where another one is taken in its place', async (t) => {
+  const { room, compiler } = await compilerOf(t, { 'src/main.scss': 'a { b: c; }\n', 'src/lib.css': 'd { b: e; }\n' });
+  await room.write({ 'src/main.scss': '@use "lib";\n', 'src/_lib.scss': /** @type {any} */ (Buffer.from([0x2f, 0x2f, 0xff])) });
+  const compiled = await compiler.compile('main.scss');
+  assert.equal(compiled.css?.toString(), rule('d', 'e'));
+  const says = "src/_lib.scss is there, but isn't UTF-8: its byte 3, in line 1, begins no character; save it as UTF-8; it is passed over";
+  assert.equal(compiled.explanation, `src/main.scss:1:6: warning: ${says}\n`);
+});
+
+test('names that are too long even so are told', async (t) => {
+  const long = `${'a'.repeat(130)}/${'b'.repeat(130)}`;
+  const { compiler } = await compilerOf(t, { [`src/${long}/main.scss`]: '', 'src/main.scss': `@use "${long}/main";\n` });
+  const reason = `src/${long}/main.scss is there, but its name has 271 bytes, and a path has at most 255`;
+  assert.equal((await compiler.compile(`${long}/main.scss`)).explanation, `src/${long}/main.scss:1:1: ${reason} (fault 19)\n\n`);
+  const { fault, explanation } = await compiler.compile('main.scss');
+  assert.equal(fault?.code, 19);
+  assert.equal(explanation.split('\n')[4], `  = ${reason}`);
+});
+
+test('files beyond those that the program holds are told', async (t) => {
+  const names = Array.from({ length: 4096 }, (_, at) => `f${at}`);
+  const { room } = await compilerOf(t, { 'src/main.scss': names.map((it) => `@use "${it}";\n`).join(''), 'src/f0.scss': '' });
+  for (const it of names.slice(1)) linkSync(room.at('src/f0.scss'), room.at(`src/${it}.scss`));
+  const mounts = new Mounts({ root: room.at('src'), loadPaths: [] });
+  const graph = mounts.graph(room.at('src/main.scss'));
+  const { taken, refused } = mounts.taken(graph);
+  // The entry is one of the files, so the last one that it loads is left.
+  assert.deepEqual([taken.length, [...refused]], [4096, [[room.at('src/f4095.scss'), 'many']]]);
+  const files = new Surroundings({ mounts, options: { root: 'src' } }, graph, refused);
+  assert.deepEqual(files.missing(room.at('src/main.scss'), 'f4095'), ['src/f4095.scss is there, but beyond the 4,096 files that one entry can reach']);
 });

@@ -1,7 +1,7 @@
 // Watching: what is built again and what isn't, how editors and git change files, and what goes and comes back.
 // @ts-check
 import assert from 'node:assert/strict';
-import { closeSync, mkdirSync, openSync, readFileSync, readdirSync, renameSync, rmSync, statSync, unlinkSync, writeFileSync, writeSync } from 'node:fs';
+import { closeSync, mkdirSync, openSync, readFileSync, readdirSync, renameSync, rmSync, statSync, symlinkSync, unlinkSync, writeFileSync, writeSync } from 'node:fs';
 import { join } from 'node:path';
 import test from 'node:test';
 import { watch } from '../src/index.js';
@@ -196,6 +196,21 @@ test('a folder of modules that is renamed, and one that comes later', async (t) 
   renameSync('src/old', 'src/parts');
   await watching.line(/^src\/main\.css 14 B/);
   assert.equal(watching.css(), rule('a', '1'));
+});
+
+test('a file behind a link', async (t) => {
+  const room = await Room.of(t);
+  await room.write({ 'store/a.scss': '$x: 1;\n', 'src/main.scss': '@use "lib";\na { b: lib.$x; }\n' });
+  symlinkSync('../store/a.scss', room.at('src/_lib.scss'));
+  process.chdir(room.folder);
+  const watching = await Watching.in(t, room);
+  writeFileSync('store/a.scss', '$x: 2;\n');
+  assert.deepEqual(await watching.line(/^src\/main/), ['src/main.css 14 B, 2 of 2 modules, T (_lib.scss)']);
+  writeFileSync('store/b.scss', '$x: 3;\n');
+  symlinkSync('../store/b.scss', 'src/other');
+  renameSync('src/other', 'src/_lib.scss');
+  await watching.line(/^src\/main/);
+  assert.equal(watching.css(), rule('a', '3'));
 });
 
 test('sheets that come and go', async (t) => {
