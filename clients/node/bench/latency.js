@@ -1,14 +1,15 @@
-// How long it takes from a save of one sheet to the new CSS in its place, at a system of 400 modules, each of ten rules with 20 names of two
-// other modules: by `sassw-watch`, by `recipes/watch.sh`, and by `sassc` under `entr`, which gets the same sheets with `@import` and a prefix
-// for each module's names, since it reads no `@use`. One sheet is a module that nothing else uses, the other one that all others use.
+// How long it takes from a save of one sheet to the new CSS in its place, at a system of 400 modules or of as many as are asked for, each of
+// ten rules with 20 names of two other modules: by `sassw-watch`, by `recipes/watch.sh`, and by `sassc` under `entr`, which gets the same
+// sheets with `@import` and a prefix for each module's names, since it reads no `@use`. One sheet is a module that nothing else uses, the
+// other one that all others use.
 // A save truncates the file and writes it. What is missing is left out by name.
-// Usage: node bench/latency.js [SAVES]
+// Usage: node bench/latency.js [SAVES [MODULES]]
 // @ts-check
 import { readFileSync, writeFileSync } from 'node:fs';
 import { join } from 'node:path';
 import { Room, missing, repository, until } from '../test/room.js';
 
-const MODULES = 400;
+const MODULES = Number(process.argv[3] ?? 400);
 const RULES = 10;
 const SAVES = Number(process.argv[2] ?? 20);
 const MOST_MILLISECONDS = 60_000;

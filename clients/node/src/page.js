@@ -21,7 +21,7 @@
 
   /** @param {string} address @returns {HTMLLinkElement[]} the links to this CSS that none comes after */
   function linksTo(address) {
-    const links = /** @type {HTMLLinkElement[]} */ ([...document.querySelectorAll('link[rel~="stylesheet"]')]);
+    const links = /** @type {HTMLLinkElement[]} */ (Array.from(document.querySelectorAll('link[rel~="stylesheet"]')));
     const left = new Set(earlier.values());
     return links.filter((link) => addressOf(link.href) === address && !left.has(link));
   }

@@ -62,7 +62,10 @@ export function sassw(options = {}) {
       state.isServing = command === 'serve';
     },
 
-    /** Has Vite put in place what depends on a file that came or went. @param {ViteServer} server */
+    /**
+     * Has Vite put in place what depends on a file that came or went.
+     * @param {ViteServer} server
+     */
     configureServer(server) {
       const again = (/** @type {string} */ file) => state.modulesOf(file, server).forEach((it) => void server.reloadModule(it));
       server.watcher.on('add', again);

@@ -48,10 +48,10 @@ export class CssServer {
    * @param {string} [options.files] a folder whose files are served too
    * @param {string[]} [options.origins] further origins whose pages may read: `https://example.test`, or `null` for pages opened as files
    */
-  constructor({ files, origins = [] } = {}) {
-    this.#files = files;
-    this.#origins = new Set(origins);
-    this.#server = http.createServer((request, response) => void this.#answer(request, response));
+  constructor(options = {}) {
+    this.#files = options.files;
+    this.#origins = new Set(options.origins);
+    this.#server = http.createServer((/** @type {Request} */ request, /** @type {Response} */ response) => void this.#answer(request, response));
     this.#beat = setInterval(() => this.#pages.forEach((page) => page.write(':\n\n')), BEAT);
     this.#beat.unref();
   }
