@@ -1,7 +1,7 @@
 // The plugin in Debian's Rollup: builds, faults, and a watch.
 // @ts-check
 import assert from 'node:assert/strict';
-import { readdir, rm } from 'node:fs/promises';
+import { copyFile, readdir, rm, symlink } from 'node:fs/promises';
 import { join } from 'node:path';
 import { test } from 'node:test';
 import { pathToFileURL } from 'node:url';
@@ -45,6 +45,17 @@ test('a sheet may be the input itself, and load what stands anywhere', needs, as
   const { status, err } = await room.run(['rollup', '-c']);
   assert.equal(status, 0, err);
   assert.equal(await room.read('out/main.css'), rule('a', 'far'));
+});
+
+test('the recipe of a configuration builds, with a package of sheets', needs, async (context) => {
+  const room = await Room.of(context);
+  await room.write({ 'src/main.js': site['src/main.js'], 'src/main.scss': '@use "design/tokens";\na { b: tokens.$n; }\n' });
+  await room.write({ 'node_modules/design/_tokens.scss': '$n: package;\n' });
+  await symlink(join(repository, 'clients/node'), room.at('node_modules/sassw'));
+  await copyFile(join(repository, 'recipes/rollup.config.mjs'), room.at('rollup.config.mjs'));
+  const { status, err } = await room.run(['rollup', '-c']);
+  assert.equal(status, 0, err);
+  assert.equal(await room.read('public/css/main.css'), rule('a', 'package'));
 });
 
 test('a fault is an error with its place and its frame, and what a sheet says a warning', needs, async (context) => {
