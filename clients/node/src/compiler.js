@@ -4,7 +4,7 @@ import { realpathSync } from 'node:fs';
 import path from 'node:path';
 import { explain, problemsOf } from './explain.js';
 import { loadAt } from './loads.js';
-import { Mounts, isIn } from './mounts.js';
+import { Mounts } from './mounts.js';
 import { MOST_FILES, MOST_LOAD_PATHS, extensionOf, isPath } from './names.js';
 import { RequestError, Session } from './session.js';
 import { Surroundings } from './surroundings.js';
@@ -49,7 +49,7 @@ const MOST_ROUNDS = 4096;
 /** Compiles entries of one folder. Its process is started by the first compile, and ends with `close`. */
 export class Compiler {
   #session;
-  /** What the session holds: of each name which content. @type {Map<string, string>} */
+  /** What the session holds: of each file its name there, and which content. @type {Map<string, { name: string, key: string }>} */
   #held = new Map();
   /** @type {Promise<unknown>} */
   #turn = Promise.resolve();
@@ -166,7 +166,7 @@ export class Compiler {
   // Has the session hold nothing: all files have other names from now on.
   async #rename() {
     this.#floor = this.mounts.floor;
-    const edits = [...this.#held.keys()].map((it) => this.#session.remove(it));
+    const edits = [...this.#held.values()].map((it) => this.#session.remove(it.name));
     this.#held.clear();
     await Promise.all(edits);
   }
@@ -180,33 +180,33 @@ export class Compiler {
   #put(graph, taken) {
     /** @type {Array<Promise<void>>} */
     const edits = [];
-    const remove = (/** @type {string} */ name) => {
-      this.#held.delete(name);
-      edits.push(this.#session.remove(name));
+    const remove = (/** @type {string} */ file) => {
+      edits.push(this.#session.remove(this.#held.get(file)?.name ?? ''));
+      this.#held.delete(file);
     };
-    const names = taken.map((it) => this.mounts.name(it.path));
-    const isNew = names.filter((it) => !this.#held.has(it)).length;
-    const hidden = [...graph.absent, ...graph.passed].filter((it) => isIn(it, this.mounts.floor));
-    for (const it of new Set(hidden.map((file) => this.mounts.name(file)))) if (this.#held.has(it)) remove(it);
-    this.#makeRoom(new Set(names), isNew, remove);
-    for (const [at, sheet] of taken.entries()) {
-      const spelling = this.mounts.spelling(sheet, graph.edges.get(sheet.path) ?? []);
-      if (this.#held.get(names[at]) === spelling.key) continue;
-      this.#held.set(names[at], spelling.key);
-      edits.push(this.#session.put(names[at], spelling.bytes));
+    for (const it of graph.absent) if (this.#held.has(it)) remove(it);
+    for (const it of new Set(graph.passed)) if (this.#held.has(it)) remove(it);
+    this.#makeRoom(taken, remove);
+    for (const sheet of taken) {
+      const { bytes, key } = this.mounts.spelling(sheet, graph.edges.get(sheet.path) ?? []);
+      if (this.#held.get(sheet.path)?.key === key) continue;
+      const name = this.mounts.name(sheet.path);
+      this.#held.set(sheet.path, { name, key });
+      edits.push(this.#session.put(name, bytes));
     }
     return edits;
   }
 
   /**
    * Removes files that this compile doesn't need, where not all would be held else.
-   * @param {Set<string>} needed
-   * @param {number} isNew how many of them aren't held
-   * @param {(name: string) => void} remove
+   * @param {Sheet[]} needed
+   * @param {(file: string) => void} remove
    */
-  #makeRoom(needed, isNew, remove) {
+  #makeRoom(needed, remove) {
+    const isNew = needed.filter((it) => !this.#held.has(it.path)).length;
     if (this.#held.size + isNew <= MOST_FILES) return;
-    for (const it of [...this.#held.keys()]) if (!needed.has(it)) remove(it);
+    const files = new Set(needed.map((it) => it.path));
+    for (const it of [...this.#held.keys()]) if (!files.has(it)) remove(it);
   }
 
   /**

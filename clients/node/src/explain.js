@@ -94,7 +94,10 @@ function faultProblem(reply, files) {
   const text = files.text(fault.path);
   const fatal = reply.messages.filter((it) => it.kind === 'fatal').at(-1);
   const notes = notesOf(fault, files);
-  const frame = text === null ? '' : excerptOf(linesOf(text), fault.span, null);
+  // Of an entry that means no file no place is wrong.
+  const { from, to } = fault.span;
+  const isEntry = fault.code === 19 && from.line === to.line && from.column === to.column;
+  const frame = text === null || isEntry ? '' : excerptOf(linesOf(text), fault.span, null);
   const own = fault.code === 25 && fatal ? fatal.text : null;
   const message = own ?? notes.head ?? (row ? row.says.replace('{it}', () => quoted(text, fault.span)) : `fault ${fault.code}`);
   const help = row && !notes.sure ? [{ text: row.help }] : [];

@@ -34,6 +34,8 @@ export class Mounts {
   #spellings = new Map();
   /** @type {Map<string, string>} */
   #paths = new Map();
+  /** @type {Map<string, string>} */
+  #names = new Map();
   /** Loads that a compile asked for and that the texts don't show. @type {Map<number, Load[]>} */
   #shown = new Map();
 
@@ -57,9 +59,12 @@ export class Mounts {
    * @returns {string}
    */
   name(file) {
+    const known = this.#names.get(file);
+    if (known !== undefined) return known;
     const parts = path.relative(this.floor, file).split(path.sep).filter(Boolean);
     const name = parts.map((it) => this.#aliases.of(it)).join('/') || '.';
     this.#paths.set(name, file);
+    this.#names.set(file, name);
     return name;
   }
 
@@ -101,11 +106,19 @@ export class Mounts {
   #follow(found, graph) {
     for (const it of found.absent) graph.absent.add(it);
     graph.passed.push(...found.passed);
-    for (const it of found.lowest) this.floor = commonFolder(this.floor, it);
+    for (const it of found.lowest) this.#lower(it);
     for (const it of found.targets) {
       const sheet = graph.sheets.has(it) ? null : this.disk.sheet(it);
       if (sheet && !sheet.problem) graph.sheets.set(it, sheet);
     }
+  }
+
+  /** @param {string} folder where a way led that has to stay under the floor */
+  #lower(folder) {
+    if (isIn(folder, this.floor)) return;
+    this.floor = commonFolder(this.floor, folder);
+    this.#names.clear();
+    this.#paths.clear();
   }
 
   /**

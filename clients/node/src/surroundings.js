@@ -125,7 +125,7 @@ export class Surroundings {
     /** @type {import('./reply.js').Message[]} */
     const messages = [];
     for (const [file, edges] of this.graph.edges) {
-      for (const { load, found } of edges.filter((it) => it.found.targets.length > 0)) {
+      for (const { load, found } of edges.filter((it) => it.found.targets.length > 0 && it.found.passed.length > 0)) {
         const { path: at, span } = this.#step(file, load);
         const problems = found.passed.map((it) => this.#problem(it)).filter((it) => it !== null);
         for (const it of problems) messages.push({ kind: 'warn', path: at, span, text: `${it}; it is passed over` });
