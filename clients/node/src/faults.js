@@ -254,8 +254,8 @@ export const FAULTS = Object.freeze([
   },
   {
     code: 40,
-    means: "a statement where it may not stand, or a form that isn't evaluated yet",
-    at: 'the statement or the expression',
+    means: 'a statement where it may not stand',
+    at: 'the statement',
     example: '`a { @use "b"; }` → `error 40 a.scss 1:5 1:13`',
     says: '{it} may not stand here',
     help: 'loads, functions and mixins stand at the top level, declarations in rules, and `@return` in functions',

@@ -1,7 +1,8 @@
 // A plugin by Rollup's conventions, which Vite takes too: sheets that modules import are compiled by a session.
 
-import { existsSync } from 'node:fs';
+import { existsSync, statSync } from 'node:fs';
 import path from 'node:path';
+import { setTimeout as delay } from 'node:timers/promises';
 import { Appearances } from './appearances.js';
 import { Compiler } from './compiler.js';
 
@@ -38,6 +39,8 @@ const CSS = '.css';
 /** The same for sheets whose classes get names of their own, which Vite sees by the name. */
 const MODULE_CSS = '.module.css';
 const SHEETS = /\.s[ac]ss$/;
+/** How long a save may take: a file is often emptied before it is written, and a tool's watch may tell of that alone. In milliseconds. */
+const SAVE_MILLISECONDS = 60;
 /** With these in its query Vite wants the file as it is, or its address. */
 const AS_IT_IS = /[?&](?:raw|url)(?:&|$)/;
 
@@ -88,7 +91,7 @@ export function sassw(options = {}) {
     async load(id) {
       const file = state.gives === 'css' ? sheetOf(id, include) : path.isAbsolute(id) && include.test(id) ? id : null;
       if (file === null) return null;
-      const compiled = await state.compile(file);
+      const compiled = await (this.meta?.watchMode ? state.compileSaved(file) : state.compile(file));
       const { dependencies, absent } = compiled;
       dependencies.forEach((it) => this.addWatchFile(it));
       if (this.meta?.watchMode && !state.isServing) this.addWatchFile(state.waits(id, absent));
@@ -145,6 +148,20 @@ class State {
     const { loadPaths, program } = this.options;
     this.#compiler ??= new Compiler({ root: this.root, loadPaths, program });
     return this.#compiler.compile(file);
+  }
+
+  /**
+   * As `compile`, but a fault, or what an empty file gives, counts only where no file of the sheet changes for a while: it may be half a save.
+   * @param {string} file
+   * @returns {Promise<Compiled>}
+   */
+  async compileSaved(file) {
+    for (;;) {
+      const compiled = await this.compile(file);
+      if (!compiled.fault && !compiled.dependencies.some(isEmpty)) return compiled;
+      await delay(SAVE_MILLISECONDS);
+      if (this.#compiler === null || this.#compiler.isCurrent(file)) return compiled;
+    }
   }
 
   /**
@@ -218,6 +235,14 @@ function tell(context, id, problems) {
  */
 function noteLine({ text, path: file, span }) {
   return `  = ${text}${file && span ? ` (${path.relative('', file)}:${span.from.line}:${span.from.column})` : ''}`;
+}
+
+/**
+ * @param {string} file
+ * @returns {boolean}
+ */
+function isEmpty(file) {
+  return statSync(file, { throwIfNoEntry: false })?.size === 0;
 }
 
 /**
