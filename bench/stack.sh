@@ -26,10 +26,10 @@ def one(text, path="a.scss"):
     return session({path: text}, path)
 
 
-def chain(last):
-    """64 sheets, of which each loads the next; the last one stands in 64 open loads."""
-    files = {f"f{number}.scss": f'@use "f{number + 1}";' for number in range(63)}
-    return session({**files, "f63.scss": last}, "f0.scss")
+def chain(last, sheets):
+    """So many sheets, of which each loads the next."""
+    files = {f"f{number}.scss": f'@use "f{number + 1}";' for number in range(sheets - 1)}
+    return session({**files, f"f{sheets - 1}.scss": last}, "f0.scss")
 
 
 def nested(before, count, inside, after):
@@ -49,7 +49,7 @@ BOTH = (
 
 SHAPES = {
     "one rule": one("a { b: c; }"),
-    "loads that stand in each other": chain("a { b: c; }"),
+    "loads that stand in each other": chain("a { b: c; }", 64),
     "a mixin under @at-root": one(AT_ROOT),
     "a mixin in rules": one("@mixin m { " + nested("& {", 60, "@include m;", "}") + " } a { @include m; }"),
     "a mixin in mixins": one("@mixin m { @include m; } a { @include m; }"),
@@ -74,7 +74,7 @@ SHAPES = {
     "inspecting a deep map": one(DEEP_MAP + "a { b: str-length(inspect($d)); }"),
     "a deep list as CSS": one(DEEP_LIST + "a { b: $d; }"),
     "map.deep-merge under @at-root": one(BOTH),
-    "map.deep-merge under @at-root in loads": chain(BOTH),
+    "map.deep-merge under @at-root in loads": chain(BOTH, 63),
 }
 
 

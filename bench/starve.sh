@@ -62,7 +62,8 @@ FILES = {
     "main.scss": '@use "tokens" with ($brand: #336699); @use "button";',
 }
 CSS = ".btn {\n  color: #336699;\n}\n@media (min-width: 768px) {\n  .btn {\n    color: #6699cc;\n  }\n}\n"
-REPLY = ("".join(f"ran {path} first\n" for path in FILES) + f"css {len(CSS)}\n{CSS}\n").encode()
+AGAIN = f"css {len(CSS)}\n{CSS}\n".encode()
+REPLY = "".join(f"ran {path} first\n" for path in FILES).encode() + AGAIN
 REQUEST = b"compile main.scss\n"
 
 
@@ -85,15 +86,16 @@ def told(program, library, number):
             failed, status = process.stderr.read(), process.wait()
             assert (failed, status) == (b"!", 6), (number, failed, status)
             return "ended"
-        if first != b"memory\n":
-            rest, failed = process.communicate(b"end\n")
-            assert first + rest == REPLY, (number, first + rest)
-            return "none" if failed == b"" else "done"
-        rest, failed = process.communicate(REQUEST + REQUEST + b"end\n")
-        again = REPLY[REPLY.index(b"css ") :]
-        assert (rest, failed) == (REPLY + again, b"!"), (number, rest, failed)
-        assert process.returncode == 0, process.returncode
-        return "memory"
+        is_refused = first == b"memory\n"
+        process.stdin.write((REQUEST + REQUEST if is_refused else b"") + b"end\n")
+        process.stdin.close()
+        replies, failed, status = process.stdout.read(), process.stderr.read(), process.wait()
+        wanted = REPLY + AGAIN if is_refused else REPLY[len(first) :]
+        assert (replies, status) == (wanted, 0), (number, first, replies, failed, status)
+        if is_refused:
+            assert failed == b"!", (number, failed)
+            return "memory"
+        return "done" if failed else "none"
 
 
 def main():
