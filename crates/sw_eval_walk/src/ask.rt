@@ -92,8 +92,12 @@ impl Walk {
         ensures { Goes_on W.gives (asking (Says kind span.now text) span.now) self.old world.old result self.new
             world.new }
     {
-        let span = span.share()?;
-        let op = Question::Say { kind, span, text };
+        let place = span.share()?;
+        let op = Question::Say {
+            kind,
+            span: place,
+            text,
+        };
         ask(self.alloc, &mut self.asked, op, span, world)
     }
 
