@@ -27,14 +27,14 @@ pub data Ran {W A : Type 0} (gives : W → Question → Answer → W → Type 0)
   takes : (q : NumberedQuestion) (op : Question) (span : Span) (k : ℕ → Answer → Talk A) (path : List ℕ) (ps : List Pair) (n : ℕ)
       (w : W) (p : Pair) (u : Talk A) (s' : Stand) (w' : W)
       → n < most_asked → op_at path ps n q ≡ Some op → slice_get ps n ≡ Some p
-      → Ran gives (answered (k n) p.1) (record { path = path; pairs = ps; span = n + 1 }) w u s' w'
-      → Ran gives (Asking q span k) (record { path = path; pairs = ps; span = n }) w u s' w'
+      → Ran gives (answered (k n) p.1) (record { path = path; pairs = ps; at = n + 1 }) w u s' w'
+      → Ran gives (Asking q span k) (record { path = path; pairs = ps; at = n }) w u s' w'
   asks : (q : NumberedQuestion) (op : Question) (span : Span) (k : ℕ → Answer → Talk A) (path : List ℕ) (ps : List Pair) (w : W)
       (a : Answer) (v : W) (u : Talk A) (s' : Stand) (w' : W)
       → length ps < most_asked → op_at path ps (length ps) q ≡ Some op → (IsLoad op → ⊥) → gives w op a v → Fits op a
       → Ran gives (answered (k (length ps)) a)
-      (record { path = path; pairs = ps ++ (op, a) ∷ []; span = length ps + 1 }) v u s' w'
-      → Ran gives (Asking q span k) (record { path = path; pairs = ps; span = length ps }) w u s' w'
+      (record { path = path; pairs = ps ++ (op, a) ∷ []; at = length ps + 1 }) v u s' w'
+      → Ran gives (Asking q span k) (record { path = path; pairs = ps; at = length ps }) w u s' w'
   full : (q : NumberedQuestion) (span : Span) (k : ℕ → Answer → Talk A) (s : Stand) (w : W) (u : Talk A) (s' : Stand) (w' : W)
       → most_asked ≤ s.at → Ran gives (Fails (too_many span)) s w u s' w' → Ran gives (Asking q span k) s w u s' w'
   lost : (q : NumberedQuestion) (span : Span) (k : ℕ → Answer → Talk A) (s : Stand) (w : W) (u : Talk A) (s' : Stand) (w' : W)
