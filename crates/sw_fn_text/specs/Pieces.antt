@@ -1,5 +1,5 @@
 -- The pieces of a string around a separator (Sass reference documentation, "sass:string", `string.split`).
-use Rattle.std.specs.Prelude.{ℕ, zero, suc, ◌+◌, ◌==◌, min, ◌||◌, ℤ, unsigned_abs, Bool, true, List, [], ◌∷◌, ◌++◌, take, drop, length, map, chars, encode_utf8, encode_utf8_all, Option, Some, None, Result, Ok, Err, if◌then◌else◌}
+use Rattle.std.specs.Prelude.{ℕ, zero, suc, ◌+◌, ◌==◌, min, ◌||◌, ℤ, unsigned_abs, Bool, true, false, List, [], ◌∷◌, ◌++◌, take, drop, length, map, chars, encode_utf8, encode_utf8_all, Option, Some, None, Result, Ok, Err, if◌then◌else◌}
 use Rattle.sw_fixed.specs.Arithmetic.{whole_of, is_below_zero}
 use Rattle.sw_values.specs.declared.plain.Plain.{Plain}
 use Rattle.sw_values.specs.declared.plain.Plain.TheVariants as P
