@@ -207,11 +207,22 @@ abbrev pub empty_block : ℕ → List Wrapper → Option (List ℕ) → Block
 empty_block statement wrappers selector =
     record { statement = statement; wrappers = wrappers; selector = selector; lines = [] }
 
+abbrev pub one_or_none : Option Block → List Block
+one_or_none block = elim block as (λ b. List Block) [ None ↦ [] | Some block ↦ block ∷ [] ]
+
+-- the block in which an at-rule is written even when it is empty
+abbrev pub own_block : ℕ → List Wrapper → Bool → Option Block
+own_block statement wrappers own = if own then Some (empty_block statement wrappers None) else None
+
+-- the block of the rule around it
+abbrev pub inner_block : ℕ → List Wrapper → Option (List ℕ) → Option Block
+inner_block statement wrappers rule =
+    elim rule as (λ r. Option Block) [ None ↦ None | Some text ↦ Some (empty_block statement wrappers (Some text)) ]
+
 -- what an at-rule begins with: its own block, where it is written even when it is empty, and one of the rule around it
 abbrev pub first_blocks : ℕ → List Wrapper → Bool → Option (List ℕ) → List Block
 first_blocks statement wrappers own rule =
-    (if own then empty_block statement wrappers None ∷ [] else [])
-    ++ elim rule as (λ r. List Block) [ None ↦ [] | Some text ↦ empty_block statement wrappers (Some text) ∷ [] ]
+    one_or_none (own_block statement wrappers own) ++ one_or_none (inner_block statement wrappers rule)
 
 -- the rule of its frame
 abbrev pub inner_rule : ℕ → Option (List ℕ) → Option Rule

@@ -1,6 +1,6 @@
 // The blocks of an output, which know the last of them that is written.
 ghost use Rattle.std.specs.Prelude.{◌≡◌, ◌<◌, ◌≤◌, [], ◌∷◌, ◌++◌, length, OnOk, OnErr, suc};
-ghost use Rattle.sw_css_tree.specs.Output.{is_written, written_end, line_added};
+ghost use Rattle.sw_css_tree.specs.Output.{is_written, written_end, line_added, one_or_none};
 
 use crate::{Block, Line};
 use std::alloc::Global;
@@ -70,6 +70,47 @@ impl Blocks {
             self.written = self.items.len();
         }
         Ok(())
+    }
+
+    /// Puts up to two blocks behind the others. After an error they are as before.
+    pub fn push_some(&mut self, own: Option<Block>, inner: Option<Block>) -> Result<(), Memory>
+        ensures ok { OnOk result (self.new ≡ self.old ++ (one_or_none own ++ one_or_none inner)) }
+        ensures err { OnErr result (self.new ≡ self.old) }
+    {
+        match own {
+            None => self.push_one(inner),
+            Some(own) => match inner {
+                None => self.push(own),
+                Some(inner) => self.push_two(own, inner),
+            },
+        }
+    }
+
+    fn push_one(&mut self, block: Option<Block>) -> Result<(), Memory>
+        ensures ok { OnOk result (self.new ≡ self.old ++ one_or_none block) }
+        ensures err { OnErr result (self.new ≡ self.old) }
+    {
+        match block {
+            None => Ok(()),
+            Some(block) => self.push(block),
+        }
+    }
+
+    fn push_two(&mut self, own: Block, inner: Block) -> Result<(), Memory>
+        ensures ok { OnOk result (self.new ≡ self.old ++ (own ∷ inner ∷ [])) }
+        ensures err { OnErr result (self.new ≡ self.old) }
+    {
+        let count = self.items.len();
+        let written = self.written;
+        self.push(own)?;
+        match self.push(inner) {
+            Ok(()) => Ok(()),
+            Err(fault) => {
+                self.items.truncate(count);
+                self.written = written;
+                Err(fault)
+            }
+        }
     }
 
     /// Puts a line behind the lines of a block after which none is written. After an error all is as before.

@@ -1,6 +1,6 @@
 // How values are written in CSS.
 ghost use Rattle.std.specs.Prelude.{◌≡◌, ◌<◌, IfOk, IfErr, OnOk, length, true, map, List, ◌∷◌, [], ℕ, Some, ◌&&◌, not};
-ghost use Rattle.sw_values.specs.Texts.{Shown, shown, pieces, all_css, glue_of, in_brackets, IsTextFault, list_css};
+ghost use Rattle.sw_values.specs.Texts.{Shown, shown, pieces, all_blank, all_css, glue_of, in_brackets, IsTextFault, list_blank, list_css};
 ghost use Rattle.sw_values.specs.Canon.{is_empty};
 ghost use Rattle.sw_values.specs.Weight.{most};
 ghost use Rattle.sw_values.specs.Written.{appended, IsNamed};
@@ -15,7 +15,8 @@ use std::alloc::Global;
 use sw_text::{Memory, Name};
 
 impl Value {
-    /// Whether a list leaves the value out of its text: null and the empty unquoted string. Takes no memory.
+    /// Whether a list leaves the value out of its text: null, the empty unquoted string, and a list without brackets of
+    /// one or more such. Takes no memory.
     pub fn is_blank(&self) -> bool
         ensures { result ≡ (shown true self.now).blank }
     {
@@ -93,6 +94,7 @@ fn is_blank_text(text: &str, quoted: bool) -> bool
 }
 
 // Whether a list leaves the value out.
+#[cycle(blank)]
 fn is_blank(quotes: bool, value: &Value) -> bool
     ensures { result ≡ (shown quotes value.now).blank }
 {
@@ -100,12 +102,38 @@ fn is_blank(quotes: bool, value: &Value) -> bool
         Node::Number(_) => false,
         Node::Text { text, quoted } => is_blank_text(text.as_str(), *quoted),
         Node::Colour(_) => false,
-        Node::List { .. } => false,
+        Node::List {
+            items,
+            bracketed,
+            ..
+        } => list_is_blank(quotes, *bracketed, items.get().as_slice()),
         Node::Map(_) => false,
         Node::Bool(_) => false,
         Node::Null => true,
-        Node::Args { .. } => false,
+        Node::Args { items, .. } => list_is_blank(quotes, false, items.get().as_slice()),
     }
+}
+
+#[cycle(blank)]
+fn list_is_blank(quotes: bool, bracketed: bool, items: &[Value]) -> bool
+    ensures { result ≡ list_blank bracketed (map (shown quotes) items.now) }
+{
+    match items {
+        [] => false,
+        [_, ..] => !bracketed && are_blank(quotes, items),
+    }
+}
+
+#[cycle(blank)]
+fn are_blank(quotes: bool, items: &[Value]) -> bool
+    ensures { result ≡ all_blank (map (shown quotes) items.now) }
+{
+    'items: for i in 0..items.len() {
+        if !is_blank(quotes, &items[i]) {
+            return false;
+        }
+    }
+    true
 }
 
 #[cycle(css)]
@@ -144,8 +172,7 @@ fn are_css(quotes: bool, items: &[Value]) -> bool
 {
     let mut all = true;
     'items: for i in 0..items.len() {
-        let item = &items[i];
-        all = all && (is_blank(quotes, item) || is_css(quotes, item));
+        all = all && is_css(quotes, &items[i]);
     }
     all
 }
