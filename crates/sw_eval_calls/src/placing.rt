@@ -16,11 +16,7 @@ use sw_values::{Value, ValueFault};
 
 /// What arguments of these values pass.
 #[tactic(auto, using(crate::proofs::Placed::passed_next, crate::proofs::Placed::passed_none, crate::proofs::Placed::passed_end))]
-pub fn all_passed(
-    alloc: Global,
-    arguments: &[Argument],
-    values: &[Value],
-) -> Result<Passed, Memory>
+pub fn all_passed(alloc: Global, arguments: &[Argument], values: &[Value]) -> Result<Passed, Memory>
     ensures { IfOk result (λ passed. passed ≡ all_passed none_passed arguments.now values.now) }
 {
     let mut passed = Passed::new(alloc);

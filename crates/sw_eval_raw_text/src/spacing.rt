@@ -157,7 +157,10 @@ pub(crate) fn spaced(
         }
         name.push_str(&text[from..at])?;
         let is_end = is_end(is_last, text.as_bytes(), at + 1);
-        add_space(&mut name, now.shows_space(is_end, byte_at(text.as_bytes(), at + 1)))?;
+        add_space(
+            &mut name,
+            now.shows_space(is_end, byte_at(text.as_bytes(), at + 1)),
+        )?;
         from = at + 1;
     }
     name.push_str(&text[from..])?;

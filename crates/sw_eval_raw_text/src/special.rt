@@ -239,12 +239,7 @@ fn itself(value: &Value) -> Result<Value, Refused>
     Ok(value.share()?)
 }
 
-fn compared_by(
-    alloc: Global,
-    kind: &ExprKind,
-    value: &Value,
-    span: &Span,
-) -> Result<Value, Refused>
+fn compared_by(alloc: Global, kind: &ExprKind, value: &Value, span: &Span) -> Result<Value, Refused>
     ensures { Returns result (compared_by (out-ExprKind kind.now) value.now span.now) }
 {
     match kind {

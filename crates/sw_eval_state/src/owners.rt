@@ -41,7 +41,13 @@ pub fn target(
 {
     match answer {
         Answer::BuiltIn { .. } => fails(FaultCode::NotConfigurable, span),
-        _ => owner(FaultCode::UnknownMember, name_span, space_span, number, answer),
+        _ => owner(
+            FaultCode::UnknownMember,
+            name_span,
+            space_span,
+            number,
+            answer,
+        ),
     }
 }
 

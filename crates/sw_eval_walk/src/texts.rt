@@ -103,12 +103,7 @@ pub fn pieces<W: World, B: Below<W>>(
 }
 
 // The pieces behind one another; a text of an expression is a value, which has a limit.
-fn assembled(
-    alloc: Global,
-    kind: TextKind,
-    texts: &[Name],
-    span: &Span,
-) -> Result<Name, Refused>
+fn assembled(alloc: Global, kind: TextKind, texts: &[Name], span: &Span) -> Result<Name, Refused>
     ensures { Returns result (assembled kind texts.now span.now) }
 {
     match kind {
