@@ -1,7 +1,8 @@
 // What a poll does at each line.
 ghost use Rattle.std.specs.Prelude.{◌≤◌, length, IfOk, IfErr};
+ghost use Rattle.sw_io.specs.Causes.{Cause};
 ghost use Rattle.sw_cmd_protocol.specs.Heard.{told_of};
-ghost use Rattle.sw_cmd_protocol.specs.Turns.{place, standing, Answers, TurnEnds, Cause};
+ghost use Rattle.sw_cmd_protocol.specs.Turns.{place, standing, Answers, TurnEnds};
 ghost use Rattle.sw_cmd_line.specs.Forms.{target_seen};
 ghost use Rattle.sw_cmd_session.specs.Sheets.{hostless};
 ghost use Rattle.sw_cmd_run.specs.Poll.{held, grammar, poll as protocol};

@@ -1,8 +1,9 @@
 // What a session does at each request.
 ghost use Rattle.std.specs.Prelude.{◌≡◌, ◌≤◌, [], length, IfOk, IfErr};
 ghost use Rattle.std.specs.FinMap as files;
+ghost use Rattle.sw_io.specs.Causes.{Cause};
 ghost use Rattle.sw_cmd_protocol.specs.Heard.{told_of};
-ghost use Rattle.sw_cmd_protocol.specs.Turns.{place, standing, Answers, TurnEnds, Cause};
+ghost use Rattle.sw_cmd_protocol.specs.Turns.{place, standing, Answers, TurnEnds};
 ghost use Rattle.sw_cmd_session.specs.Script.{grammar};
 ghost use Rattle.sw_cmd_session.specs.Transcript.{holding, session as protocol};
 

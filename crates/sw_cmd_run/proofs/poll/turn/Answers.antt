@@ -1,4 +1,4 @@
-use Rattle.std.proofs.Common.{sym, ap, ◌∙◌, arith}
+use Rattle.std.proofs.Common.{refl, sym, ap, ◌∙◌, arith}
 use Rattle.sw_cmd_line.specs.Forms.{target_seen}
 use Rattle.sw_cmd_protocol.specs.Heard.{told_of}
 use Rattle.sw_cmd_protocol.specs.Turns.{standing}
@@ -31,7 +31,7 @@ returns-in-Scan-clause-err g c =
 
 -- a scan doesn't look at the source
 pub returns-in-Scan-clause-source_cause : goal.returns-in-Scan-clause-source_cause
-returns-in-Scan-clause-source_cause g c = record { later = omega arith; rose = not_source _ c.scan.result (λ x. x) c.scan.ensures.err }
+returns-in-Scan-clause-source_cause g c = record { later = omega arith; rose = not_source _ c.scan.result (λ x. x) c.scan.ensures.err; fine = λ _. refl }
 
 pub returns-in-End-clause-err : goal.returns-in-End-clause-err
 returns-in-End-clause-err g c =

@@ -51,6 +51,7 @@ pub returns-in-Remove-clause-source_cause : goal.returns-in-Remove-clause-source
 returns-in-Remove-clause-source_cause g c = record {
   later = omega arith;
   rose = not_source _ c.remove.result (λ x. x (setting_of g.H.Hosts.answer g.H.Hosts.after sheet_at g.E.Engine.body) (g.H.Hosts.state c.args.hosts.now) (g.E.Engine.ran c.args.engine.now)) c.remove.ensures.err;
+  fine = λ _. refl;
 }
 
 pub returns-in-Put-clause-ok : goal.returns-in-Put-clause-ok
