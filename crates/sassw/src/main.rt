@@ -10,14 +10,11 @@ use crate::reporter::MessageReporter;
 use crate::words::words;
 use std::alloc::{AllocError, Global};
 use std::process::ExitCode;
-use sw_cmd_protocol::Output;
+use sw_cmd_protocol::{Output, Stop};
 use sw_cmd_run::run;
 use sw_eval::Evaluator;
 use sw_hub::Hub;
 use sw_io::{FolderDisk, StdSink, StdSource};
-
-// No memory was found for the words or for who reports.
-const NO_MEMORY: u8 = 6;
 
 // A block of this many bytes has those up to it kept where they are freed.
 const LARGE_BLOCK: usize = 4_194_304;
@@ -39,7 +36,7 @@ fn main(rt: HostRuntime) -> ExitCode {
     let mut hub = Hub::new(alloc);
     let reporter = MessageReporter::new(alloc, StdSink::new(rt.stderr()));
     if hub.attach(reporter).is_err() {
-        return ExitCode::from(NO_MEMORY);
+        return ExitCode::from(Stop::Memory.status());
     }
     let mut source = StdSource::new(rt.stdin());
     let mut output = Output {

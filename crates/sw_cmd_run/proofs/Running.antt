@@ -5,13 +5,14 @@ use Rattle.sw_cmd_line.specs.Forms.{Form, form_seen}
 use Rattle.sw_modules.specs.Fresh.{Setting}
 use Rattle.sw_record.specs.declared.reply.Reply.{Reply}
 use Rattle.sw_cmd_protocol.specs.Heard.{Hearing}
+use Rattle.sw_cmd_protocol.specs.Statuses.{no_command}
 use Rattle.sw_cmd_run.specs.Run.{Surroundings, Runs}
 
 -- words in no form
 module _ {State : Type 0} (setting : Setting) (hears : Hearing Reply State) (s : Surroundings) (t : State) where
-  pub none_runs : (form : Option Form) → None ≡ form → Runs setting hears form 7 s s t t
+  pub none_runs : (form : Option Form) → None ≡ form → Runs setting hears form no_command s s t t
   none_runs form e =
-      subst (λ (f : Option Form). Runs setting hears f 7 s s t t) e (record { seven = refl; left = refl; written = refl; course = refl; ran = refl }, refl)
+      subst (λ (f : Option Form). Runs setting hears f no_command s s t t) e (record { tells = refl; left = refl; written = refl; course = refl; ran = refl }, refl)
 
 -- words in this form
 module _ (form : Option Form) (is : Form) (e : Some is ≡ form) where

@@ -5,6 +5,7 @@ use Rattle.sw_cmd_line.specs.Forms.{Form, Target, Session, Once, Poll, Make}
 use Rattle.sw_modules.specs.Fresh.{Setting}
 use Rattle.sw_record.specs.declared.reply.Reply.{Reply}
 use Rattle.sw_cmd_protocol.specs.Heard.{Hearing}
+use Rattle.sw_cmd_protocol.specs.Statuses.{no_command}
 use Rattle.sw_cmd_session.specs.Served as session
 use Rattle.sw_cmd_disk_compile.specs.declared.ending.Ending.{Ending}
 use Rattle.sw_cmd_disk_compile.specs.Once as once
@@ -25,7 +26,7 @@ surroundings left written course ran = record { left = left; written = written; 
 
 -- nothing was read, written or run
 pub record DoesNothing (status : ℕ) (old new : Surroundings) : Type 0 where
-  pub seven : status ≡ 7
+  pub tells : status ≡ no_command
   pub left : new.left ≡ old.left
   pub written : new.written ≡ old.written
   pub course : new.course ≡ old.course
@@ -58,7 +59,7 @@ pub record Makes {State : Type 0} (setting : Setting) (number : ℕ) (hears : He
   pub left : new.left ≡ old.left
   pub course : new.course ≡ old.course
 
--- the words are in this form, and this came of them; words in no form are status 7
+-- the words are in this form, and this came of them; words in no form have a status of their own
 abbrev pub Runs : {State : Type 0} → Setting → Hearing Reply State → Option Form → ℕ → Surroundings → Surroundings
     → State → State → Type 0
 Runs setting hears None status old new before now = DoesNothing status old new × (now ≡ before)

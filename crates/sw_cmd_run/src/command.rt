@@ -1,7 +1,8 @@
 // The command line.
-ghost use Rattle.std.specs.Prelude.{◌≡◌, ℕ, None, Some};
-ghost use Rattle.sw_io.specs.Causes.{Rose};
+ghost use Rattle.std.specs.Prelude.{◌≡◌, ◌≢◌, ℕ, None, Some};
+ghost use Rattle.sw_io.specs.Causes.{NoFault, Rose};
 ghost use Rattle.sw_cmd_line.specs.Forms.{form_of, form_seen, Target, Session, Once, Make};
+ghost use Rattle.sw_cmd_protocol.specs.Statuses.{source_failed, sink_failed, outside_failed};
 ghost use Rattle.sw_cmd_session.specs.Sheets.{hostless};
 ghost use Rattle.sw_cmd_run.specs.Run.{surroundings, Runs};
 
@@ -17,15 +18,16 @@ use sw_record::Reply;
 use sw_text::Name;
 use sw_world::{Engine, NoHosts};
 
-// The words are in no command's form.
-const NO_COMMAND: u8 = 7;
+/// The status where the words are in no command's form.
+pub const NO_COMMAND: u8 = 7;
 
 /// Does what the words of the command line ask for, without the program's name, and gives the status: `session`
 /// answers the requests of the source without functions of a host, `once DIR ENTRY LOAD..` compiles a folder of the
 /// disk and writes its CSS alone, or the line of its fault, and `poll DIR ENTRY LOAD..` reads and compiles it at each
 /// line `scan` of the source; `make N` compiles the made folder of this number and its edits and writes their summary.
 /// The audience is told of the reply to each compile, once it is written, and of those of `make` as they are formed.
-/// Words in no such form give 7, and nothing is read, written, run or told.
+/// Words in no such form give 7, and nothing is read, written, run or told. No call of the source, the sink
+/// or the disk fails but the one by whose fault the command ends.
 pub fn run<S: Source, K: Sink, D: Disk, E: Engine, T: Audience<Reply>>(
     alloc: Global,
     words: &[Name],
@@ -44,9 +46,12 @@ pub fn run<S: Source, K: Sink, D: Disk, E: Engine, T: Audience<Reply>>(
     ensures no_source { (target : Target) → form_of words.now ≡ Some (Once target) → source.new ≡ source.old }
     ensures no_outside { (number : ℕ) → form_of words.now ≡ Some (Make number)
         → (source.new ≡ source.old) × (disk.new ≡ disk.old) }
-    ensures source_fault { result ≡ 4 → Rose (S.faults source.old) (S.faults source.new) }
-    ensures sink_fault { result ≡ 5 → Rose (K.faults output.old.sink) (K.faults output.new.sink) }
-    ensures disk_fault { result ≡ 8 → Rose (D.faults disk.old) (D.faults disk.new) }
+    ensures source_fault { result ≡ source_failed → Rose (S.faults source.old) (S.faults source.new) }
+    ensures sink_fault { result ≡ sink_failed → Rose (K.faults output.old.sink) (K.faults output.new.sink) }
+    ensures disk_fault { result ≡ outside_failed → Rose (D.faults disk.old) (D.faults disk.new) }
+    ensures no_source_fault { result ≢ source_failed → NoFault (S.faults source.old) (S.faults source.new) }
+    ensures no_sink_fault { result ≢ sink_failed → NoFault (K.faults output.old.sink) (K.faults output.new.sink) }
+    ensures no_disk_fault { result ≢ outside_failed → NoFault (D.faults disk.old) (D.faults disk.new) }
 {
     match command_of(words) {
         None => NO_COMMAND,
@@ -71,9 +76,12 @@ fn carry_out<S: Source, K: Sink, D: Disk, E: Engine, T: Audience<Reply>>(
     ensures no_source { (target : Target) → form_seen command.entry ≡ Once target → source.new ≡ source.old }
     ensures no_outside { (number : ℕ) → form_seen command.entry ≡ Make number
         → (source.new ≡ source.old) × (disk.new ≡ disk.old) }
-    ensures source_fault { result ≡ 4 → Rose (S.faults source.old) (S.faults source.new) }
-    ensures sink_fault { result ≡ 5 → Rose (K.faults output.old.sink) (K.faults output.new.sink) }
-    ensures disk_fault { result ≡ 8 → Rose (D.faults disk.old) (D.faults disk.new) }
+    ensures source_fault { result ≡ source_failed → Rose (S.faults source.old) (S.faults source.new) }
+    ensures sink_fault { result ≡ sink_failed → Rose (K.faults output.old.sink) (K.faults output.new.sink) }
+    ensures disk_fault { result ≡ outside_failed → Rose (D.faults disk.old) (D.faults disk.new) }
+    ensures no_source_fault { result ≢ source_failed → NoFault (S.faults source.old) (S.faults source.new) }
+    ensures no_sink_fault { result ≢ sink_failed → NoFault (K.faults output.old.sink) (K.faults output.new.sink) }
+    ensures no_disk_fault { result ≢ outside_failed → NoFault (D.faults disk.old) (D.faults disk.new) }
 {
     match command {
         Command::Session => serve(alloc, source, output, engine, &mut NoHosts),

@@ -1,8 +1,10 @@
-use Rattle.std.proofs.Common.{◌≡◌, [], refl, sym, ◌∙◌}
+use Rattle.std.proofs.Common.{◌≡◌, [], refl, sym, ap, ◌∙◌}
 use Rattle.sw_cmd_session.specs.Sheets.{hostless}
 use Rattle.sw_cmd_session.specs.Served as session
 use Rattle.sw_cmd_line.specs.declared.command.Command.TheVariants as code
 use Rattle.sw_cmd_line.specs.Forms.{Session, Once, Poll, Make, target_seen}
+use Rattle.sw_cmd_disk_compile.specs.Once.{status_of}
+use Rattle.sw_cmd_workload.specs.Ends.{status_of as status_of_made}
 use Rattle.sw_cmd_run.specs.Run.{surroundings}
 use Rattle.sw_cmd_run.proofs.Running.{runs_as, form_as}
 use Rattle.sw_cmd_run.proofs.Statuses.{no_outside, of_sink, of_disk, not_source, of_made_sink, made_not_source, made_not_disk}
@@ -85,3 +87,12 @@ returns-in-Make-clause-sink_fault g c = λ e. c.make.ensures.sink_fault (of_made
 
 pub returns-in-Make-clause-disk_fault : goal.returns-in-Make-clause-disk_fault
 returns-in-Make-clause-disk_fault g c = λ e. absurd (made_not_disk c.make.result (sym c.status-in-Make.ensures ∙ e))
+
+pub returns-in-Once-clause-no_sink_fault : goal.returns-in-Once-clause-no_sink_fault
+returns-in-Once-clause-no_sink_fault g c = λ n. c.once.ensures.no_sink_fault (λ e. n (c.status.ensures ∙ ap status_of e))
+
+pub returns-in-Once-clause-no_disk_fault : goal.returns-in-Once-clause-no_disk_fault
+returns-in-Once-clause-no_disk_fault g c = λ n. c.once.ensures.no_disk_fault (λ e. n (c.status.ensures ∙ ap status_of e))
+
+pub returns-in-Make-clause-no_sink_fault : goal.returns-in-Make-clause-no_sink_fault
+returns-in-Make-clause-no_sink_fault g c = λ n. c.make.ensures.no_sink_fault (λ e. n (c.status-in-Make.ensures ∙ ap status_of_made e))
