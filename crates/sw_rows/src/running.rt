@@ -1,0 +1,76 @@
+// One run of a row.
+ghost use Rattle.std.specs.Prelude.{◌≤◌};
+
+use std::alloc::{AllocError, Global};
+use sw_cmd_protocol::Output;
+use sw_cmd_run::run;
+use sw_eval::Evaluator;
+use sw_io::{MemSink, MemSource};
+use sw_rows_sessions::{
+    Ending, Failing, Heard, Object, Row, disk_of, failing_calls, heard_by, hub_with, looked_at,
+};
+use sw_text::List;
+
+/// What a run ended with, and how many calls failed of the object of which one was to.
+#[derive(Drop)]
+pub struct Run {
+    pub ending: Ending,
+    pub faults: u64,
+}
+
+/// The row with at most so many bytes in a read and in a write, where one call more may fail. An error exactly where no
+/// memory was found.
+pub fn ended(
+    alloc: Global,
+    row: &Row,
+    most: usize,
+    failing: Option<Failing>,
+) -> Result<Run, AllocError>
+    requires { 1 ≤ most }
+{
+    let mut script = row.sent.to_vec(alloc)?;
+    if row.status.is_none() {
+        script.extend_from_slice(b"end\n")?;
+    }
+    let reads = failing_calls(alloc, Object::Source, &[], failing)?;
+    let writes = failing_calls(alloc, Object::Sink, &row.sink_fails, failing)?;
+    let mut source = MemSource::new(List::from_vec(script), most, reads);
+    let mut output = Output {
+        sink: MemSink::new(alloc, most, writes),
+        audience: hub_with(alloc, row, failing)?,
+    };
+    let mut disk = disk_of(alloc, row, failing)?;
+    let mut engine = Evaluator::new(alloc);
+    let status = run(
+        alloc,
+        &row.words,
+        &mut source,
+        &mut output,
+        &mut disk,
+        &mut engine,
+    );
+    let replies = looked_at(alloc, row.look, output.sink.bytes())?;
+    let heard = heard_by(alloc, row, &mut output.audience)?;
+    let faults = match failing {
+        None => 0,
+        Some(failing) => match failing.object {
+            Object::Source => source.faults(),
+            Object::Sink => output.sink.faults(),
+            Object::Disk => disk.faults(),
+            Object::Reporter(number) => faults_of(&heard, number),
+        },
+    };
+    let ending = Ending {
+        status,
+        replies,
+        heard,
+    };
+    Ok(Run { ending, faults })
+}
+
+fn faults_of(all: &[Heard], number: usize) -> u64 {
+    match all.get(number) {
+        Some(heard) => heard.faults,
+        None => 0,
+    }
+}
