@@ -31,7 +31,7 @@ pub trait Protocol<E, O, R> {
 
     /// Answers the request of the line that was read, which may go on behind it, sends the reply, and gives it where an
     /// audience is to be told of it.
-    fn turn<S: Source, K: Sink>(
+    fn answer_request<S: Source, K: Sink>(
         &mut self,
         lines: &mut Lines,
         source: &mut S,

@@ -48,7 +48,7 @@ impl<P> Service<P> {
             → NoFault (P.faults outside.old) (P.faults outside.new) }
     {
         'requests: for _ in 0..most {
-            match self.turn(source, &mut output.sink, engine, outside) {
+            match self.answer_next(source, &mut output.sink, engine, outside) {
                 Err(stop) => return stop,
                 Ok(reply) => tell_some(&mut output.audience, &reply),
             }
@@ -57,7 +57,7 @@ impl<P> Service<P> {
     }
 
     /// Reads a line, answers its request, and gives the reply where it is to be told.
-    fn turn<S: Source, K: Sink, E, O, R>(
+    fn answer_next<S: Source, K: Sink, E, O, R>(
         &mut self,
         source: &mut S,
         sink: &mut K,
@@ -82,7 +82,7 @@ impl<P> Service<P> {
     {
         self.lines.reader.line(source, &mut self.lines.line)?;
         self.protocol
-            .turn(&mut self.lines, source, sink, engine, outside)
+            .answer_request(&mut self.lines, source, sink, engine, outside)
     }
 
     /// Reads a line where no more requests are answered.

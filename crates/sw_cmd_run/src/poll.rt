@@ -45,7 +45,7 @@ impl<'t, E: Engine, D: Disk> Protocol<E, D, Reply> for Poll<'t, E> {
 
     ghost faults = { D.faults };
 
-    fn turn<S: Source, K: Sink>(
+    fn answer_request<S: Source, K: Sink>(
         &mut self,
         lines: &mut Lines,
         source: &mut S,
@@ -53,7 +53,7 @@ impl<'t, E: Engine, D: Disk> Protocol<E, D, Reply> for Poll<'t, E> {
         engine: &mut E,
         disk: &mut D,
     ) -> Result<Option<Reply>, Stop> {
-        turn(self, lines, source, sink, engine, disk)
+        scan_turn(self, lines, source, sink, engine, disk)
     }
 
     fn last(&self, lines: &Lines) -> Stop {
@@ -65,7 +65,7 @@ impl<'t, E: Engine, D: Disk> Protocol<E, D, Reply> for Poll<'t, E> {
     }
 }
 
-fn turn<S: Source, K: Sink, D: Disk, E: Engine>(
+fn scan_turn<S: Source, K: Sink, D: Disk, E: Engine>(
     poll: &mut Poll<'_, E>,
     lines: &mut Lines,
     source: &mut S,

@@ -21,10 +21,10 @@ returns-in-Err-clause-served g c =
     turn_ends_at g.P.Protocol.rules c.args.most
     (standing (g.P.Protocol.held c.args.self.now.protocol c.args.outside.now) (g.P.Protocol.ran c.args.engine.now)) g.T.Audience.hears (g.T.Audience.state c.args.output.now.audience) (g.T.Audience.state c.requests.output.audience) i.0 c.requests.counter
     (standing (g.P.Protocol.held c.requests.self.protocol c.requests.outside) (g.P.Protocol.ran c.requests.engine))
-    (standing (g.P.Protocol.held c.turn.new.self.protocol c.turn.new.outside) (g.P.Protocol.ran c.turn.new.engine))
+    (standing (g.P.Protocol.held c.answer_next.new.self.protocol c.answer_next.new.outside) (g.P.Protocol.ran c.answer_next.new.engine))
     (place c.args.self.now.lines.reader (g.S.Source.left c.args.source.now) (g.K.Sink.written c.args.output.now.sink))
     (place c.requests.self.lines.reader (g.S.Source.left c.requests.source) (g.K.Sink.written c.requests.output.sink))
-    (place c.turn.new.self.lines.reader (g.S.Source.left c.turn.new.source) (g.K.Sink.written c.turn.new.sink)) c.in-Err.stop
+    (place c.answer_next.new.self.lines.reader (g.S.Source.left c.answer_next.new.source) (g.K.Sink.written c.answer_next.new.sink)) c.in-Err.stop
     i.1 c.requests-test.true c.requires i.2 c.in-Err.ensures.err
 
 pub requests-preserved : goal.requests-preserved
@@ -35,10 +35,10 @@ requests-preserved g c =
       going = going_on_at g.P.Protocol.rules c.args.most
           (standing (g.P.Protocol.held c.args.self.now.protocol c.args.outside.now) (g.P.Protocol.ran c.args.engine.now)) g.T.Audience.hears (g.T.Audience.state c.args.output.now.audience) (g.T.Audience.state c.requests.output.audience) (g.T.Audience.state c.tell_some.new.audience) i.going.0 c.requests.counter
           (standing (g.P.Protocol.held c.requests.self.protocol c.requests.outside) (g.P.Protocol.ran c.requests.engine))
-          (standing (g.P.Protocol.held c.turn.new.self.protocol c.turn.new.outside) (g.P.Protocol.ran c.turn.new.engine))
+          (standing (g.P.Protocol.held c.answer_next.new.self.protocol c.answer_next.new.outside) (g.P.Protocol.ran c.answer_next.new.engine))
           (place c.args.self.now.lines.reader (g.S.Source.left c.args.source.now) (g.K.Sink.written c.args.output.now.sink))
           (place c.requests.self.lines.reader (g.S.Source.left c.requests.source) (g.K.Sink.written c.requests.output.sink))
-          (place c.turn.new.self.lines.reader (g.S.Source.left c.turn.new.source) (g.K.Sink.written c.turn.new.sink))
+          (place c.answer_next.new.self.lines.reader (g.S.Source.left c.answer_next.new.source) (g.K.Sink.written c.answer_next.new.sink))
           (told_of c.in-Ok.reply) i.going.1 c.requests-test.true i.going.2 e.ok c.tell_some.ensures;
       source_fine = fine_ok SourceFailed _ _ _ e.source_cause ∙ i.source_fine;
       sink_fine = fine_ok SinkFailed _ _ _ e.sink_cause ∙ i.sink_fine;

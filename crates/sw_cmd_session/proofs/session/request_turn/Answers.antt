@@ -9,7 +9,7 @@ use Rattle.sw_modules.specs.Fresh.{setting_of}
 use Rattle.sw_parse_file.specs.Files.{sheet_at}
 use Rattle.sw_cmd_session.specs.Transcript.{holding, session}
 use Rattle.sw_cmd_session.proofs.Turning.{given_by, line_answers, line_breaks, put_answers, put_ends, not_source}
-use Rattle.sw_cmd_session.proofs.session.turn.Goals as goal
+use Rattle.sw_cmd_session.proofs.session.request_turn.Goals as goal
 
 pub returns-in-Compile-clause-ok : goal.returns-in-Compile-clause-ok
 returns-in-Compile-clause-ok g c =

@@ -7,7 +7,7 @@ use Rattle.sw_cmd_session.specs.Sheets.{hostless}
 use Rattle.sw_cmd_session.proofs.Turning.{not_source}
 use Rattle.sw_cmd_run.specs.Poll.{held, word_of}
 use Rattle.sw_cmd_run.proofs.Lines.{line_closes, line_is_wrong, scan_answers, scan_stops}
-use Rattle.sw_cmd_run.proofs.poll.turn.Goals as goal
+use Rattle.sw_cmd_run.proofs.poll.scan_turn.Goals as goal
 
 pub returns-in-Scan-clause-ok : goal.returns-in-Scan-clause-ok
 returns-in-Scan-clause-ok g c =
