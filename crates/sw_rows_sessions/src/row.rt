@@ -1,6 +1,7 @@
 // A row: what is sent, and what has to come of it.
 ghost use Rattle.std.specs.Prelude.{◌≤◌};
 
+use crate::hosts::RowHost;
 use crate::listeners::Listener;
 use std::alloc::{AllocError, Global};
 use sw_text::Name;
@@ -47,6 +48,8 @@ pub struct Row {
     pub disk_fails: Vec<u32>,
     /// The calls of the sink that fail.
     pub sink_fails: Vec<u32>,
+    /// The functions of the host, in order of attaching.
+    pub hosts: Vec<RowHost>,
     /// Those who are told of the replies.
     pub listeners: Vec<Listener>,
     /// Whether each call of each object fails in turn.
@@ -73,6 +76,7 @@ impl Row {
             folders: Vec::new(alloc),
             disk_fails: Vec::new(alloc),
             sink_fails: Vec::new(alloc),
+            hosts: Vec::new(alloc),
             listeners: Vec::new(alloc),
             breaks: false,
             is_wrong: false,

@@ -1,5 +1,6 @@
 // Rows that are whole sessions: requests, each with its reply.
 use crate::archive::Section;
+use crate::hosts::RowHost;
 use crate::listeners::Listener;
 use crate::replies::add_reply;
 use crate::row::{Look, Row};
@@ -35,6 +36,10 @@ fn add_step(alloc: Global, row: &mut Row, head: &str, body: &str) -> Result<(), 
         "file" => add_file(alloc, row, rest, body),
         "disk-fails" => row.set_disk_fails(rest),
         "sink-fails" => row.set_sink_fails(rest),
+        "host" => {
+            row.hosts.push(RowHost::read(alloc, rest)?)?;
+            Ok(())
+        }
         "reporter" => {
             row.listeners.push(Listener::read(alloc, rest)?)?;
             Ok(())
