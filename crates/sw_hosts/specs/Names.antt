@@ -4,5 +4,5 @@ use Rattle.sw_text_scan.specs.declared.runs.Class.TheVariants as classes
 use Rattle.sw_text_scan.specs.Runs.{begins_name, run_end}
 
 -- a name begins at the text's start and ends at its end
-abbrev pub is_name : List ℕ → Bool
+unfoldable pub is_name : List ℕ → Bool
 is_name text = begins_name text 0 && (run_end classes.Name text 0 == length text)

@@ -1,5 +1,5 @@
 -- What contracts see of the hosts that a table holds.
-use Rattle.std.specs.Prelude.{ℕ, List, [], ◌∷◌, map, bytes_eq, suc, if◌then◌else◌}
+use Rattle.std.specs.Prelude.{ℕ, suc, List, [], ◌∷◌, map, bytes_eq, if◌then◌else◌}
 use Rattle.sw_world.specs.Hosts.{HostFunction, HostState}
 use Rattle.sw_hosts.specs.declared.seat.Seat.{Seat}
 
@@ -12,6 +12,6 @@ abbrev pub functions : {F : Type 0} → (F → ℕ) → (F → List ℕ) → Lis
 functions kind state seats = map (λ seat. seated kind state seat.name seat.host) seats
 
 -- where the first with this stored name stands; the length where none does
-abbrev pub place_in : {F : Type 0} → List (Seat F) → List ℕ → ℕ
-place_in [] name = 0
-place_in (seat ∷ seats) name = if bytes_eq seat.name name then 0 else suc (place_in seats name)
+abbrev pub place_in : {A : Type 0} → (A → List ℕ) → List A → List ℕ → ℕ
+place_in name_of [] name = 0
+place_in name_of (x ∷ xs) name = if bytes_eq (name_of x) name then 0 else suc (place_in name_of xs name)

@@ -6,6 +6,7 @@ ghost use Rattle.sw_hosts.specs.Names.{is_name};
 use sw_text_scan::{Class, begins_name, run_end};
 
 /// Whether all of a text is a name.
+#[tactic(auto, unfolding(crate::specs::Names::is_name))]
 pub fn is_name(text: &str) -> bool
     ensures { result ≡ is_name text.now }
 {
@@ -20,6 +21,7 @@ fn dash(byte: u8) -> u8
 }
 
 /// Whether a name is stored so: with `-` for each `_`. Takes no memory.
+#[tactic(auto, using(crate::proofs::Dashes::more, crate::proofs::Dashes::differ, crate::proofs::Dashes::through, crate::proofs::Dashes::other_length))]
 pub fn is_stored_as(stored: &[u8], name: &[u8]) -> bool
     ensures { result ≡ bytes_eq stored.now (dashed name.now) }
 {

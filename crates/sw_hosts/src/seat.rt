@@ -18,8 +18,9 @@ pub struct Seat<F> {
 }
 
 /// Where the host with a name stands; the length where none does. Takes no memory.
+#[tactic(auto, using(crate::proofs::Rows::place_more, crate::proofs::Rows::place_found, crate::proofs::Rows::place_lost))]
 pub fn place_of<F>(seats: &[Seat<F>], name: &str) -> usize
-    ensures place { result ≡ place_in seats.now (dashed name.now) }
+    ensures place { result ≡ place_in (λ seat. seat.name) seats.now (dashed name.now) }
     ensures within { result ≤ length seats.now }
 {
     'seats: for (at, seat) in seats.iter().enumerate() {
