@@ -1,5 +1,5 @@
-//! Runs the rows that are calls of values, of their operators and functions, of scopes and of hosts, and tells which of them
-//! give what they say. Lines flow in, each becomes a call of its library, and a line for each file flows out.
+//! Runs the rows that are calls of values, of their operators and functions, of scopes and of hosts, and tells which of
+//! them give what they say. Lines flow in, each becomes a call of its library, and a line for each file flows out.
 #![tactic(auto)]
 
 mod built_ins;
