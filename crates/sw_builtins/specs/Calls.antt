@@ -37,10 +37,16 @@ abbrev pub of_channels : List ℕ → Colours → List Argument → Argument →
 of_channels name function args channels =
     if has_special channels.1 then written name (channel_parts channels.1) else colour_answer function args
 
-abbrev pub of_colour : List ℕ → Colours → List Argument → Argument → Argument → Answer
-of_colour name function args colour alpha =
+abbrev pub of_colour : List ℕ → List Argument → Argument → Argument → Answer
+of_colour name args colour alpha =
     if is_special colour.1 || is_special alpha.1 then written name (colour_parts colour.1 ++ alpha.1 ∷ [])
-    else colour_answer function args
+    else colour_answer colours.Rgb args
+
+-- the lightness is missing, unless special text may stand for it
+abbrev pub of_hue : List ℕ → Argument → Argument → Answer
+of_hue name hue saturation =
+    if is_special hue.1 || is_special saturation.1 then written name (hue.1 ∷ saturation.1 ∷ [])
+    else Err F.ArgumentFault
 
 abbrev pub are_special : Plain → Plain → Plain → Bool
 are_special first second third = is_special first || is_special second || is_special third
@@ -60,16 +66,27 @@ of_four_by name function args _ = Err F.ArgumentFault
 abbrev pub of_four : List ℕ → Colours → List Argument → Answer
 of_four name function args = of_four_by name function args args
 
-abbrev pub of_parts_by : List ℕ → Colours → List Argument → List Argument → Answer
-of_parts_by name function args [] = Err F.ArgumentFault
-of_parts_by name function args (channels ∷ []) = of_channels name function args channels
-of_parts_by name function args (colour ∷ alpha ∷ []) = of_colour name function args colour alpha
-of_parts_by name function args (first ∷ second ∷ third ∷ []) = of_three name function first second third
-of_parts_by name function args (first ∷ second ∷ third ∷ alpha ∷ others) = of_four name function args
+abbrev pub rgb_by : List ℕ → List Argument → List Argument → Answer
+rgb_by name args [] = Err F.ArgumentFault
+rgb_by name args (channels ∷ []) = of_channels name colours.Rgb args channels
+rgb_by name args (colour ∷ alpha ∷ []) = of_colour name args colour alpha
+rgb_by name args (first ∷ second ∷ third ∷ []) = of_three name colours.Rgb first second third
+rgb_by name args (first ∷ second ∷ third ∷ alpha ∷ others) = of_four name colours.Rgb args
 
 -- the colour of some parts, or their call as CSS where one of them is for CSS
-abbrev pub of_parts : List ℕ → Colours → List Argument → Answer
-of_parts name function args = of_parts_by name function args args
+abbrev pub rgb : List ℕ → List Argument → Answer
+rgb name args = rgb_by name args args
+
+abbrev pub hsl_by : List ℕ → List Argument → List Argument → Answer
+hsl_by name args [] = Err F.ArgumentFault
+hsl_by name args (channels ∷ []) = of_channels name colours.Hsl args channels
+hsl_by name args (hue ∷ saturation ∷ []) = of_hue name hue saturation
+hsl_by name args (first ∷ second ∷ third ∷ []) = of_three name colours.Hsl first second third
+hsl_by name args (first ∷ second ∷ third ∷ alpha ∷ others) = of_four name colours.Hsl args
+
+-- the same of hue, saturation and lightness
+abbrev pub hsl : List ℕ → List Argument → Answer
+hsl name args = hsl_by name args args
 
 abbrev pub is_number_by : Node → Bool
 is_number_by (N.Number _) = true
@@ -109,22 +126,23 @@ invert_by args (colour ∷ weight ∷ others) = colour_answer colours.Invert arg
 abbrev pub invert : List Argument → Answer
 invert args = invert_by args args
 
+-- the amount is missing
 abbrev pub saturated : Plain → Answer
-saturated amount = if is_number amount then written (codes "saturate") (amount ∷ []) else Err F.TypeFault
+saturated value = if is_number value then written (codes "saturate") (value ∷ []) else Err F.ArgumentFault
 
 abbrev pub saturate_by : List Argument → List Argument → Answer
 saturate_by args [] = Err F.ArgumentFault
-saturate_by args (amount ∷ []) = saturated amount.1
+saturate_by args (colour ∷ []) = saturated colour.1
 saturate_by args (colour ∷ amount ∷ others) = colour_answer colours.Saturate args
 
 abbrev pub saturate : List Argument → Answer
 saturate args = saturate_by args args
 
 unfoldable pub css_answer : Css → List Argument → Answer
-css_answer css.Rgb args = of_parts (codes "rgb") colours.Rgb args
-css_answer css.Rgba args = of_parts (codes "rgba") colours.Rgb args
-css_answer css.Hsl args = of_parts (codes "hsl") colours.Hsl args
-css_answer css.Hsla args = of_parts (codes "hsla") colours.Hsl args
+css_answer css.Rgb args = rgb (codes "rgb") args
+css_answer css.Rgba args = rgb (codes "rgba") args
+css_answer css.Hsl args = hsl (codes "hsl") args
+css_answer css.Hsla args = hsl (codes "hsla") args
 css_answer css.Grayscale args = grayscale args
 css_answer css.Invert args = invert args
 css_answer css.Saturate args = saturate args

@@ -149,11 +149,16 @@ rgb_list count named =
     else if are_together count named 2 then fixed (needed (codes "color") ∷ needed (codes "alpha") ∷ [])
     else rgb_and_alpha
 
+-- for special text alone, which may stand for more than one of them
+abbrev pub hue_and_saturation : Params
+hue_and_saturation = fixed (needed (codes "hue") ∷ needed (codes "saturation") ∷ [])
+
 abbrev pub hsl_list : ℕ → List (List ℕ) → Params
 hsl_list count named =
     if are_together count named 3
     then fixed (needed (codes "hue") ∷ needed (codes "saturation") ∷ needed (codes "lightness") ∷ [])
     else if are_together count named 1 then channels
+    else if are_together count named 2 then hue_and_saturation
     else hsl_and_alpha
 
 abbrev pub color_and_weight : Params
@@ -163,8 +168,7 @@ abbrev pub invert_list : ℕ → List (List ℕ) → Params
 invert_list count named = if are_together count named 1 then color else color_and_weight
 
 abbrev pub saturate_list : ℕ → List (List ℕ) → Params
-saturate_list count named =
-    if are_together count named 1 then fixed (needed (codes "amount") ∷ []) else color_and_amount
+saturate_list count named = if are_together count named 1 then color else color_and_amount
 
 -- a list where it takes the arguments, or else the first
 abbrev pub or_first : Params → Params → ℕ → List (List ℕ) → Params

@@ -2,7 +2,7 @@
 ghost use Rattle.std.specs.Prelude.{◌≡◌, ◌++◌, ◌∷◌, [], IfOk};
 ghost use Rattle.sw_fn_call.specs.Answers.{IsAnswer, count as count_of};
 ghost use Rattle.sw_builtins.specs.Written.{colour_parts as colour_parts_of, written as written_call};
-ghost use Rattle.sw_builtins.specs.Calls.{opaque as opaque_args, whole as whole_args, are_special, is_number as is_number_value, of_channels as answer_of_channels, of_colour as answer_of_colour, of_three as answer_of_three, of_four as answer_of_four, of_parts as answer_of_parts, grayscale, opacity, inverted as inverted_colour, invert, saturated as saturated_amount, saturate, css_answer};
+ghost use Rattle.sw_builtins.specs.Calls.{opaque as opaque_args, whole as whole_args, are_special, is_number as is_number_value, of_channels as answer_of_channels, of_colour as answer_of_colour, of_hue as answer_of_hue, of_three as answer_of_three, of_four as answer_of_four, rgb, hsl, grayscale, opacity, inverted as inverted_colour, invert, saturated as saturated_value, saturate, css_answer};
 
 use crate::built_in::Css;
 use crate::special::{alone, channel_parts, colour_parts, has_special, is_special, push_shared};
@@ -42,6 +42,15 @@ fn opaque(
     all.push(shared(third)?)?;
     all.push(counted(alloc, "alpha", 1)?)?;
     Ok(all)
+}
+
+fn two_values(alloc: Global, first: &Value, second: &Value) -> Result<List<Value>, Memory>
+    ensures { IfOk result (λ values. values ≡ first.now ∷ second.now ∷ []) }
+{
+    let mut values = List::new(alloc);
+    push_shared(&mut values, first)?;
+    push_shared(&mut values, second)?;
+    Ok(values)
 }
 
 fn three_values(
@@ -114,18 +123,32 @@ fn of_channels(
 fn of_colour(
     alloc: Global,
     name: &str,
-    function: Function,
     args: &[Argument],
     colour: &Argument,
     alpha: &Argument,
 ) -> Result<Value, FnFault>
-    ensures { IsAnswer result (answer_of_colour name.now function args.now colour.now alpha.now) }
+    ensures { IsAnswer result (answer_of_colour name.now args.now colour.now alpha.now) }
 {
     if is_special(&colour.1) || is_special(&alpha.1) {
         let parts = colour_and_alpha(alloc, &colour.1, &alpha.1)?;
         return written(alloc, name, parts.as_slice());
     }
-    call(alloc, function, args)
+    call(alloc, Function::Rgb, args)
+}
+
+fn of_hue(
+    alloc: Global,
+    name: &str,
+    hue: &Argument,
+    saturation: &Argument,
+) -> Result<Value, FnFault>
+    ensures { IsAnswer result (answer_of_hue name.now hue.now saturation.now) }
+{
+    if is_special(&hue.1) || is_special(&saturation.1) {
+        let parts = two_values(alloc, &hue.1, &saturation.1)?;
+        return written(alloc, name, parts.as_slice());
+    }
+    Err(FnFault::ArgumentFault)
 }
 
 fn are_special(first: &Value, second: &Value, third: &Value) -> bool
@@ -171,18 +194,28 @@ fn of_four(
 }
 
 // The colour of some parts, or their call as CSS where one of them is for CSS.
-fn of_parts(
-    alloc: Global,
-    name: &str,
-    function: Function,
-    args: &[Argument],
-) -> Result<Value, FnFault>
-    ensures { IsAnswer result (answer_of_parts name.now function args.now) }
+fn rgb(alloc: Global, name: &str, args: &[Argument]) -> Result<Value, FnFault>
+    ensures { IsAnswer result (rgb name.now args.now) }
 {
+    let function = Function::Rgb;
     match args {
         [] => Err(FnFault::ArgumentFault),
         [channels] => of_channels(alloc, name, function, args, channels),
-        [colour, alpha] => of_colour(alloc, name, function, args, colour, alpha),
+        [colour, alpha] => of_colour(alloc, name, args, colour, alpha),
+        [first, second, third] => of_three(alloc, name, function, first, second, third),
+        [_, _, _, _, ..] => of_four(alloc, name, function, args),
+    }
+}
+
+// The same of hue, saturation and lightness. The hue and the saturation alone are for CSS.
+fn hsl(alloc: Global, name: &str, args: &[Argument]) -> Result<Value, FnFault>
+    ensures { IsAnswer result (hsl name.now args.now) }
+{
+    let function = Function::Hsl;
+    match args {
+        [] => Err(FnFault::ArgumentFault),
+        [channels] => of_channels(alloc, name, function, args, channels),
+        [hue, saturation] => of_hue(alloc, name, hue, saturation),
         [first, second, third] => of_three(alloc, name, function, first, second, third),
         [_, _, _, _, ..] => of_four(alloc, name, function, args),
     }
@@ -253,13 +286,13 @@ fn invert(alloc: Global, args: &[Argument]) -> Result<Value, FnFault>
     }
 }
 
-fn saturated(alloc: Global, amount: &Value) -> Result<Value, FnFault>
-    ensures { IsAnswer result (saturated_amount amount.now) }
+fn saturated(alloc: Global, value: &Value) -> Result<Value, FnFault>
+    ensures { IsAnswer result (saturated_value value.now) }
 {
-    if is_number(amount) {
-        return written_alone(alloc, "saturate", amount);
+    if is_number(value) {
+        return written_alone(alloc, "saturate", value);
     }
-    Err(FnFault::TypeFault)
+    Err(FnFault::ArgumentFault)
 }
 
 fn saturate(alloc: Global, args: &[Argument]) -> Result<Value, FnFault>
@@ -267,7 +300,7 @@ fn saturate(alloc: Global, args: &[Argument]) -> Result<Value, FnFault>
 {
     match args {
         [] => Err(FnFault::ArgumentFault),
-        [amount] => saturated(alloc, &amount.1),
+        [colour] => saturated(alloc, &colour.1),
         [_, _, ..] => call(alloc, Function::Saturate, args),
     }
 }
@@ -277,10 +310,10 @@ pub(crate) fn css_call(alloc: Global, function: Css, args: &[Argument]) -> Resul
     ensures { IsAnswer result (css_answer function args.now) }
 {
     match function {
-        Css::Rgb => of_parts(alloc, "rgb", Function::Rgb, args),
-        Css::Rgba => of_parts(alloc, "rgba", Function::Rgb, args),
-        Css::Hsl => of_parts(alloc, "hsl", Function::Hsl, args),
-        Css::Hsla => of_parts(alloc, "hsla", Function::Hsl, args),
+        Css::Rgb => rgb(alloc, "rgb", args),
+        Css::Rgba => rgb(alloc, "rgba", args),
+        Css::Hsl => hsl(alloc, "hsl", args),
+        Css::Hsla => hsl(alloc, "hsla", args),
         Css::Grayscale => grayscale(alloc, args),
         Css::Invert => invert(alloc, args),
         Css::Saturate => saturate(alloc, args),

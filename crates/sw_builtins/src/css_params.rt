@@ -85,6 +85,8 @@ fn hsl_list(alloc: Global, count: usize, named: &[Name]) -> Result<Params, Memor
         three(alloc, "hue", "saturation", "lightness")
     } else if are_together(count, named, 1) {
         one(alloc, "channels")
+    } else if are_together(count, named, 2) {
+        two(alloc, "hue", "saturation")
     } else {
         hsl_and_alpha(alloc)
     }
@@ -104,7 +106,7 @@ fn saturate_list(alloc: Global, count: usize, named: &[Name]) -> Result<Params, 
     ensures { IfOk result (λ params. params ≡ saturate_list count named.now) }
 {
     if are_together(count, named, 1) {
-        one(alloc, "amount")
+        one(alloc, "color")
     } else {
         two(alloc, "color", "amount")
     }

@@ -1,5 +1,5 @@
 -- Maps (the Sass specification on maps): no two keys are equal.
-use Rattle.std.specs.Prelude.{ℕ, ◌+◌, bytes_eq, if◌then◌else◌, List, [], ◌∷◌, ◌++◌, slice_get, Option, Some, None, Ok}
+use Rattle.std.specs.Prelude.{ℕ, ◌+◌, Bool, true, false, bytes_eq, if◌then◌else◌, List, [], ◌∷◌, ◌++◌, slice_get, Option, Some, None, Ok}
 use Rattle.std.specs.List.{list_any}
 use Rattle.sw_text.specs.declared.fault.FaultCode.TheVariants as C
 use Rattle.sw_text.specs.declared.place.Span.{Span}
@@ -26,12 +26,15 @@ key_by None span = span
 abbrev pub key_place : List Pair → ℕ → Span → Span
 key_place written number span = key_by (slice_get written number) span
 
+abbrev pub within_by : Bool → Plain → Span → Answer Plain
+within_by true value span = Ok value
+within_by false value span = refused C.TooLarge span
+
 abbrev pub distinct_by : Option ℕ → List (Plain × Plain) → List Pair → Span → Answer Plain
-distinct_by None pairs written span = Ok (P.Map pairs)
+distinct_by None pairs written span = within_by (is_within (P.Map pairs)) (P.Map pairs) span
 distinct_by (Some number) pairs written span = refused C.DuplicateKey (key_place written number span)
 
--- the map of these pairs, written here: one that is too heavy or too deep is refused as a whole, and then a key that
--- comes a second time
+-- the map of these pairs, written here: a key that comes a second time is refused, and then a map that is too heavy or
+-- too deep, as a whole
 unfoldable pub map_value : List (Plain × Plain) → List Pair → Span → Answer Plain
-map_value pairs written span =
-    if is_within (P.Map pairs) then distinct_by (second_key [] pairs 0) pairs written span else refused C.TooLarge span
+map_value pairs written span = distinct_by (second_key [] pairs 0) pairs written span

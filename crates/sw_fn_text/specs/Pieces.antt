@@ -1,5 +1,5 @@
 -- The pieces of a string around a separator (Sass reference documentation, "sass:string", `string.split`).
-use Rattle.std.specs.Prelude.{ℕ, zero, suc, ◌+◌, ◌==◌, min, ◌||◌, ℤ, unsigned_abs, Bool, true, false, List, [], ◌∷◌, take, drop, length, map, chars, encode_utf8, Option, Some, None, Result, Ok, Err, if◌then◌else◌}
+use Rattle.std.specs.Prelude.{ℕ, zero, suc, ◌+◌, ◌==◌, min, ◌||◌, ℤ, unsigned_abs, Bool, true, false, List, [], ◌∷◌, ◌++◌, take, drop, length, map, chars, encode_utf8, encode_utf8_all, Option, Some, None, Result, Ok, Err, if◌then◌else◌}
 use Rattle.sw_fixed.specs.Arithmetic.{whole_of, is_below_zero}
 use Rattle.sw_values.specs.declared.plain.Plain.{Plain}
 use Rattle.sw_values.specs.declared.plain.Plain.TheVariants as P
@@ -59,14 +59,23 @@ abbrev pub pieces : ℕ → List ℕ → List ℕ → List (List ℕ)
 pieces zero separator text = text ∷ []
 pieces (suc cuts) separator text = joined_pieces (pieces cuts separator) text (cut separator text)
 
-abbrev pub letters : List ℕ → List (List ℕ)
-letters text = map encode_utf8 (chars text)
+-- these characters as one piece, where there are any
+abbrev pub rest : List ℕ → List (List ℕ)
+rest [] = []
+rest (c ∷ cs) = encode_utf8_all (c ∷ cs) ∷ []
 
--- the empty text has no pieces, and an empty separator cuts between all characters, whatever the limit
+-- the first characters, as many as the limit, one by one, and then what is left
+abbrev pub letters_in : ℕ → List ℕ → List (List ℕ)
+letters_in limit all = map encode_utf8 (take limit all) ++ rest (drop limit all)
+
+abbrev pub letters : ℕ → List ℕ → List (List ℕ)
+letters limit text = letters_in limit (chars text)
+
+-- the empty text has no pieces, and an empty separator cuts behind each character
 abbrev pub split_pieces : ℕ → List ℕ → List ℕ → List (List ℕ)
 split_pieces limit separator text =
     if is_empty text then []
-    else if is_empty separator then letters text
+    else if is_empty separator then letters limit text
     else pieces limit separator text
 
 abbrev pub piece_value : Bool → List ℕ → Plain

@@ -1,9 +1,9 @@
 // The pieces of a string around a separator.
-ghost use Rattle.std.specs.Prelude.{◌≡◌, ◌++◌, ◌∷◌, [], map, chars, encode_utf8, IfOk, IfSome, OnOk, MatchOption, Some, None};
+ghost use Rattle.std.specs.Prelude.{◌≡◌, ◌++◌, ◌∷◌, [], map, chars, encode_utf8, encode_utf8_all, IfOk, IfSome, OnOk, MatchOption, Some, None};
 ghost use Rattle.std.specs.Str.{IsUtf8};
 ghost use Rattle.sw_values.specs.Canon.{is_empty};
 ghost use Rattle.sw_fn_call.specs.Answers.{IsAnswer};
-ghost use Rattle.sw_fn_text.specs.Pieces.{limit_by, numbered, limit_of as limit_in, cut as cut_at, pieces as pieces_of, letters as letters_in, split_pieces as pieces_in, piece_value as piece_as, pieces_list, split};
+ghost use Rattle.sw_fn_text.specs.Pieces.{limit_by, numbered, limit_of as limit_in, cut as cut_at, pieces as pieces_of, rest, letters_in, letters, split_pieces as pieces_in, piece_value as piece_as, pieces_list, split};
 
 use crate::places::{before, is_below_zero};
 use std::alloc::{AllocError, Global};
@@ -123,12 +123,47 @@ fn letters_of(alloc: Global, all: &[char]) -> Result<List<Name>, Memory>
     Ok(texts)
 }
 
-// A text cut between all its characters.
-fn letters(alloc: Global, text: &str) -> Result<List<Name>, Memory>
-    ensures { IfOk result (λ texts. texts ≡ letters_in text.now) }
+// The characters as one text.
+fn joined(alloc: Global, all: &[char]) -> Result<Name, Memory>
+    ensures { IfOk result (λ text. text ≡ encode_utf8_all all.now) }
+{
+    let mut text = String::new(alloc);
+    'letters: for at in 0..all.len() {
+        text.push(all[at])?;
+    }
+    Name::new(alloc, text.as_str())
+}
+
+// The characters as one more piece, where there are any.
+fn with_rest(alloc: Global, mut texts: List<Name>, all: &[char]) -> Result<List<Name>, Memory>
+    ensures { IfOk result (λ whole. whole ≡ texts ++ rest all.now) }
+{
+    match all {
+        [] => Ok(texts),
+        [_, ..] => {
+            texts.push(joined(alloc, all)?)?;
+            Ok(texts)
+        }
+    }
+}
+
+// The first characters one by one, and then what is left.
+fn letters_in(alloc: Global, limit: usize, all: &[char]) -> Result<List<Name>, Memory>
+    ensures { IfOk result (λ texts. texts ≡ letters_in limit all.now) }
+{
+    if limit >= all.len() {
+        return letters_of(alloc, all);
+    }
+    let texts = letters_of(alloc, &all[..limit])?;
+    with_rest(alloc, texts, &all[limit..])
+}
+
+// A text cut behind each of its first characters.
+fn letters(alloc: Global, limit: usize, text: &str) -> Result<List<Name>, Memory>
+    ensures { IfOk result (λ texts. texts ≡ letters limit text.now) }
 {
     let all = chars_of(alloc, text)?;
-    letters_of(alloc, all.as_slice())
+    letters_in(alloc, limit, all.as_slice())
 }
 
 fn split_pieces(
@@ -143,7 +178,7 @@ fn split_pieces(
         return Ok(List::new(alloc));
     }
     if is_empty(separator) {
-        return letters(alloc, text);
+        return letters(alloc, limit, text);
     }
     pieces(alloc, limit, separator, text)
 }
