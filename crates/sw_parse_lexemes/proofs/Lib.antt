@@ -6,3 +6,4 @@ pub mod Lies
 mod Examples
 pub mod Firsts
 pub mod Passing
+mod Turns

@@ -11,3 +11,4 @@ pub mod Brackets
 pub mod Terminals
 pub mod Steps
 pub mod Lexemes
+pub mod Turns

@@ -6,6 +6,7 @@ mod ahead;
 mod bracket;
 mod class;
 mod cursor;
+mod law;
 mod lexemes;
 mod mode;
 mod name;
@@ -19,6 +20,7 @@ mod step;
 mod terminal;
 mod words;
 
+pub use law::tokens_are_seen_in_turn;
 pub use lexemes::{lexemes_of, value_lexemes_of};
 pub use plain::Plain;
 pub use sort::Sort;
