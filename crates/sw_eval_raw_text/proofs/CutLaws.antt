@@ -1,10 +1,10 @@
 -- The parts of an import with their commas are its text, and none can be cut again.
 use Rattle.std.proofs.Common.{◌≡◌, ℕ, zero, suc, ◌+◌, Bool, true, false, not, ◌&&◌, ◌||◌, ◌⊎◌, inl, inr, List, [], ◌∷◌, ◌++◌, refl, sym, ◌∙◌, ap, arith, append-nil}
-use Rattle.std.specs.Prelude.{codes, if◌then◌else◌, ◌==◌, slice_get}
+use Rattle.std.specs.Prelude.{if◌then◌else◌, ◌==◌}
 use Rattle.std.specs.List.{list_all}
 use Rattle.std.proofs.lemmas.Bool.Decides.{nat_tests}
-use Rattle.sw_text_scan.proofs.Bounds.{if_true, if_false, and_left, and_right, not_true}
-use Rattle.sw_text_scan.specs.Bytes.{sign, byte, byte_in, is_white, is_quote}
+use Rattle.sw_text_scan.proofs.Bounds.{if_true, if_false, and_left, and_right}
+use Rattle.sw_text_scan.specs.Bytes.{sign, byte, is_white, is_quote}
 use Rattle.sw_text_scan.specs.Words.{is_u, is_r, is_l, begins_url}
 use Rattle.sw_eval_raw_text.specs.Cutting.{nothing, is_nothing, stepped, begins_part, is_cut, onto, cut_from, with_commas, is_whole, IsCut}
 use Rattle.sw_eval_raw_text.specs.declared.cutting.Open.{Open}

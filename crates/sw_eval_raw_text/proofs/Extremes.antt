@@ -5,15 +5,12 @@ use Rattle.sw_text.specs.declared.fault.Fault.{Fault}
 use Rattle.sw_text.specs.declared.place.Span.{Span}
 use Rattle.sw_tree.specs.declared.text.Piece.{Piece}
 use Rattle.sw_values.specs.declared.plain.Plain.{Plain}
-use Rattle.sw_scope.specs.declared.passed.Passed.{Passed}
 use Rattle.sw_builtins.specs.declared.built_in.BuiltIn.{BuiltIn}
 use Rattle.sw_eval_literals.specs.declared.refused.Refused.{Refused}
-use Rattle.sw_eval_literals.specs.declared.refused.Refused.TheVariants as R
 use Rattle.sw_eval_literals.specs.Answers.{Answer, Returns}
 use Rattle.sw_eval_calls.proofs.Items.{next_item, drop_all}
-use Rattle.sw_eval_built_in_calls.specs.BuiltIns.{built_in_value}
 use Rattle.sw_eval_raw_text.specs.Imports.{is_text}
-use Rattle.sw_eval_raw_text.specs.Special.{fits, lists_values, piece_text, had, written_pieces, written_out, compared, behind_piece, all_compared, computed, is_incomparable, or_written, extremum_value}
+use Rattle.sw_eval_raw_text.specs.Special.{fits, lists_values, piece_text, had, written_pieces, written_out, behind_piece, all_compared, computed, is_incomparable, or_written, extremum_value}
 use Rattle.sw_eval_calls.proofs.Answering.{refused_then}
 use Rattle.sw_text_scan.proofs.Bounds.{if_true, if_false}
 

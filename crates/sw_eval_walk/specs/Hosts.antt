@@ -1,5 +1,5 @@
 -- Functions of the host (that a host is asked is this project's own).
-use Rattle.std.specs.Prelude.{ℕ, List, Option, Some, None}
+use Rattle.std.specs.Prelude.{ℕ, List, Option, None}
 use Rattle.sw_text.specs.Names.{dashed}
 use Rattle.sw_text.specs.declared.place.Span.{Span}
 use Rattle.sw_tree.specs.declared.expr.Callee.{Callee}

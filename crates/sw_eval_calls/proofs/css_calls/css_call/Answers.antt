@@ -1,4 +1,3 @@
-use Rattle.std.proofs.Common.{sym, ◌∙◌, ap}
 use Rattle.sw_eval_calls.specs.CssCalls.{css_call}
 use Rattle.sw_eval_calls.proofs.Answering.{without_memory}
 use Rattle.sw_eval_calls.proofs.css_calls.css_call.Goals as goal

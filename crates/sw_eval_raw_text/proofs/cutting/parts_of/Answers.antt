@@ -1,9 +1,9 @@
 use Rattle.std.proofs.Common.{◌≡◌, ◌<◌, ◌+◌, ◌++◌, ◌∷◌, [], ℕ, List, length, get_or, take, drop, map, false, true, refl, sym, ◌∙◌, ap, arith}
 use Rattle.sw_text.proofs.Dashes.{boundary_start, boundary_behind}
 use Rattle.sw_text.proofs.Walks.{drop-take_of}
-use Rattle.sw_eval_raw_text.specs.Cutting.{is_cut, stepped, bare_part, cut_from, nothing}
+use Rattle.sw_eval_raw_text.specs.Cutting.{is_cut, stepped, bare_part, nothing}
 use Rattle.sw_eval_raw_text.specs.declared.cutting.Open.{Open}
-use Rattle.sw_eval_raw_text.proofs.Cuts.{so_far, goes_on, cut_off, last_part, before_nothing}
+use Rattle.sw_eval_raw_text.proofs.Cuts.{so_far, goes_on, cut_off, before_nothing}
 use Rattle.sw_eval_raw_text.proofs.cutting.parts_of.Goals as goal
 
 pub bytes-init : goal.bytes-init

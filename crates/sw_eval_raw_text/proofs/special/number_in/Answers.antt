@@ -1,4 +1,3 @@
-use Rattle.std.proofs.Common.{refl}
 use Rattle.sw_tree.specs.declared.text.Parts as T
 use Rattle.sw_eval_calls.proofs.Answering.{without_memory}
 use Rattle.sw_eval_built_in_calls.proofs.Words.{out_Mixed}
