@@ -209,3 +209,32 @@ module _ (source : Source) (n : ℕ) where
             let low : rank p < 5 = omega arith in
             let r : rank (next p) ≡ rank p + 1 = next_rank p low in
             (omega arith, ap (λ g. reader source n g i) (next_side source p low) ∙ read)
+
+    -- an operator is looked for next
+    pub climbing : (last : Precedence) (binding : Option Precedence) (p : Precedence) (value : Expr) (place : ℕ)
+        → binding ≡ Some p → Climbed last binding value place
+        → (rank p ≤ rank last) × (reader source n (side source p) i ≡ Got (Values value ∷ []) place)
+    climbing last binding p value place e x = subst (λ (b : Option Precedence). Climbed last b value place) e x
+
+    -- all operators were looked for
+    pub climbed_all : (last : Precedence) (binding : Option Precedence) (value : Expr) (place : ℕ)
+        → binding ≡ None → Climbed last binding value place
+        → reader source n (chain source last) i ≡ Got (Values value ∷ []) place
+    climbed_all last binding value place e x = subst (λ (b : Option Precedence). Climbed last b value place) e x
+
+-- how many precedences are looked for still
+abbrev pub left : Precedence → Option Precedence → ℕ
+left last None = 0
+left last (Some p) = (rank last + 1) - rank p
+
+pub fewer : (p last : Precedence) → rank p ≤ rank last → left last (looser p last) < left last (Some p)
+fewer p last le = go (rank p == rank last) refl
+  where
+    go : (b : Bool) → (rank p == rank last) ≡ b → left last (if b then None else Some (next p)) < left last (Some p)
+    go true e = omega arith
+    go false e =
+        let small : rank last < 6 = rank_small last in
+        let less : rank p < rank last = grind (arith, nat_tests) in
+        let low : rank p < 5 = omega arith in
+        let r : rank (next p) ≡ rank p + 1 = next_rank p low in
+        omega arith

@@ -71,7 +71,7 @@ fn add_pieces(writer: &mut Writer, pieces: &[Piece]) {
     for piece in pieces {
         let is_text = is_text(piece);
         if behind_text && is_text {
-            writer.text("/**/");
+            writer.seam();
         }
         add_piece(writer, piece);
         behind_text = is_text;

@@ -1,11 +1,10 @@
-use Rattle.std.proofs.Common.{◌≡◌, ℕ, ◌+◌, ◌-◌, ◌*◌, ◌∷◌, [], Option, Some, None, length, map}
-use Rattle.sw_parse_grammar.specs.Grammar.{many, prepend, Got}
-use Rattle.sw_parse_table.specs.declared.operator.Precedence.{Precedence}
-use Rattle.sw_parse_table.specs.Parts.{Links, Values}
-use Rattle.sw_parse_table.specs.Expressions.{link, side, chain}
+use Rattle.std.proofs.Common.{◌≡◌, ◌+◌, ◌-◌, ◌*◌, length, map}
+use Rattle.sw_parse_grammar.specs.Grammar.{many, prepend}
+use Rattle.sw_parse_table.specs.Parts.{Links}
+use Rattle.sw_parse_table.specs.Expressions.{link, side}
 use Rattle.sw_parse_table.specs.Reads.{reader}
 use Rattle.sw_expr_parse.specs.Binding.{rank}
-use Rattle.sw_expr_parse.proofs.Climb.{Climbed}
+use Rattle.sw_expr_parse.proofs.Climb.{Climbed, left}
 use Rattle.sw_expr_parse.proofs.chain.+chain.Given as goal
 
 abbrev pub decreases-side_at : goal.decreases-side_at
@@ -22,11 +21,6 @@ decreases-chain_at g l = 4 * rank l.precedence + 3
 
 abbrev pub invariant-chain_at-bindings : goal.invariant-chain_at-bindings
 invariant-chain_at-bindings g l = Climbed l.source l.levels l.at l.precedence l.binding l.value l.place
-
--- how many precedences are looked for still
-abbrev left : Precedence → Option Precedence → ℕ
-left last None = 0
-left last (Some p) = (rank last + 1) - rank p
 
 abbrev pub decreases-chain_at-bindings : goal.decreases-chain_at-bindings
 decreases-chain_at-bindings g l = left l.precedence l.binding
