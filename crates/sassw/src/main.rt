@@ -10,14 +10,12 @@ use crate::reporter::MessageReporter;
 use crate::words::words;
 use std::alloc::{AllocError, Global};
 use std::process::ExitCode;
-use sw_cmd_protocol::Output;
-use sw_cmd_run::run;
+use sw_cmd_protocol::{Output, Stop};
+use sw_cmd_run::{Surroundings, run};
 use sw_eval::Evaluator;
+use sw_hosts::{Counter, HostFn, HostTable};
 use sw_hub::Hub;
 use sw_io::{FolderDisk, StdSink, StdSource};
-
-// No memory was found for the words or for who reports.
-const NO_MEMORY: u8 = 6;
 
 // A block of this many bytes has those up to it kept where they are freed.
 const LARGE_BLOCK: usize = 4_194_304;
@@ -39,21 +37,24 @@ fn main(rt: HostRuntime) -> ExitCode {
     let mut hub = Hub::new(alloc);
     let reporter = MessageReporter::new(alloc, StdSink::new(rt.stderr()));
     if hub.attach(reporter).is_err() {
-        return ExitCode::from(NO_MEMORY);
+        return ExitCode::from(Stop::Memory.status());
     }
-    let mut source = StdSource::new(rt.stdin());
-    let mut output = Output {
-        sink: StdSink::new(rt.stdout()),
-        audience: hub,
+    let mut hosts: HostTable<Box<dyn HostFn>> = HostTable::new(alloc);
+    let Ok(counter) = Box::new(alloc, Counter::new()) else {
+        return ExitCode::from(Stop::Memory.status());
     };
-    let mut disk = FolderDisk::new(rt);
+    if hosts.attach(alloc, "count", counter).is_err() {
+        return ExitCode::from(Stop::Memory.status());
+    }
+    let mut around = Surroundings {
+        source: StdSource::new(rt.stdin()),
+        output: Output {
+            sink: StdSink::new(rt.stdout()),
+            audience: hub,
+        },
+        disk: FolderDisk::new(rt),
+        hosts,
+    };
     let mut engine = Evaluator::new(alloc);
-    ExitCode::from(run(
-        alloc,
-        words.as_slice(),
-        &mut source,
-        &mut output,
-        &mut disk,
-        &mut engine,
-    ))
+    ExitCode::from(run(alloc, words.as_slice(), &mut around, &mut engine))
 }

@@ -2,9 +2,12 @@
 ghost use Rattle.std.specs.Prelude.{◌≡◌, ◌≢◌};
 ghost use Rattle.std.specs.IoError.{error_kind};
 ghost use Rattle.std.specs.declared.io.ErrorKind.TheVariants.{OutOfMemory};
+ghost use Rattle.sw_cmd_protocol.specs.Statuses.{no_memory, no_command};
 
 use std::rt::Env;
 use std::{env, io};
+use sw_cmd_protocol::Stop;
+use sw_cmd_run::NO_COMMAND;
 use sw_text::{List, Memory, Name};
 
 /// Why the words can't be had.
@@ -18,12 +21,12 @@ pub enum WordFault {
 impl WordFault {
     /// The status with which the program ends.
     pub fn status(self) -> u8
-        ensures not_text { self ≡ WordFault.NotText → result ≡ 7 }
-        ensures memory { self ≡ WordFault.Memory → result ≡ 6 }
+        ensures not_text { self ≡ WordFault.NotText → result ≡ no_command }
+        ensures memory { self ≡ WordFault.Memory → result ≡ no_memory }
     {
         match self {
-            WordFault::NotText => 7,
-            WordFault::Memory => 6,
+            WordFault::NotText => NO_COMMAND,
+            WordFault::Memory => Stop::Memory.status(),
         }
     }
 }

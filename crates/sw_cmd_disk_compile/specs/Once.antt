@@ -14,6 +14,7 @@ use Rattle.sw_record.specs.Ran.{none_kept, Ran}
 use Rattle.sw_keeper.specs.Compile.{compiled, paths_of}
 use Rattle.sw_wire.specs.Replies.{fault_text}
 use Rattle.sw_cmd_protocol.specs.Heard.{Hearing}
+use Rattle.sw_cmd_protocol.specs.Statuses.{all_done, fault_told, sink_failed, no_memory, outside_failed}
 use Rattle.sw_cmd_disk_compile.specs.declared.ending.Ending.{Ending}
 use Rattle.sw_cmd_disk_compile.specs.declared.ending.Ending.TheVariants.{Css as Css_end, Error as Error_end, SinkFailed, Memory, DiskFailed}
 
@@ -27,11 +28,11 @@ abbrev pub surroundings : Option Course → Option (List ℕ) → List (List ℕ
 surroundings course written ran = record { course = course; written = written; ran = ran }
 
 abbrev pub status_of : Ending → ℕ
-status_of Css_end = 0
-status_of Error_end = 1
-status_of SinkFailed = 5
-status_of Memory = 6
-status_of DiskFailed = 8
+status_of Css_end = all_done
+status_of Error_end = fault_told
+status_of SinkFailed = sink_failed
+status_of Memory = no_memory
+status_of DiskFailed = outside_failed
 
 -- the CSS alone, or the line of the fault
 abbrev pub text_of : Outcome → List ℕ

@@ -1,6 +1,6 @@
 // One compile of a disk's folder.
-ghost use Rattle.std.specs.Prelude.{◌≡◌, IfOk};
-ghost use Rattle.sw_io.specs.Causes.{Rose};
+ghost use Rattle.std.specs.Prelude.{◌≡◌, ◌≢◌, IfOk};
+ghost use Rattle.sw_io.specs.Causes.{NoFault, Rose};
 ghost use Rattle.sw_wire.specs.Replies.{fault_text};
 ghost use Rattle.sw_cmd_line.specs.Forms.{target_seen};
 ghost use Rattle.sw_keeper.specs.Settings.{hostless};
@@ -20,7 +20,8 @@ use sw_world::Engine;
 
 /// Reads the folder, compiles the entry, and writes the CSS bytes alone or the one line `error CODE PATH L:C L:C`;
 /// tells how that ended. The sink is flushed, and then the audience is told of the whole reply. Where no memory is
-/// found or the disk fails, nothing is written.
+/// found or the disk fails, nothing is written. No call of the sink or the disk
+/// fails but the one by whose fault it ends.
 pub fn once<R: Reader, K: Sink, D: Disk, E: Engine, T: Audience<Reply>>(
     alloc: Global,
     reader: &R,
@@ -35,6 +36,8 @@ pub fn once<R: Reader, K: Sink, D: Disk, E: Engine, T: Audience<Reply>>(
         (T.state output.old.audience) (T.state output.new.audience) }
     ensures sink_fault { result ≡ Ending.SinkFailed → Rose (K.faults output.old.sink) (K.faults output.new.sink) }
     ensures disk_fault { result ≡ Ending.DiskFailed → Rose (D.faults disk.old) (D.faults disk.new) }
+    ensures no_sink_fault { result ≢ Ending.SinkFailed → NoFault (K.faults output.old.sink) (K.faults output.new.sink) }
+    ensures no_disk_fault { result ≢ Ending.DiskFailed → NoFault (D.faults disk.old) (D.faults disk.new) }
 {
     let mut watched = Watched::<R, E>::new(alloc);
     match read_folder(alloc, disk, target.dir.as_str(), &mut watched) {
@@ -55,6 +58,7 @@ pub fn once<R: Reader, K: Sink, D: Disk, E: Engine, T: Audience<Reply>>(
 fn write_outcome<K: Sink>(alloc: Global, outcome: &Outcome, sink: &mut K) -> Ending
     ensures ends { WritesBy result outcome.now (K.written sink.old) (K.written sink.new) }
     ensures fault { result ≡ Ending.SinkFailed → Rose (K.faults sink.old) (K.faults sink.new) }
+    ensures no_fault { result ≢ Ending.SinkFailed → NoFault (K.faults sink.old) (K.faults sink.new) }
 {
     match outcome {
         Outcome::Css(bytes) => match send(sink, bytes.as_slice()) {

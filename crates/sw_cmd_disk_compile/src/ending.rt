@@ -2,6 +2,11 @@
 ghost use Rattle.std.specs.Prelude.{◌≡◌};
 ghost use Rattle.sw_cmd_disk_compile.specs.Once.{status_of};
 
+use sw_cmd_protocol::Stop;
+
+// The line of a fault was written in the place of the CSS.
+const FAULT_TOLD: u8 = 1;
+
 /// How one compile of a disk's folder ended.
 #[derive(Clone, Copy, Debug, PartialEq, Eq)]
 pub enum Ending {
@@ -23,11 +28,11 @@ impl Ending {
         ensures { result ≡ status_of self }
     {
         match self {
-            Ending::Css => 0,
-            Ending::Error => 1,
-            Ending::SinkFailed => 5,
-            Ending::Memory => 6,
-            Ending::DiskFailed => 8,
+            Ending::Css => Stop::Ended.status(),
+            Ending::Error => FAULT_TOLD,
+            Ending::SinkFailed => Stop::SinkFailed.status(),
+            Ending::Memory => Stop::Memory.status(),
+            Ending::DiskFailed => Stop::OutsideFailed.status(),
         }
     }
 }

@@ -14,6 +14,7 @@ pub record Target : Type 0 where
 
 pub data Form : Type 0 where
   Session : Form
+  Hosted : Form
   Once : Target → Form
   Poll : Target → Form
   Make : ℕ → Form
@@ -38,9 +39,10 @@ target_of (dir ∷ []) = None
 target_of (dir ∷ entry ∷ paths) =
     if is_target dir entry paths then Some (record { dir = dir; entry = entry; paths = paths }) else None
 
-abbrev pub session_by : List (List ℕ) → Option Form
-session_by [] = Some Session
-session_by (word ∷ words) = None
+-- the command's name alone
+abbrev pub alone : Form → List (List ℕ) → Option Form
+alone form [] = Some form
+alone form (word ∷ words) = None
 
 -- a digit may stand behind the digits of n, at most six in all
 abbrev pub can_follow : ℕ → ℕ → Bool
@@ -66,7 +68,8 @@ make_by (word ∷ more ∷ words) = None
 -- what a command's name asks for with these words behind it
 abbrev pub named : List ℕ → List (List ℕ) → Option Form
 named name words =
-    if bytes_eq name (codes "session") then session_by words
+    if bytes_eq name (codes "session") then alone Session words
+    else if bytes_eq name (codes "hosted") then alone Hosted words
     else if bytes_eq name (codes "once") then option_map Once (target_of words)
     else if bytes_eq name (codes "poll") then option_map Poll (target_of words)
     else if bytes_eq name (codes "make") then make_by words
@@ -85,6 +88,7 @@ target_seen t = record { dir = t.dir.now; entry = t.entry.now; paths = t.paths.n
 
 abbrev pub form_seen : Command → Form
 form_seen code.Session = Session
+form_seen code.Hosted = Hosted
 form_seen (code.Once target) = Once (target_seen target)
 form_seen (code.Poll target) = Poll (target_seen target)
 form_seen (code.Make number) = Make number

@@ -1,7 +1,7 @@
 // Which command the words of a command line ask for.
 ghost use Rattle.std.specs.Prelude.{◌≡◌, option_map};
 ghost use Rattle.std.specs.List.{list_all};
-ghost use Rattle.sw_cmd_line.specs.Forms.{form_of, form_by, form_seen, named, Once, Poll, make_by, target_of, target_seen, session_by, is_target, is_load_path, is_plain};
+ghost use Rattle.sw_cmd_line.specs.Forms.{form_of, form_by, form_seen, named, Once, Poll, make_by, target_of, target_seen, alone, is_target, is_load_path, is_plain};
 
 use crate::number::read_number;
 use sw_folder::is_path;
@@ -23,8 +23,10 @@ pub struct Target<'a> {
 /// What the program is to do.
 #[derive(Clone, Copy, Debug)]
 pub enum Command<'a> {
-    /// Answers the requests of a session.
+    /// Answers the requests of a session, in which sheets call no functions of a host.
     Session,
+    /// Answers the requests of a session, in which sheets call the functions of the host.
+    Hosted,
     /// Compiles once and writes the CSS.
     Once(Target<'a>),
     /// Compiles whenever it is asked to.
@@ -33,7 +35,7 @@ pub enum Command<'a> {
     Make(u32),
 }
 
-/// The command that the words behind the program's name ask for: `session`, `once DIR ENTRY LOAD..`,
+/// The command that the words behind the program's name ask for: `session`, `hosted`, `once DIR ENTRY LOAD..`,
 /// `poll DIR ENTRY LOAD..` with at most eight LOAD, where DIR isn't empty, ENTRY is a path of a folder, each LOAD is
 /// one or `.`, or `make N` with one to six digits and no 0 before others; and no word begins with `-`. `None` exactly
 /// where the words are in none of these forms. Takes no memory.
@@ -54,7 +56,9 @@ fn named<'a>(name: &str, words: &'a [Name]) -> Option<Command<'a>>
     ensures { option_map form_seen result ≡ named name.now words.now }
 {
     if name == "session" {
-        session(words)
+        alone(Command::Session, words)
+    } else if name == "hosted" {
+        alone(Command::Hosted, words)
     } else if name == "once" {
         once(target_in(words))
     } else if name == "poll" {
@@ -66,11 +70,11 @@ fn named<'a>(name: &str, words: &'a [Name]) -> Option<Command<'a>>
     }
 }
 
-fn session<'a>(words: &'a [Name]) -> Option<Command<'a>>
-    ensures { option_map form_seen result ≡ session_by words.now }
+fn alone<'a>(command: Command<'a>, words: &'a [Name]) -> Option<Command<'a>>
+    ensures { option_map form_seen result ≡ alone (form_seen command.entry) words.now }
 {
     match words {
-        [] => Some(Command::Session),
+        [] => Some(command),
         [_, ..] => None,
     }
 }

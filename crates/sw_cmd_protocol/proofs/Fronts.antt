@@ -1,5 +1,5 @@
 -- A line that was read, and what comes of it.
-use Rattle.std.proofs.Common.{◌≡◌, ℕ, List, [], ◌∷◌, ◌++◌, Ok, Err, IfErr, IfOk, OnOk, OnErr, inl, inr, refl, ap, ◌∙◌, append_assoc}
+use Rattle.std.proofs.Common.{◌≡◌, ◌≢◌, ℕ, List, [], ◌∷◌, ◌++◌, Ok, Err, IfErr, IfOk, OnOk, OnErr, inl, inr, refl, ap, ◌∙◌, append_assoc}
 use Rattle.std.specs.declared.option.Option.{Option}
 use Rattle.std.specs.declared.result.Result.{Result}
 use Rattle.std.specs.Io.KnownBytes.{Appends}
@@ -7,6 +7,8 @@ use Rattle.sw_io.specs.Lines.{Line, Long, Unended, split_line}
 use Rattle.sw_io.specs.declared.stop.ReadStop.{ReadStop}
 use Rattle.sw_io.specs.declared.stop.ReadStop.TheVariants.{TooLong, Ended as Read_Ended, Failed as Read_Failed, Memory as Read_Memory}
 use Rattle.sw_io.specs.Ends.{LineEnds}
+use Rattle.sw_io.specs.Causes.{NoFault, Rose, Cause}
+use Rattle.sw_io.proofs.Causes.{fine_else}
 use Rattle.sw_io.proofs.Reading.{reads_on}
 use Rattle.sw_cmd_protocol.specs.declared.stop.Stop.{Stop}
 use Rattle.sw_cmd_protocol.specs.declared.stop.Stop.TheVariants.{Ended, Wrong, CutOff, SourceFailed, SinkFailed, Memory, OutsideFailed, Over as Over_stop}
@@ -122,6 +124,23 @@ module _ {Event Mark Held Reply : Type 0} (p : Protocol Event Mark Held Reply) w
     turn_stops Memory (inr x) = inr (leaves_on Memory x)
     turn_stops OutsideFailed x = leaves_on OutsideFailed x
     turn_stops Over_stop x = absurd x
+
+-- the count of a source from which no line came
+module _ {T : Type 0} (before now : ℕ) where
+  pub line_rose : (stop : ReadStop) → Cause {T = T} Read_Failed before now (Err stop) → stop_of stop ≡ SourceFailed → Rose before now
+  line_rose TooLong c e = cc
+  line_rose Read_Ended c e = cc
+  line_rose Read_Failed c e = c.rose refl
+  line_rose Read_Memory c e = cc
+
+  pub line_fine : (stop : ReadStop) → Cause {T = T} Read_Failed before now (Err stop) → stop_of stop ≢ SourceFailed → NoFault before now
+  line_fine TooLong c n = fine_else Read_Failed before now TooLong (λ e. cc) c
+  line_fine Read_Ended c n = fine_else Read_Failed before now Read_Ended (λ e. cc) c
+  line_fine Read_Failed c n = absurd (n refl)
+  line_fine Read_Memory c n = fine_else Read_Failed before now Read_Memory (λ e. cc) c
+
+  pub line_cause : {U : Type 0} (stop : ReadStop) → Cause {T = T} Read_Failed before now (Err stop) → Cause {T = U} SourceFailed before now (Err (stop_of stop))
+  line_cause stop c = record { later = c.later; rose = λ e. line_rose stop c cc; fine = λ n. line_fine stop c (λ e. n (ap Err e)) }
 
 pub if_err : {T E : Type 0} {P Q : E → Type 0} → (r : Result T E) → ((e : E) → P e → Q e) → IfErr r P → IfErr r Q
 if_err (Ok x) f p = tt

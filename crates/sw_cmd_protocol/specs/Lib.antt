@@ -1,5 +1,6 @@
 pub mod Script
 pub mod Endings
+pub mod Statuses
 pub mod Protocol
 pub mod Transcript
 pub mod Turns

@@ -1,8 +1,7 @@
 -- What one turn of the loop does, by how it ends.
-use Rattle.std.specs.Prelude.{◌≡◌, ◌⊎◌, ℕ, ◌≤◌, List, [], ◌++◌, length, Option, Result, IsErrOf}
+use Rattle.std.specs.Prelude.{◌≡◌, ◌⊎◌, ℕ, ◌≤◌, List, [], ◌++◌, length, Option}
 use Rattle.std.specs.Io.KnownBytes.{Appends, IsAtEnd}
 use Rattle.sw_io.specs.Reads.{Reads}
-use Rattle.sw_io.specs.Causes.{Rose}
 use Rattle.sw_cmd_protocol.specs.declared.stop.Stop.{Stop}
 use Rattle.sw_cmd_protocol.specs.declared.stop.Stop.TheVariants.{Ended, Wrong, CutOff, SourceFailed, SinkFailed, Memory, OutsideFailed, Over as Over_stop}
 use Rattle.sw_cmd_protocol.specs.Script.{Next, Whole, Closing, NoRequest, Short, End, Bad, Over, Cut, Grammar, last}
@@ -146,8 +145,3 @@ LastEnds grammar SinkFailed old new = ⊥
 LastEnds grammar Memory old new = Forgets old new
 LastEnds grammar OutsideFailed old new = ⊥
 LastEnds grammar Over_stop old new = Finds (last grammar) Over old new
-
--- a count of faults didn't fall, and rose where the result says so
-pub record Cause {T : Type 0} (stop : Stop) (before now : ℕ) (result : Result T Stop) : Type 0 where
-  pub later : before ≤ now
-  pub rose : IsErrOf result stop → Rose before now

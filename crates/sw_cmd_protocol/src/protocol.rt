@@ -3,7 +3,8 @@ ghost use Rattle.std.specs.Prelude.{◌≡◌, ◌≤◌, ℕ, List, length, IfO
 ghost use Rattle.sw_cmd_protocol.specs.Protocol as specs;
 ghost use Rattle.sw_cmd_protocol.specs.Endings.{LastLine};
 ghost use Rattle.sw_cmd_protocol.specs.Heard.{told_of};
-ghost use Rattle.sw_cmd_protocol.specs.Turns.{place, standing, Answers, TurnEnds, Cause};
+ghost use Rattle.sw_io.specs.Causes.{Cause};
+ghost use Rattle.sw_cmd_protocol.specs.Turns.{place, standing, Answers, TurnEnds};
 
 use crate::{Lines, Stop};
 use sw_io::{Sink, Source};
@@ -30,7 +31,7 @@ pub trait Protocol<E, O, R> {
 
     /// Answers the request of the line that was read, which may go on behind it, sends the reply, and gives it where an
     /// audience is to be told of it.
-    fn turn<S: Source, K: Sink>(
+    fn answer_request<S: Source, K: Sink>(
         &mut self,
         lines: &mut Lines,
         source: &mut S,

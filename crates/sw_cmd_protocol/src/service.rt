@@ -1,8 +1,8 @@
 // The loop.
-ghost use Rattle.std.specs.Prelude.{◌≡◌, ◌≤◌, [], ℕ, List, Option, IfOk, IfErr};
-ghost use Rattle.sw_io.specs.Causes.{Rose};
+ghost use Rattle.std.specs.Prelude.{◌≡◌, ◌≢◌, ◌≤◌, [], ℕ, List, Option, IfOk, IfErr};
+ghost use Rattle.sw_io.specs.Causes.{NoFault, Rose, Cause};
 ghost use Rattle.sw_cmd_protocol.specs.Script.{next};
-ghost use Rattle.sw_cmd_protocol.specs.Turns.{place, standing, Answers, TurnEnds, LastEnds, Cause};
+ghost use Rattle.sw_cmd_protocol.specs.Turns.{place, standing, Answers, TurnEnds, LastEnds};
 ghost use Rattle.sw_cmd_protocol.specs.Served.{surroundings};
 ghost use Rattle.sw_cmd_protocol.specs.Heard.{ServedAndHeard, told_of};
 
@@ -19,7 +19,8 @@ pub struct Service<P> {
 
 impl<P> Service<P> {
     /// Answers at most so many requests of the source, until the line `end` or until the answers end otherwise, and
-    /// tells how. The audience is told of a reply once its bytes are written and the sink is flushed.
+    /// tells how. The audience is told of a reply once its bytes are written and the sink is flushed. No call of
+    /// the source, the sink or what is asked beside them fails but the one by whose fault the answers end.
     pub fn answer_all<S: Source, K: Sink, E, O, R: Drop, T: Audience<R>>(
         &mut self,
         most: u32,
@@ -40,9 +41,14 @@ impl<P> Service<P> {
         ensures source_fault { result ≡ Stop.SourceFailed → Rose (S.faults source.old) (S.faults source.new) }
         ensures sink_fault { result ≡ Stop.SinkFailed → Rose (K.faults output.old.sink) (K.faults output.new.sink) }
         ensures outside_fault { result ≡ Stop.OutsideFailed → Rose (P.faults outside.old) (P.faults outside.new) }
+        ensures no_source_fault { result ≢ Stop.SourceFailed → NoFault (S.faults source.old) (S.faults source.new) }
+        ensures no_sink_fault { result ≢ Stop.SinkFailed
+            → NoFault (K.faults output.old.sink) (K.faults output.new.sink) }
+        ensures no_outside_fault { result ≢ Stop.OutsideFailed
+            → NoFault (P.faults outside.old) (P.faults outside.new) }
     {
         'requests: for _ in 0..most {
-            match self.turn(source, &mut output.sink, engine, outside) {
+            match self.answer_next(source, &mut output.sink, engine, outside) {
                 Err(stop) => return stop,
                 Ok(reply) => tell_some(&mut output.audience, &reply),
             }
@@ -51,7 +57,7 @@ impl<P> Service<P> {
     }
 
     /// Reads a line, answers its request, and gives the reply where it is to be told.
-    fn turn<S: Source, K: Sink, E, O, R>(
+    fn answer_next<S: Source, K: Sink, E, O, R>(
         &mut self,
         source: &mut S,
         sink: &mut K,
@@ -76,7 +82,7 @@ impl<P> Service<P> {
     {
         self.lines.reader.line(source, &mut self.lines.line)?;
         self.protocol
-            .turn(&mut self.lines, source, sink, engine, outside)
+            .answer_request(&mut self.lines, source, sink, engine, outside)
     }
 
     /// Reads a line where no more requests are answered.
@@ -89,6 +95,7 @@ impl<P> Service<P> {
         ensures protocol { self.new.protocol ≡ self.old.protocol }
         ensures later { S.faults source.old ≤ S.faults source.new }
         ensures fault { result ≡ Stop.SourceFailed → Rose (S.faults source.old) (S.faults source.new) }
+        ensures no_fault { result ≢ Stop.SourceFailed → NoFault (S.faults source.old) (S.faults source.new) }
     {
         match self.lines.reader.line(source, &mut self.lines.line) {
             Err(stop) => Stop::from(stop),

@@ -6,6 +6,7 @@ use Rattle.sw_cmd_protocol.specs.declared.stop.Stop.TheVariants as stop
 use Rattle.sw_record.specs.declared.reply.Reply.{Reply}
 use Rattle.sw_cmd_protocol.specs.Heard.{Hearing}
 use Rattle.sw_cmd_protocol.specs.Endings.{status_of as status_of_stop}
+use Rattle.sw_cmd_protocol.specs.Statuses.{source_failed, sink_failed, outside_failed}
 use Rattle.sw_cmd_session.specs.Served.{Surroundings, Served, ServedWith}
 use Rattle.sw_cmd_disk_compile.specs.declared.ending.Ending.{Ending}
 use Rattle.sw_cmd_disk_compile.specs.declared.ending.Ending.TheVariants.{Css, Error, SinkFailed, Memory, DiskFailed}
@@ -14,7 +15,7 @@ use Rattle.sw_cmd_workload.specs.declared.ending.Ending.{Ending as Made}
 use Rattle.sw_cmd_workload.specs.declared.ending.Ending.TheVariants as made
 use Rattle.sw_cmd_workload.specs.Ends.{status_of as status_of_made}
 
-no_outside_by : (setting : Setting) (s : Stop) (old new : Surroundings) → 8 ≡ status_of_stop s → Served setting 1000000 s old new → ⊥
+no_outside_by : (setting : Setting) (s : Stop) (old new : Surroundings) → outside_failed ≡ status_of_stop s → Served setting 1000000 s old new → ⊥
 no_outside_by setting stop.Ended old new e s = omega arith
 no_outside_by setting stop.Wrong old new e s = omega arith
 no_outside_by setting stop.CutOff old new e s = omega arith
@@ -26,25 +27,25 @@ no_outside_by setting stop.Over old new e s = omega arith
 
 -- no session ends with the status of a disk that failed
 pub no_outside : {State : Type 0} (setting : Setting) (hears : Hearing Reply State) (status : ℕ) (old new : Surroundings) (before now : State)
-    → ServedWith setting hears status old new before now → status ≡ 8 → ⊥
-no_outside setting hears status old new before now (s, is, served) e = let eight : 8 ≡ status_of_stop s = cc in no_outside_by setting s old new eight served.served
+    → ServedWith setting hears status old new before now → status ≡ outside_failed → ⊥
+no_outside setting hears status old new before now (s, is, served) e = let told : outside_failed ≡ status_of_stop s = cc in no_outside_by setting s old new told served.served
 
 -- the statuses of one compile
-pub of_sink : (ending : Ending) → status_of ending ≡ 5 → ending ≡ SinkFailed
+pub of_sink : (ending : Ending) → status_of ending ≡ sink_failed → ending ≡ SinkFailed
 of_sink Css e = absurd (omega arith)
 of_sink Error e = absurd (omega arith)
 of_sink SinkFailed e = refl
 of_sink Memory e = absurd (omega arith)
 of_sink DiskFailed e = absurd (omega arith)
 
-pub of_disk : (ending : Ending) → status_of ending ≡ 8 → ending ≡ DiskFailed
+pub of_disk : (ending : Ending) → status_of ending ≡ outside_failed → ending ≡ DiskFailed
 of_disk Css e = absurd (omega arith)
 of_disk Error e = absurd (omega arith)
 of_disk SinkFailed e = absurd (omega arith)
 of_disk Memory e = absurd (omega arith)
 of_disk DiskFailed e = refl
 
-pub not_source : (ending : Ending) → status_of ending ≡ 4 → ⊥
+pub not_source : (ending : Ending) → status_of ending ≡ source_failed → ⊥
 not_source Css e = omega arith
 not_source Error e = omega arith
 not_source SinkFailed e = omega arith
@@ -52,17 +53,17 @@ not_source Memory e = omega arith
 not_source DiskFailed e = omega arith
 
 -- the statuses of a made workload
-pub of_made_sink : (ending : Made) → status_of_made ending ≡ 5 → ending ≡ made.SinkFailed
+pub of_made_sink : (ending : Made) → status_of_made ending ≡ sink_failed → ending ≡ made.SinkFailed
 of_made_sink made.Summed e = absurd (omega arith)
 of_made_sink made.SinkFailed e = refl
 of_made_sink made.Memory e = absurd (omega arith)
 
-pub made_not_source : (ending : Made) → status_of_made ending ≡ 4 → ⊥
+pub made_not_source : (ending : Made) → status_of_made ending ≡ source_failed → ⊥
 made_not_source made.Summed e = omega arith
 made_not_source made.SinkFailed e = omega arith
 made_not_source made.Memory e = omega arith
 
-pub made_not_disk : (ending : Made) → status_of_made ending ≡ 8 → ⊥
+pub made_not_disk : (ending : Made) → status_of_made ending ≡ outside_failed → ⊥
 made_not_disk made.Summed e = omega arith
 made_not_disk made.SinkFailed e = omega arith
 made_not_disk made.Memory e = omega arith

@@ -1,10 +1,15 @@
 -- What the program does, by the words of its command line. This project's own rule.
 use Rattle.std.specs.Prelude.{◌≡◌, ℕ, List, [], Option, None, Some}
 use Rattle.sw_io.specs.Disks.{Course}
-use Rattle.sw_cmd_line.specs.Forms.{Form, Target, Session, Once, Poll, Make}
+use Rattle.sw_cmd_line.specs.Forms.{Form, Target, Session, Hosted, Once, Poll, Make}
+use Rattle.sw_world.specs.Hosts.{HostState}
+use Rattle.sw_world.specs.Body.{BodyOf}
+use Rattle.sw_modules.specs.Outside.{Functions}
 use Rattle.sw_modules.specs.Fresh.{Setting}
 use Rattle.sw_record.specs.declared.reply.Reply.{Reply}
 use Rattle.sw_cmd_protocol.specs.Heard.{Hearing}
+use Rattle.sw_cmd_protocol.specs.Statuses.{no_command}
+use Rattle.sw_cmd_session.specs.Sheets.{hosted, hostless}
 use Rattle.sw_cmd_session.specs.Served as session
 use Rattle.sw_cmd_disk_compile.specs.declared.ending.Ending.{Ending}
 use Rattle.sw_cmd_disk_compile.specs.Once as once
@@ -13,29 +18,42 @@ use Rattle.sw_cmd_workload.specs.Ends as make
 use Rattle.sw_cmd_run.specs.Served as poll
 
 -- what is around the program: the bytes left in the source, those written into the sink, what the disk tells of each
--- folder, and the paths of the bodies that ran
+-- folder, the paths of the bodies that ran, and what the host's functions are
 pub record Surroundings : Type 0 where
   pub left : Option (List ℕ)
   pub written : Option (List ℕ)
   pub course : List ℕ → Option Course
   pub ran : List (List ℕ)
+  pub hosts : HostState
 
-abbrev pub surroundings : Option (List ℕ) → Option (List ℕ) → (List ℕ → Option Course) → List (List ℕ) → Surroundings
-surroundings left written course ran = record { left = left; written = written; course = course; ran = ran }
+abbrev pub surroundings : Option (List ℕ) → Option (List ℕ) → (List ℕ → Option Course) → List (List ℕ) → HostState
+    → Surroundings
+surroundings left written course ran hosts =
+    record { left = left; written = written; course = course; ran = ran; hosts = hosts }
 
--- nothing was read, written or run
+-- nothing was read, written, run or called
 pub record DoesNothing (status : ℕ) (old new : Surroundings) : Type 0 where
-  pub seven : status ≡ 7
+  pub tells : status ≡ no_command
   pub left : new.left ≡ old.left
   pub written : new.written ≡ old.written
   pub course : new.course ≡ old.course
   pub ran : new.ran ≡ old.ran
+  pub hosts : new.hosts ≡ old.hosts
 
 -- a session without functions of a host, in which the disk isn't asked
 pub record Serves {State : Type 0} (setting : Setting) (hears : Hearing Reply State) (status : ℕ)
     (old new : Surroundings) (before now : State) : Type 0 where
   pub served : session.ServedWith setting hears status (session.surroundings old.left old.written old.ran [])
       (session.surroundings new.left new.written new.ran []) before now
+  pub course : new.course ≡ old.course
+  pub hosts : new.hosts ≡ old.hosts
+
+-- a session with the functions of the host, in which the disk isn't asked
+pub record ServesHosted {State : Type 0} (setting : Setting) (hears : Hearing Reply State) (status : ℕ)
+    (old new : Surroundings) (before now : State) : Type 0 where
+  pub served : session.ServedWith setting hears status
+      (session.surroundings old.left old.written old.ran old.hosts)
+      (session.surroundings new.left new.written new.ran new.hosts) before now
   pub course : new.course ≡ old.course
 
 -- one compile of a disk's folder, without a look at the source
@@ -47,6 +65,15 @@ pub record CompilesOnce {State : Type 0} (setting : Setting) (target : Target) (
       (once.surroundings (new.course target.dir) new.written new.ran) before now
   pub tells : status ≡ once.status_of ending
   pub left : new.left ≡ old.left
+  pub hosts : new.hosts ≡ old.hosts
+
+-- a poll of a disk's folder
+pub record Polls {State : Type 0} (setting : Setting) (target : Target) (hears : Hearing Reply State) (status : ℕ)
+    (old new : Surroundings) (before now : State) : Type 0 where
+  pub served : poll.ServedWith setting target hears status
+      (poll.surroundings old.left old.written (old.course target.dir) old.ran)
+      (poll.surroundings new.left new.written (new.course target.dir) new.ran) before now
+  pub hosts : new.hosts ≡ old.hosts
 
 -- a made workload, without a look at the source or the disk
 pub record Makes {State : Type 0} (setting : Setting) (number : ℕ) (hears : Hearing Reply State) (status : ℕ)
@@ -57,17 +84,20 @@ pub record Makes {State : Type 0} (setting : Setting) (number : ℕ) (hears : He
   pub tells : status ≡ make.status_of ending
   pub left : new.left ≡ old.left
   pub course : new.course ≡ old.course
+  pub hosts : new.hosts ≡ old.hosts
 
--- the words are in this form, and this came of them; words in no form are status 7
-abbrev pub Runs : {State : Type 0} → Setting → Hearing Reply State → Option Form → ℕ → Surroundings → Surroundings
-    → State → State → Type 0
-Runs setting hears None status old new before now = DoesNothing status old new × (now ≡ before)
-Runs setting hears (Some Session) status old new before now = Serves setting hears status old new before now
-Runs setting hears (Some (Once target)) status old new before now =
-    CompilesOnce setting target hears status old new before now
-Runs setting hears (Some (Poll target)) status old new before now =
-    poll.ServedWith setting target hears status
-    (poll.surroundings old.left old.written (old.course target.dir) old.ran)
-    (poll.surroundings new.left new.written (new.course target.dir) new.ran) before now
-Runs setting hears (Some (Make number)) status old new before now =
-    Makes setting number hears status old new before now
+-- the words are in this form, and this came of them, with these bodies and these functions of a host; words in no form
+-- have a status of their own
+abbrev pub Runs : {State : Type 0} → BodyOf → Functions → Hearing Reply State → Option Form → ℕ → Surroundings
+    → Surroundings → State → State → Type 0
+Runs body host hears None status old new before now = DoesNothing status old new × (now ≡ before)
+Runs body host hears (Some Session) status old new before now =
+    Serves (hostless body) hears status old new before now
+Runs body host hears (Some Hosted) status old new before now =
+    ServesHosted (hosted body host) hears status old new before now
+Runs body host hears (Some (Once target)) status old new before now =
+    CompilesOnce (hostless body) target hears status old new before now
+Runs body host hears (Some (Poll target)) status old new before now =
+    Polls (hostless body) target hears status old new before now
+Runs body host hears (Some (Make number)) status old new before now =
+    Makes (hostless body) number hears status old new before now

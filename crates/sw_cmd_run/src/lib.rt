@@ -7,9 +7,11 @@ mod laws;
 mod poll;
 mod scan;
 mod service;
+mod surroundings;
 mod word;
 
-pub use command::run;
+pub use command::{NO_COMMAND, run};
 pub use laws::{poll_answers_all, poll_ends_exactly, scans_read_in_turn};
 pub use service::poll_folder;
+pub use surroundings::Surroundings;
 pub use word::Word;

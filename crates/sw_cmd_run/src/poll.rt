@@ -1,7 +1,8 @@
 // What a poll does at each line.
 ghost use Rattle.std.specs.Prelude.{◌≤◌, length, IfOk, IfErr};
+ghost use Rattle.sw_io.specs.Causes.{Cause};
 ghost use Rattle.sw_cmd_protocol.specs.Heard.{told_of};
-ghost use Rattle.sw_cmd_protocol.specs.Turns.{place, standing, Answers, TurnEnds, Cause};
+ghost use Rattle.sw_cmd_protocol.specs.Turns.{place, standing, Answers, TurnEnds};
 ghost use Rattle.sw_cmd_line.specs.Forms.{target_seen};
 ghost use Rattle.sw_cmd_session.specs.Sheets.{hostless};
 ghost use Rattle.sw_cmd_run.specs.Poll.{held, grammar, poll as protocol};
@@ -44,7 +45,7 @@ impl<'t, E: Engine, D: Disk> Protocol<E, D, Reply> for Poll<'t, E> {
 
     ghost faults = { D.faults };
 
-    fn turn<S: Source, K: Sink>(
+    fn answer_request<S: Source, K: Sink>(
         &mut self,
         lines: &mut Lines,
         source: &mut S,
@@ -52,7 +53,7 @@ impl<'t, E: Engine, D: Disk> Protocol<E, D, Reply> for Poll<'t, E> {
         engine: &mut E,
         disk: &mut D,
     ) -> Result<Option<Reply>, Stop> {
-        turn(self, lines, source, sink, engine, disk)
+        scan_turn(self, lines, source, sink, engine, disk)
     }
 
     fn last(&self, lines: &Lines) -> Stop {
@@ -64,7 +65,7 @@ impl<'t, E: Engine, D: Disk> Protocol<E, D, Reply> for Poll<'t, E> {
     }
 }
 
-fn turn<S: Source, K: Sink, D: Disk, E: Engine>(
+fn scan_turn<S: Source, K: Sink, D: Disk, E: Engine>(
     poll: &mut Poll<'_, E>,
     lines: &mut Lines,
     source: &mut S,

@@ -2,8 +2,9 @@
 ghost use Rattle.std.specs.Prelude.{◌≢◌, Option, IfOk, IfErr};
 ghost use Rattle.sw_io.specs.Disks.{Course};
 ghost use Rattle.sw_cmd_disk_folder.specs.Held.{IsRead};
+ghost use Rattle.sw_io.specs.Causes.{Cause};
 ghost use Rattle.sw_cmd_protocol.specs.Heard.{told_of};
-ghost use Rattle.sw_cmd_protocol.specs.Turns.{standing, Says, SayStops, Cause};
+ghost use Rattle.sw_cmd_protocol.specs.Turns.{standing, Says, SayStops};
 ghost use Rattle.sw_cmd_line.specs.Forms.{target_seen};
 ghost use Rattle.sw_cmd_session.specs.Sheets.{hostless};
 ghost use Rattle.sw_cmd_run.specs.Poll.{Scan, held, poll};

@@ -1,7 +1,8 @@
 // A whole poll.
-ghost use Rattle.std.specs.Prelude.{◌≡◌};
-ghost use Rattle.sw_io.specs.Causes.{Rose};
+ghost use Rattle.std.specs.Prelude.{◌≡◌, ◌≢◌};
+ghost use Rattle.sw_io.specs.Causes.{NoFault, Rose};
 ghost use Rattle.sw_cmd_line.specs.Forms.{target_seen};
+ghost use Rattle.sw_cmd_protocol.specs.Statuses.{source_failed, sink_failed, outside_failed};
 ghost use Rattle.sw_cmd_session.specs.Sheets.{hostless};
 ghost use Rattle.sw_cmd_run.specs.Served.{surroundings, ServedWith, ServedAndHeard};
 
@@ -21,7 +22,8 @@ const MOST_REQUESTS: u32 = 1_000_000;
 /// line; 3 where the input ends before; 4, 5 and 8 where the source, the sink or the disk failed; 6 for want of memory
 /// outside a compile; 9 where a scan comes after 1,000,000 that were answered. At each scan the folder is read again
 /// and the entry compiled, and the reply is that to a compile in a session. The sink is flushed after each reply, and
-/// then the audience is told of it.
+/// then the audience is told of it. No call of the source, the sink or the disk fails but the one by whose fault
+/// the poll ends.
 pub fn poll_folder<S: Source, K: Sink, D: Disk, E: Engine, T: Audience<Reply>>(
     alloc: Global,
     target: &Target<'_>,
@@ -36,9 +38,12 @@ pub fn poll_folder<S: Source, K: Sink, D: Disk, E: Engine, T: Audience<Reply>>(
         (surroundings (S.left source.new) (K.written output.new.sink) (D.course disk.new target.now.dir.now)
         (E.ran engine.new))
         (T.state output.old.audience) (T.state output.new.audience) }
-    ensures source_fault { result ≡ 4 → Rose (S.faults source.old) (S.faults source.new) }
-    ensures sink_fault { result ≡ 5 → Rose (K.faults output.old.sink) (K.faults output.new.sink) }
-    ensures disk_fault { result ≡ 8 → Rose (D.faults disk.old) (D.faults disk.new) }
+    ensures source_fault { result ≡ source_failed → Rose (S.faults source.old) (S.faults source.new) }
+    ensures sink_fault { result ≡ sink_failed → Rose (K.faults output.old.sink) (K.faults output.new.sink) }
+    ensures disk_fault { result ≡ outside_failed → Rose (D.faults disk.old) (D.faults disk.new) }
+    ensures no_source_fault { result ≢ source_failed → NoFault (S.faults source.old) (S.faults source.new) }
+    ensures no_sink_fault { result ≢ sink_failed → NoFault (K.faults output.old.sink) (K.faults output.new.sink) }
+    ensures no_disk_fault { result ≢ outside_failed → NoFault (D.faults disk.old) (D.faults disk.new) }
 {
     polled(alloc, target, source, output, disk, engine).status()
 }
@@ -61,6 +66,9 @@ fn polled<S: Source, K: Sink, D: Disk, E: Engine, T: Audience<Reply>>(
     ensures source_fault { result ≡ Stop.SourceFailed → Rose (S.faults source.old) (S.faults source.new) }
     ensures sink_fault { result ≡ Stop.SinkFailed → Rose (K.faults output.old.sink) (K.faults output.new.sink) }
     ensures disk_fault { result ≡ Stop.OutsideFailed → Rose (D.faults disk.old) (D.faults disk.new) }
+    ensures no_source_fault { result ≢ Stop.SourceFailed → NoFault (S.faults source.old) (S.faults source.new) }
+    ensures no_sink_fault { result ≢ Stop.SinkFailed → NoFault (K.faults output.old.sink) (K.faults output.new.sink) }
+    ensures no_disk_fault { result ≢ Stop.OutsideFailed → NoFault (D.faults disk.old) (D.faults disk.new) }
 {
     match Lines::new(alloc) {
         Err(_) => Stop::Memory,

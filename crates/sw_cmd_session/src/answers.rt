@@ -2,12 +2,12 @@
 ghost use Rattle.std.specs.Prelude.{◌≡◌, ◌≤◌, ◌++◌, List, ℕ, length, None, Some, IfOk, IfErr, OnOk, OnErr};
 ghost use Rattle.std.specs.Io.KnownBytes.{Appends};
 ghost use Rattle.std.specs.Option.{option_copied};
-ghost use Rattle.sw_io.specs.Causes.{HasCause};
+ghost use Rattle.sw_io.specs.Causes.{HasCause, Cause};
 ghost use Rattle.sw_world.specs.Hosts.{HostState};
 ghost use Rattle.sw_modules.specs.Fresh.{Setting};
 ghost use Rattle.sw_wire.specs.Replies.{css_behind, reply_text};
 ghost use Rattle.sw_cmd_protocol.specs.Heard.{told_of};
-ghost use Rattle.sw_cmd_protocol.specs.Turns.{place, standing, Says, SaysSome, SayStops, Cause};
+ghost use Rattle.sw_cmd_protocol.specs.Turns.{place, standing, Says, SaysSome, SayStops};
 ghost use Rattle.sw_cmd_session.specs.Script.{Compile, Remove};
 ghost use Rattle.sw_cmd_session.specs.Transcript.{holding, session};
 ghost use Rattle.sw_cmd_session.specs.Edits.{PutAnswers, PutStops, IsCutShort, SendEnds};

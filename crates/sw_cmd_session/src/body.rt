@@ -2,7 +2,7 @@
 ghost use Rattle.std.specs.Prelude.{◌≡◌, ◌≤◌, ◌∷◌, ◌++◌, [], List, ℕ, length, IfErr, OnOk, IsTrue};
 ghost use Rattle.sw_io.specs.Reads.{Reads};
 ghost use Rattle.sw_io.specs.Ends.{RunEnds};
-ghost use Rattle.sw_cmd_protocol.specs.Turns.{Cause};
+ghost use Rattle.sw_io.specs.Causes.{Cause};
 ghost use Rattle.sw_cmd_session.specs.Edits.{BodyEnds};
 
 use sw_cmd_protocol::Stop;
@@ -47,7 +47,7 @@ fn read_bytes<S: Source>(
     ensures err { IfErr result (λ stop. (used : List ℕ)
         × Reads reader.old (S.left source.old) used reader.new (S.left source.new)
         × RunEnds stop count used reader.new (S.left source.new) (S.faults source.old) (S.faults source.new)) }
-    ensures later { S.faults source.old ≤ S.faults source.new }
+    ensures cause { Cause ReadStop.Failed (S.faults source.old) (S.faults source.new) result }
 {
     if keep {
         reader.take(source, count as usize, body)

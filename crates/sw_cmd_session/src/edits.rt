@@ -2,7 +2,7 @@
 ghost use Rattle.std.specs.Prelude.{◌≡◌, ◌≤◌, Err, IfOk, IfErr, OnOk, OnErr, length};
 ghost use Rattle.sw_folder.specs.Edits.{after_put, after_removal, folder_after};
 ghost use Rattle.sw_wire.specs.Replies.{edit_text};
-ghost use Rattle.sw_cmd_protocol.specs.Turns.{Cause};
+ghost use Rattle.sw_io.specs.Causes.{Cause};
 ghost use Rattle.sw_cmd_session.specs.Edits.{Puts, PutEnds};
 
 use crate::body::read_body;

@@ -1,8 +1,9 @@
 // What a session does at each request.
 ghost use Rattle.std.specs.Prelude.{◌≡◌, ◌≤◌, [], length, IfOk, IfErr};
 ghost use Rattle.std.specs.FinMap as files;
+ghost use Rattle.sw_io.specs.Causes.{Cause};
 ghost use Rattle.sw_cmd_protocol.specs.Heard.{told_of};
-ghost use Rattle.sw_cmd_protocol.specs.Turns.{place, standing, Answers, TurnEnds, Cause};
+ghost use Rattle.sw_cmd_protocol.specs.Turns.{place, standing, Answers, TurnEnds};
 ghost use Rattle.sw_cmd_session.specs.Script.{grammar};
 ghost use Rattle.sw_cmd_session.specs.Transcript.{holding, session as protocol};
 
@@ -54,7 +55,7 @@ impl<E: Engine, H: Hosts> Protocol<E, H, Reply> for Session<E> {
     // a host has no faults of its own
     ghost faults = { λ _. 0 };
 
-    fn turn<S: Source, K: Sink>(
+    fn answer_request<S: Source, K: Sink>(
         &mut self,
         lines: &mut Lines,
         source: &mut S,
@@ -62,7 +63,7 @@ impl<E: Engine, H: Hosts> Protocol<E, H, Reply> for Session<E> {
         engine: &mut E,
         hosts: &mut H,
     ) -> Result<Option<Reply>, Stop> {
-        turn(self, lines, source, sink, engine, hosts)
+        request_turn(self, lines, source, sink, engine, hosts)
     }
 
     fn last(&self, lines: &Lines) -> Stop {
@@ -73,7 +74,7 @@ impl<E: Engine, H: Hosts> Protocol<E, H, Reply> for Session<E> {
     }
 }
 
-fn turn<S: Source, K: Sink, E: Engine, H: Hosts>(
+fn request_turn<S: Source, K: Sink, E: Engine, H: Hosts>(
     session: &mut Session<E>,
     lines: &mut Lines,
     source: &mut S,

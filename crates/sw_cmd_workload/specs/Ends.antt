@@ -4,15 +4,16 @@ use Rattle.std.specs.Io.KnownBytes.{Appends}
 use Rattle.sw_modules.specs.Fresh.{Setting}
 use Rattle.sw_record.specs.declared.reply.Reply.{Reply}
 use Rattle.sw_cmd_protocol.specs.Heard.{Hearing, HearsAll}
+use Rattle.sw_cmd_protocol.specs.Statuses.{all_done, sink_failed, no_memory}
 use Rattle.sw_cmd_workload.specs.declared.ending.Ending.{Ending}
 use Rattle.sw_cmd_workload.specs.declared.ending.Ending.TheVariants.{Summed, SinkFailed, Memory}
 use Rattle.sw_cmd_workload.specs.declared.tally.Tally.{Tally}
 use Rattle.sw_cmd_workload.specs.Made.{AreReplies, bodies_in, css_after, paths_in, summary_of}
 
 abbrev pub status_of : Ending → ℕ
-status_of Summed = 0
-status_of SinkFailed = 5
-status_of Memory = 6
+status_of Summed = all_done
+status_of SinkFailed = sink_failed
+status_of Memory = no_memory
 
 -- what is around a workload: the paths of the bodies that ran, and what was heard
 pub record Standing (State : Type 0) : Type 0 where

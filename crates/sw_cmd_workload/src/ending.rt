@@ -2,6 +2,8 @@
 ghost use Rattle.std.specs.Prelude.{◌≡◌};
 ghost use Rattle.sw_cmd_workload.specs.Ends.{status_of};
 
+use sw_cmd_protocol::Stop;
+
 /// How a made workload ended.
 #[derive(Clone, Copy, Debug, PartialEq, Eq)]
 pub enum Ending {
@@ -19,9 +21,9 @@ impl Ending {
         ensures { result ≡ status_of self }
     {
         match self {
-            Ending::Summed => 0,
-            Ending::SinkFailed => 5,
-            Ending::Memory => 6,
+            Ending::Summed => Stop::Ended.status(),
+            Ending::SinkFailed => Stop::SinkFailed.status(),
+            Ending::Memory => Stop::Memory.status(),
         }
     }
 }

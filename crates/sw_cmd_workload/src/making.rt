@@ -1,6 +1,6 @@
 // A made workload as a whole.
-ghost use Rattle.std.specs.Prelude.{◌≡◌, ◌+◌, IfOk, OnErr};
-ghost use Rattle.sw_io.specs.Causes.{Rose};
+ghost use Rattle.std.specs.Prelude.{◌≡◌, ◌≢◌, ◌+◌, IfOk, OnErr};
+ghost use Rattle.sw_io.specs.Causes.{NoFault, Rose};
 ghost use Rattle.sw_cmd_workload.specs.Texts.{parts_of, summary};
 ghost use Rattle.sw_keeper.specs.Settings.{hostless};
 ghost use Rattle.sw_cmd_workload.specs.Ends.{standing, Counts, BreaksOff, EndsBy, WritesBy};
@@ -30,6 +30,7 @@ pub fn make<R: Reader, K: Sink, E: Engine, T: Audience<Reply>>(
         (standing (E.ran engine.new) (T.state output.new.audience)) (K.written output.old.sink)
         (K.written output.new.sink) }
     ensures sink_fault { result ≡ Ending.SinkFailed → Rose (K.faults output.old.sink) (K.faults output.new.sink) }
+    ensures no_sink_fault { result ≢ Ending.SinkFailed → NoFault (K.faults output.old.sink) (K.faults output.new.sink) }
 {
     match all_compiles(alloc, reader, number, &mut output.audience, engine) {
         Err(Memory) => Ending::Memory,
@@ -65,6 +66,7 @@ fn write_summary<K: Sink>(alloc: Global, number: u32, tally: Tally, sink: &mut K
     ensures ends { WritesBy result (summary (parts_of number + 2) tally.ran tally.css) (K.written sink.old)
         (K.written sink.new) }
     ensures sink_fault { result ≡ Ending.SinkFailed → Rose (K.faults sink.old) (K.faults sink.new) }
+    ensures no_sink_fault { result ≢ Ending.SinkFailed → NoFault (K.faults sink.old) (K.faults sink.new) }
 {
     match summary(alloc, parts_of(number) + 2, tally.ran, tally.css) {
         Err(_) => Ending::Memory,

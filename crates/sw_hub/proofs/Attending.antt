@@ -20,7 +20,7 @@ one_more reply replies (Some heard) = ap (λ (x : List Reply). Some x) (append_a
 -- nothing was told
 stays : (b c : Bool) (x : Known) → b ≡ c → Attended b c [] x x
 stays true c x e = refl
-stays false false x e = (refl, record { heard = none_more x.heard; count = refl; faults = omega arith })
+stays false false x e = (refl, record { heard = none_more x.heard; count = refl; faults = refl })
 stays false true x e = cc
 
 -- one reply, and then the others
@@ -31,7 +31,7 @@ module _ (reply : Reply) (replies : List Reply) (old mid new : Known) where
     record {
       heard = more.1.heard ∙ ap (with_all replies) one.1.heard ∙ one_more reply replies old.heard;
       count = more.1.count ∙ ap (counted_all replies) one.1.count;
-      faults = omega (arith, one.1.faults, more.1.faults);
+      faults = more.1.faults ∙ one.1.faults;
     },
   )
   heard_first true one more = (

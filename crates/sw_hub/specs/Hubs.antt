@@ -1,7 +1,7 @@
 -- Who is attached to a hub, and who has heard a reply. This project's own rule.
-use Rattle.std.specs.Prelude.{◌≡◌, ℕ, ◌≤◌, List, [], ◌∷◌, ◌++◌, length, Option, Some, None, option_map, slice_get, Bool, true, false, ◌==◌, if◌then◌else◌}
+use Rattle.std.specs.Prelude.{◌≡◌, ℕ, List, [], ◌∷◌, ◌++◌, length, Option, Some, None, option_map, slice_get, Bool, true, false, ◌==◌, if◌then◌else◌}
 use Rattle.sw_record.specs.declared.reply.Reply.{Reply}
-use Rattle.sw_io.specs.Causes.{Rose}
+use Rattle.sw_io.specs.Causes.{NoFault, Rose}
 use Rattle.sw_hub.specs.Hearing.{with_reply, counted}
 
 -- what is known of a reporter: the number under which it is attached, whether it is silent, the replies that it has
@@ -24,11 +24,12 @@ known heard count faults number silent reporter = record {
   faults = faults reporter;
 }
 
--- it was called and has heard the reply, or its own count of faults rose, and it is as before but silent
+-- it was called and has heard the reply without a fault, or its own count of faults rose by this one, and it is as
+-- before but silent
 pub record HasHeard (reply : Reply) (before now : Known) : Type 0 where
   pub heard : now.heard ≡ with_reply reply before.heard
   pub count : now.count ≡ counted before.count
-  pub faults : before.faults ≤ now.faults
+  pub faults : NoFault before.faults now.faults
 
 pub record FallsSilent (before now : Known) : Type 0 where
   pub heard : now.heard ≡ before.heard
@@ -81,13 +82,13 @@ abbrev pub counted_all : List Reply → Option ℕ → Option ℕ
 counted_all [] count = count
 counted_all (reply ∷ replies) count = counted_all replies (counted count)
 
--- it heard all of these replies
+-- it heard all of these replies without a fault
 pub record HeardAll (replies : List Reply) (before now : Known) : Type 0 where
   pub heard : now.heard ≡ with_all replies before.heard
   pub count : now.count ≡ counted_all replies before.count
-  pub faults : before.faults ≤ now.faults
+  pub faults : NoFault before.faults now.faults
 
--- it heard the first of these replies, until its own count of faults rose
+-- it heard the first of these replies, until it failed once; it wasn't called again
 pub record FellSilent (replies : List Reply) (before now : Known) : Type 0 where
   pub front : List Reply
   pub back : List Reply

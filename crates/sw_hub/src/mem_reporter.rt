@@ -73,6 +73,13 @@ impl MemReporter {
         Ok(())
     }
 
+    /// How many calls failed. The number stands still at the end of its type.
+    pub fn faults(&self) -> u64
+        ensures { result ≡ self.now.faults }
+    {
+        self.faults
+    }
+
     /// How many calls found no memory. The number stands still at the end of its type.
     pub fn starved(&self) -> u64
         ensures { result ≡ self.now.starved }

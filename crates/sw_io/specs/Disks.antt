@@ -1,11 +1,10 @@
 -- What a disk says of a folder: the files that it holds now and those that it will hold, listing by listing. This
 -- project's own rule; the endings are those of sheets (Sass reference documentation, "Syntax").
-use Rattle.std.specs.Prelude.{◌≡◌, ℕ, ◌≤◌, List, [], ◌∷◌, take, Bool, ◌||◌, bytes_eq, nat_eq, codes, Option, Some, None, option_map, Result, IfOk, OnErr, IsErrOf, if◌then◌else◌, ◌↔◌}
+use Rattle.std.specs.Prelude.{◌≡◌, ℕ, List, [], ◌∷◌, take, Bool, ◌||◌, bytes_eq, nat_eq, codes, Option, Some, None, option_map, Result, IfOk, OnErr, IsErrOf, if◌then◌else◌, ◌↔◌}
 use Rattle.std.specs.List.{Contains, ends_with}
 use Rattle.std.specs.List.Sorted.{IsPermutation}
 use Rattle.sw_io.specs.declared.disk.DiskEnd.{DiskEnd}
 use Rattle.sw_io.specs.declared.disk.DiskEnd.TheVariants.{Failed}
-use Rattle.sw_io.specs.Causes.{Rose}
 use Rattle.sw_io.specs.Memory.{call_after}
 
 -- a path in the folder, and the bytes there
@@ -60,11 +59,6 @@ pub record Reads (before now : List ℕ → Option Course) (dir path : List ℕ)
     (result : Result (Option (List ℕ)) DiskEnd) : Type 0 where
   pub found : IfOk result (λ bytes. (c : Course) → before dir ≡ Some c → bytes ≡ read_of c.files path)
   pub kept : (other : List ℕ) → now other ≡ before other
-
--- the count of faults didn't fall, and rose where the disk failed
-pub record HasDiskCause {T : Type 0} (before now : ℕ) (result : Result T DiskEnd) : Type 0 where
-  pub later : before ≤ now
-  pub failed : IsErrOf result Failed → Rose before now
 
 -- a disk in memory: what its folders are, the numbers of the calls that fail, the calls so far and the faults so far
 pub record Shelves : Type 0 where

@@ -1,7 +1,8 @@
 // What holds the files of folders.
 ghost use Rattle.std.specs.Prelude.{ℕ, List};
 ghost use Rattle.std.specs.declared.option.Option.{Option};
-ghost use Rattle.sw_io.specs.Disks.{Course, Lists, Reads, HasDiskCause};
+ghost use Rattle.sw_io.specs.Causes.{Cause};
+ghost use Rattle.sw_io.specs.Disks.{Course, Lists, Reads};
 
 use std::alloc::Global;
 use sw_text::{List, Name};
@@ -26,10 +27,10 @@ pub trait Disk {
     /// The folder's next files come first, where there are any.
     fn list(&mut self, alloc: Global, dir: &str) -> Result<List<Name>, DiskEnd>
         ensures folder { Lists (course self.old) (course self.new) dir.now result }
-        ensures cause { HasDiskCause (faults self.old) (faults self.new) result };
+        ensures cause { Cause DiskEnd.Failed (faults self.old) (faults self.new) result };
 
     /// The bytes of a file of the folder as it was listed, at most 1,048,577 of them; `None` where it has no such file.
     fn read(&mut self, alloc: Global, dir: &str, path: &str) -> Result<Option<List<u8>>, DiskEnd>
         ensures folder { Reads (course self.old) (course self.new) dir.now path.now result }
-        ensures cause { HasDiskCause (faults self.old) (faults self.new) result };
+        ensures cause { Cause DiskEnd.Failed (faults self.old) (faults self.new) result };
 }

@@ -1,6 +1,6 @@
 // A disk over the folders of a file system: the edge to real files.
 ghost use Rattle.std.specs.Prelude.{◌≡◌, ◌≤◌};
-ghost use Rattle.sw_io.specs.Causes.{Rose};
+ghost use Rattle.sw_io.specs.Causes.{NoFault, Rose};
 ghost use Rattle.sw_io.specs.declared.disk.DiskEnd.TheVariants as D;
 
 use crate::disk::{Disk, DiskEnd};
@@ -34,6 +34,7 @@ impl<R: Files + AllocGlobal + Clone + Drop> FolderDisk<R> {
     fn end_of(&mut self, error: &io::Error) -> DiskEnd
         ensures later { self.old.faults ≤ self.new.faults }
         ensures rose { result ≡ D.Failed → Rose self.old.faults self.new.faults }
+        ensures fine { result ≡ D.Memory → NoFault self.old.faults self.new.faults }
     {
         if error.kind() == ErrorKind::OutOfMemory {
             return DiskEnd::Memory;

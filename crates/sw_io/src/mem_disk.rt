@@ -1,7 +1,7 @@
 // A disk in memory that fails at the calls whose numbers are listed.
-ghost use Rattle.std.specs.Prelude.{◌≡◌, ◌≤◌, ◌↔◌, IsTrue};
+ghost use Rattle.std.specs.Prelude.{◌≡◌, ◌≤◌, ◌↔◌, IsTrue, IsFalse};
 ghost use Rattle.std.specs.List.{Contains};
-ghost use Rattle.sw_io.specs.Causes.{Rose};
+ghost use Rattle.sw_io.specs.Causes.{NoFault, Rose};
 ghost use Rattle.sw_io.specs.Disks.{shelves};
 ghost use Rattle.sw_io.specs.Memory.{call_after};
 
@@ -50,6 +50,13 @@ impl MemDisk {
         }
     }
 
+    /// How many calls failed. The number stands still at the end of its type.
+    pub fn faults(&self) -> u64
+        ensures { result ≡ self.now.faults }
+    {
+        self.faults
+    }
+
     // One call more; whether it fails.
     fn fails(&mut self) -> bool
         ensures failed { IsTrue result ↔ Contains self.old.fail (call_after self.old.calls) }
@@ -58,6 +65,7 @@ impl MemDisk {
         ensures calls { self.new.calls ≡ call_after self.old.calls }
         ensures later { self.old.faults ≤ self.new.faults }
         ensures rose { IsTrue result → Rose self.old.faults self.new.faults }
+        ensures fine { IsFalse result → NoFault self.old.faults self.new.faults }
     {
         self.calls = self.calls.saturating_add(1);
         let fails = is_listed(&self.fail, self.calls);
@@ -70,7 +78,8 @@ impl MemDisk {
 
 impl Disk for MemDisk {
     ghost use Rattle.std.specs.Prelude.{Some};
-    ghost use Rattle.sw_io.specs.Disks.{Lists, Reads, HasDiskCause, DiskFailsAsListed};
+    ghost use Rattle.sw_io.specs.Causes.{Cause};
+    ghost use Rattle.sw_io.specs.Disks.{Lists, Reads, DiskFailsAsListed};
 
     ghost course = { λ disk dir. Some disk.course };
 
@@ -78,7 +87,7 @@ impl Disk for MemDisk {
 
     fn list(&mut self, alloc: Global, dir: &str) -> Result<List<Name>, DiskEnd>
         ensures folder { Lists (λ dir. Some self.old.course) (λ dir. Some self.new.course) dir.now result }
-        ensures cause { HasDiskCause self.old.faults self.new.faults result }
+        ensures cause { Cause DiskEnd.Failed self.old.faults self.new.faults result }
         ensures calls { DiskFailsAsListed self.old self.new result }
     {
         let _ = dir;
@@ -93,7 +102,7 @@ impl Disk for MemDisk {
 
     fn read(&mut self, alloc: Global, dir: &str, path: &str) -> Result<Option<List<u8>>, DiskEnd>
         ensures folder { Reads (λ dir. Some self.old.course) (λ dir. Some self.new.course) dir.now path.now result }
-        ensures cause { HasDiskCause self.old.faults self.new.faults result }
+        ensures cause { Cause DiskEnd.Failed self.old.faults self.new.faults result }
         ensures calls { DiskFailsAsListed self.old self.new result }
     {
         let _ = dir;

@@ -52,6 +52,13 @@ impl MemSource {
             faults: 0,
         }
     }
+
+    /// How many calls failed. The number stands still at the end of its type.
+    pub fn faults(&self) -> u64
+        ensures { result ≡ self.now.faults }
+    {
+        self.faults
+    }
 }
 
 impl Source for MemSource {

@@ -2,7 +2,7 @@
 ghost use Rattle.std.specs.Prelude.{◌≡◌, ◌≤◌, ℕ, List, [], ◌∷◌, ◌++◌, length, take, drop, vec_len, IfOk, IfErr, OnOk, OnErr};
 ghost use Rattle.std.specs.Option.{option_to_list, IfNone};
 ghost use Rattle.std.specs.Io.KnownBytes.{IsAtEnd};
-ghost use Rattle.sw_io.specs.Causes.{HasCause};
+ghost use Rattle.sw_io.specs.Causes.{HasCause, Cause};
 ghost use Rattle.sw_io.specs.Reads.{Reads};
 ghost use Rattle.sw_io.specs.Lines.{Line, split_line};
 ghost use Rattle.sw_io.specs.Ends.{LineEnds, RunEnds};
@@ -108,7 +108,7 @@ impl Reader {
             × Reads self.old (S.left source.old) used self.new (S.left source.new)
             × LineEnds stop used self.new (S.left source.new) (S.faults source.old) (S.faults source.new)) }
         ensures bound { OnOk result (length self.new ≤ 4096) }
-        ensures later { S.faults source.old ≤ S.faults source.new }
+        ensures cause { Cause ReadStop.Failed (S.faults source.old) (S.faults source.new) result }
     {
         line.clear();
         for _ in 0..=MAX_LINE {
@@ -133,7 +133,7 @@ impl Reader {
         ensures err { IfErr result (λ stop. (used : List ℕ)
             × Reads self.old (S.left source.old) used self.new (S.left source.new)
             × RunEnds stop count used self.new (S.left source.new) (S.faults source.old) (S.faults source.new)) }
-        ensures later { S.faults source.old ≤ S.faults source.new }
+        ensures cause { Cause ReadStop.Failed (S.faults source.old) (S.faults source.new) result }
     {
         out.clear();
         while out.len() < count {
@@ -156,7 +156,7 @@ impl Reader {
         ensures err { IfErr result (λ stop. (used : List ℕ)
             × Reads self.old (S.left source.old) used self.new (S.left source.new)
             × RunEnds stop count used self.new (S.left source.new) (S.faults source.old) (S.faults source.new)) }
-        ensures later { S.faults source.old ≤ S.faults source.new }
+        ensures cause { Cause ReadStop.Failed (S.faults source.old) (S.faults source.new) result }
     {
         let mut left = count;
         while left > 0 {

@@ -1,11 +1,11 @@
-// What is read and written, and when a call may fail: only where the object's own count of faults rose in that call.
+// What is read and written, and when a call fails: exactly where the object's own count of faults rose in that call.
 ghost use Rattle.std.specs.Prelude.{◌≡◌, ◌<◌, ℕ, List, length, IfOk};
 ghost use Rattle.std.specs.declared.option.Option.{Option};
 ghost use Rattle.std.specs.Io.{ReadsAtMost, WritesAtMost};
 ghost use Rattle.std.specs.Io.KnownBytes.{Keeps, ReadConsumes, WriteAppends};
 ghost use Rattle.sw_io.specs.Causes.{HasCause};
 
-/// The object itself failed. Its count of faults tells so.
+/// The object itself failed. Its count of faults rose by one, and rises at no other call.
 #[derive(Clone, Copy, Debug, PartialEq, Eq)]
 pub struct Failed;
 

@@ -1,18 +1,19 @@
 // The disk of a row.
+use crate::failing::{Failing, Object, failing_calls};
 use crate::row::{File, Row};
 use std::alloc::{AllocError, Global};
 use sw_io::{Folder, MemDisk};
 use sw_text::{List, Name};
 
-/// A disk in memory with the folders of a row, some calls of which fail.
-pub fn disk_of(alloc: Global, row: &Row) -> Result<MemDisk, AllocError> {
+/// A disk in memory with the folders of a row, some calls of which fail. An error exactly where no memory was found.
+pub fn disk_of(alloc: Global, row: &Row, failing: Option<Failing>) -> Result<MemDisk, AllocError> {
     let mut folders = List::new(alloc);
     for folder in row.folders.iter() {
         folders
             .push(folder_of(alloc, folder)?)
             .map_err(|_| AllocError)?;
     }
-    let fails = List::from_vec(row.disk_fails.to_vec(alloc)?);
+    let fails = failing_calls(alloc, Object::Disk, &row.disk_fails, failing)?;
     Ok(MemDisk::new(alloc, folders, fails))
 }
 

@@ -1,14 +1,15 @@
 // Who is told of a row's replies, and what has to have come of it.
+use crate::failing::{Failing, Object, failing_calls};
 use crate::row::Row;
 use std::alloc::{AllocError, Global};
 use sw_hub::{Hub, MemReporter, Reporter};
-use sw_text::List;
 
-/// How many replies were heard, and whether the reporter fell silent.
+/// How many replies were heard, whether the reporter fell silent, and how many calls failed.
 #[derive(Clone, Copy, Debug, PartialEq, Eq)]
 pub struct Heard {
     pub count: u64,
     pub is_silent: bool,
+    pub faults: u64,
 }
 
 /// A reporter: the numbers of its calls that fail, and what has to have come of it.
@@ -33,16 +34,29 @@ impl Listener {
             }
         }
         let count = count.parse::<u64>().unwrap_or(u64::MAX);
-        let wanted = Heard { count, is_silent };
+        let wanted = Heard {
+            count,
+            is_silent,
+            faults: if is_silent { 1 } else { 0 },
+        };
         Ok(Listener { fails, wanted })
     }
 }
 
 /// The reporters of a row, in order, attached.
 pub fn hub_of(alloc: Global, row: &Row) -> Result<Hub<MemReporter>, AllocError> {
+    hub_with(alloc, row, None)
+}
+
+/// The same, where one call more may fail.
+pub fn hub_with(
+    alloc: Global,
+    row: &Row,
+    failing: Option<Failing>,
+) -> Result<Hub<MemReporter>, AllocError> {
     let mut hub: Hub<MemReporter> = Hub::new(alloc);
-    for listener in row.listeners.iter() {
-        let fails = List::from_vec(listener.fails.to_vec(alloc)?);
+    for (number, listener) in row.listeners.iter().enumerate() {
+        let fails = failing_calls(alloc, Object::Reporter(number), &listener.fails, failing)?;
         if hub.attach(MemReporter::new(alloc, fails)).is_err() {
             return Err(AllocError);
         }
@@ -66,6 +80,7 @@ pub fn heard_by(
             all.push(Heard {
                 count: count.unwrap_or(u64::MAX),
                 is_silent,
+                faults: reporter.faults(),
             })?;
         }
         number = number.saturating_add(1);

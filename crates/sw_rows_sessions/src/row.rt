@@ -1,6 +1,7 @@
 // A row: what is sent, and what has to come of it.
 ghost use Rattle.std.specs.Prelude.{◌≤◌};
 
+use crate::hosts::RowHost;
 use crate::listeners::Listener;
 use std::alloc::{AllocError, Global};
 use sw_text::Name;
@@ -45,9 +46,13 @@ pub struct Row {
     pub folders: Vec<Vec<File>>,
     /// The calls of the disk that fail.
     pub disk_fails: Vec<u32>,
+    /// The calls of the sink that fail.
+    pub sink_fails: Vec<u32>,
+    /// The functions of the host, in order of attaching.
+    pub hosts: Vec<RowHost>,
     /// Those who are told of the replies.
     pub listeners: Vec<Listener>,
-    /// Whether each read and each write fails in turn.
+    /// Whether each call of each object fails in turn.
     pub breaks: bool,
     /// Whether the row is told wrongly on purpose, and has to come out otherwise.
     pub is_wrong: bool,
@@ -70,6 +75,8 @@ impl Row {
             look,
             folders: Vec::new(alloc),
             disk_fails: Vec::new(alloc),
+            sink_fails: Vec::new(alloc),
+            hosts: Vec::new(alloc),
             listeners: Vec::new(alloc),
             breaks: false,
             is_wrong: false,
@@ -139,6 +146,26 @@ impl Row {
         &self.wanted
     }
 
+    /// What is written before the call of the disk with this number, where each reply is that to a scan: one listing,
+    /// and then a reading of each file of the folder that then comes, or of the last one.
+    pub fn scanned_before(&self, call: usize) -> &[u8] {
+        let mut left = call.saturating_sub(1);
+        let mut replied = 0usize;
+        let last = self.folders.len().saturating_sub(1);
+        for (at, mark) in self.marks.iter().enumerate() {
+            let files = match self.folders.get(at.min(last)) {
+                Some(folder) => folder.len(),
+                None => 0,
+            };
+            if left <= files {
+                return self.wanted.get(..replied).unwrap_or(&[]);
+            }
+            left -= files.saturating_add(1);
+            replied = mark.replied;
+        }
+        self.wanted.get(..replied).unwrap_or(&[])
+    }
+
     /// The disk's next folder, with no file yet.
     pub fn add_folder(&mut self, alloc: Global) -> Result<(), AllocError> {
         self.folders.push(Vec::new(alloc))?;
@@ -159,12 +186,12 @@ impl Row {
     /// Adds the numbers of calls of the disk that fail, from 1, with a space between two; what is no number is passed
     /// over. An error exactly where no memory was found.
     pub fn set_disk_fails(&mut self, numbers: &str) -> Result<(), AllocError> {
-        for number in numbers.split(' ') {
-            if let Ok(number) = number.parse::<u32>() {
-                self.disk_fails.push(number)?;
-            }
-        }
-        Ok(())
+        add_numbers(numbers, &mut self.disk_fails)
+    }
+
+    /// The same of the calls of the sink.
+    pub fn set_sink_fails(&mut self, numbers: &str) -> Result<(), AllocError> {
+        add_numbers(numbers, &mut self.sink_fails)
     }
 
     /// Puts these words, with spaces between, in the place of those of the command line. An error exactly where no
@@ -178,6 +205,16 @@ impl Row {
         }
         Ok(())
     }
+}
+
+// The numbers among words with a space between two.
+fn add_numbers(text: &str, numbers: &mut Vec<u32>) -> Result<(), AllocError> {
+    for number in text.split(' ') {
+        if let Ok(number) = number.parse::<u32>() {
+            numbers.push(number)?;
+        }
+    }
+    Ok(())
 }
 
 fn word(alloc: Global, text: &str) -> Result<Name, AllocError> {

@@ -1,5 +1,6 @@
 // Rows that are whole sessions: requests, each with its reply.
 use crate::archive::Section;
+use crate::hosts::RowHost;
 use crate::listeners::Listener;
 use crate::replies::add_reply;
 use crate::row::{Look, Row};
@@ -34,11 +35,19 @@ fn add_step(alloc: Global, row: &mut Row, head: &str, body: &str) -> Result<(), 
         "folder" => row.add_folder(alloc),
         "file" => add_file(alloc, row, rest, body),
         "disk-fails" => row.set_disk_fails(rest),
+        "sink-fails" => row.set_sink_fails(rest),
+        "host" => {
+            row.hosts.push(RowHost::read(alloc, rest)?)?;
+            Ok(())
+        }
         "reporter" => {
             row.listeners.push(Listener::read(alloc, rest)?)?;
             Ok(())
         }
-        "written" => add_unescaped(body, &mut row.wanted),
+        "written" => {
+            add_unescaped(body, &mut row.wanted)?;
+            row.mark()
+        }
         "send" => add_unescaped(body, &mut row.sent),
         "reply" => {
             add_reply(alloc, body, &mut row.wanted)?;

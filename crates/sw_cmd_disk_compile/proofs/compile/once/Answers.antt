@@ -1,4 +1,6 @@
 use Rattle.std.proofs.Common.{List, ℕ, refl, ap, ◌∙◌, subst}
+use Rattle.sw_io.specs.declared.disk.DiskEnd.TheVariants.{Failed, Memory}
+use Rattle.sw_io.proofs.Causes.{fine_ok, fine_else}
 use Rattle.sw_cmd_disk_folder.specs.Held.{IsRead, IsBrokenOff}
 use Rattle.sw_cmd_line.specs.Forms.{target_seen}
 use Rattle.sw_keeper.specs.Keeping.{Keeping}
@@ -29,3 +31,9 @@ pub returns-in-Err-Memory-clause-ends : goal.returns-in-Err-Memory-clause-ends
 returns-in-Err-Memory-clause-ends g c =
     let broken = subst (λ (d : List ℕ). IsBrokenOff (g.D.Disk.course c.args.disk.now d) (g.D.Disk.course c.read_folder.new.disk d)) c.as_str.ensures c.in-Err-Memory.ensures.err in
     (unread _ _ (g.K.Sink.written c.args.output.now.sink) (g.E.Engine.ran c.args.engine.now) broken, refl)
+
+pub returns-clause-no_disk_fault : goal.returns-clause-no_disk_fault
+returns-clause-no_disk_fault g c = λ _. fine_ok Failed _ _ _ c.in-Ok.ensures.cause
+
+pub returns-in-Err-Memory-clause-no_disk_fault : goal.returns-in-Err-Memory-clause-no_disk_fault
+returns-in-Err-Memory-clause-no_disk_fault g c = λ _. fine_else Failed _ _ Memory (λ e. cc) c.in-Err-Memory.ensures.cause

@@ -1,7 +1,10 @@
 use Rattle.std.proofs.Common.{◌<◌, ◌≤◌, refl, sym, ap, ◌∙◌, arith}
 use Rattle.std.proofs.lemmas.Bool.{lt-leb}
+use Rattle.std.proofs.lemmas.Result.{err_from_is_err_and}
 use Rattle.std.specs.FinMap as files
 use Rattle.sw_folder.specs.Files.{most_files}
+use Rattle.sw_io.specs.declared.disk.DiskEnd.TheVariants.{Failed}
+use Rattle.sw_io.proofs.Causes.{went_well, after_none, same_cause, fine_ok}
 use Rattle.sw_cmd_disk_folder.specs.Held.{held_by}
 use Rattle.sw_cmd_disk_folder.proofs.Steps.{texts, one_more, none_more, held_full, held_on, held_all}
 use Rattle.sw_cmd_disk_folder.proofs.reading.read_files.Goals as goal
@@ -13,7 +16,7 @@ paths-init g c = record {
   few = omega arith;
   kept = refl;
   rest = refl;
-  later = omega arith;
+  fine = refl;
   held = λ c' e. ap (held_by c'.files (texts c.args.paths.now)) (sym c.requires);
 }
 
@@ -38,7 +41,7 @@ paths-preserved g c =
       ];
       kept = o.kept ∙ i.kept;
       rest = o.rest ∙ i.rest;
-      later = omega (arith, i.later, o.cause.later);
+      fine = fine_ok Failed _ _ _ o.cause ∙ i.fine;
       held = λ c' e.
           let room : files.len (g.F.Holder.folder c.paths.holder) < most_files = omega (arith, i.count, c.if-count-ge-MOST_FILES.false) in
           i.held c' e ∙ held_on c'.files c.args.paths.now c.paths.path-index _ _ _ c.paths-test.true (lt-leb _ _ room) (o.ok c' (i.kept ∙ e));
@@ -46,3 +49,14 @@ paths-preserved g c =
 
 pub returns-clause-ok : goal.returns-clause-ok
 returns-clause-ok g c = λ c' e. sym (c.paths.invariant.held c' e ∙ held_all c'.files c.args.paths.now c.paths.path-index _ c.paths-test.false)
+
+pub returns-then-count-ge-MOST_FILES-clause-cause : goal.returns-then-count-ge-MOST_FILES-clause-cause
+returns-then-count-ge-MOST_FILES-clause-cause g c = went_well Failed _ _ _ c.paths.invariant.fine
+
+pub returns-in_err-read_file-clause-cause : goal.returns-in_err-read_file-clause-cause
+returns-in_err-read_file-clause-cause g c =
+    let p = err_from_is_err_and c.from_residual.result c.from_residual.ensures.1 in
+    rw (p.1, p.2) (after_none Failed _ _ _ _ c.paths.invariant.fine (same_cause Failed _ _ _ c.in_err-read_file.ensures.cause))
+
+pub returns-clause-cause : goal.returns-clause-cause
+returns-clause-cause g c = went_well Failed _ _ _ c.paths.invariant.fine

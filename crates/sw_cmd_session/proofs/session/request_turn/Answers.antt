@@ -9,7 +9,7 @@ use Rattle.sw_modules.specs.Fresh.{setting_of}
 use Rattle.sw_parse_file.specs.Files.{sheet_at}
 use Rattle.sw_cmd_session.specs.Transcript.{holding, session}
 use Rattle.sw_cmd_session.proofs.Turning.{given_by, line_answers, line_breaks, put_answers, put_ends, not_source}
-use Rattle.sw_cmd_session.proofs.session.turn.Goals as goal
+use Rattle.sw_cmd_session.proofs.session.request_turn.Goals as goal
 
 pub returns-in-Compile-clause-ok : goal.returns-in-Compile-clause-ok
 returns-in-Compile-clause-ok g c =
@@ -51,6 +51,7 @@ pub returns-in-Remove-clause-source_cause : goal.returns-in-Remove-clause-source
 returns-in-Remove-clause-source_cause g c = record {
   later = omega arith;
   rose = not_source _ c.remove.result (λ x. x (setting_of g.H.Hosts.answer g.H.Hosts.after sheet_at g.E.Engine.body) (g.H.Hosts.state c.args.hosts.now) (g.E.Engine.ran c.args.engine.now)) c.remove.ensures.err;
+  fine = λ _. refl;
 }
 
 pub returns-in-Put-clause-ok : goal.returns-in-Put-clause-ok

@@ -1,4 +1,4 @@
-use Rattle.std.proofs.Common.{sym, ap, ◌∙◌, arith}
+use Rattle.std.proofs.Common.{refl, sym, ap, ◌∙◌, arith}
 use Rattle.sw_cmd_line.specs.Forms.{target_seen}
 use Rattle.sw_cmd_protocol.specs.Heard.{told_of}
 use Rattle.sw_cmd_protocol.specs.Turns.{standing}
@@ -7,7 +7,7 @@ use Rattle.sw_cmd_session.specs.Sheets.{hostless}
 use Rattle.sw_cmd_session.proofs.Turning.{not_source}
 use Rattle.sw_cmd_run.specs.Poll.{held, word_of}
 use Rattle.sw_cmd_run.proofs.Lines.{line_closes, line_is_wrong, scan_answers, scan_stops}
-use Rattle.sw_cmd_run.proofs.poll.turn.Goals as goal
+use Rattle.sw_cmd_run.proofs.poll.scan_turn.Goals as goal
 
 pub returns-in-Scan-clause-ok : goal.returns-in-Scan-clause-ok
 returns-in-Scan-clause-ok g c =
@@ -31,7 +31,7 @@ returns-in-Scan-clause-err g c =
 
 -- a scan doesn't look at the source
 pub returns-in-Scan-clause-source_cause : goal.returns-in-Scan-clause-source_cause
-returns-in-Scan-clause-source_cause g c = record { later = omega arith; rose = not_source _ c.scan.result (λ x. x) c.scan.ensures.err }
+returns-in-Scan-clause-source_cause g c = record { later = omega arith; rose = not_source _ c.scan.result (λ x. x) c.scan.ensures.err; fine = λ _. refl }
 
 pub returns-in-End-clause-err : goal.returns-in-End-clause-err
 returns-in-End-clause-err g c =
