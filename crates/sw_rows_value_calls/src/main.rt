@@ -1,9 +1,10 @@
-//! Runs the rows that are calls of values, of their operators and functions, and of scopes, and tells which of them
-//! give what they say. Lines flow in, each becomes a call of its library, and a line for each file flows out.
+//! Runs the rows that are calls of values, of their operators and functions, of scopes and of hosts, and tells which of
+//! them give what they say. Lines flow in, each becomes a call of its library, and a line for each file flows out.
 #![tactic(auto)]
 
 mod built_ins;
 mod functions;
+mod hosts;
 mod operators;
 mod reader;
 mod scopes;
@@ -30,6 +31,7 @@ impl Libraries for Above {
             "arguments" | "scopes" => scopes::answer(alloc, name, text),
             "built_ins" => built_ins::answer(alloc, name, text),
             "colour_functions" => functions::colours(alloc, name, text),
+            "hosts" => hosts::answer(alloc, name, text),
             "lists" => functions::lists(alloc, name, text),
             "maps" => functions::maps(alloc, name, text),
             "math" => functions::math(alloc, name, text),
