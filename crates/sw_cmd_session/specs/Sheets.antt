@@ -5,7 +5,7 @@ use Rattle.sw_values.specs.declared.plain.Plain.{Plain}
 use Rattle.sw_world.specs.Hosts.{HostState}
 use Rattle.sw_world.specs.Body.{BodyOf}
 use Rattle.sw_modules.specs.Outside.{Functions}
-use Rattle.sw_modules.specs.Fresh.{Setting}
+use Rattle.sw_modules.specs.Fresh.{Setting, setting_of}
 
 -- functions of a host: what they answer, and what they are then
 abbrev pub functions : (HostState → List ℕ → List Plain → Option Plain) → (HostState → List ℕ → List Plain → HostState)
@@ -18,7 +18,7 @@ no_functions = functions (λ state name args. None) (λ state name args. state)
 
 -- compiles of sheets that may call these functions of a host
 abbrev pub hosted : BodyOf → Functions → Setting
-hosted body host = record { functions = host; read = sheet_at; body = body }
+hosted body host = setting_of host.answer host.after sheet_at body
 
 -- compiles of sheets without functions of a host
 abbrev pub hostless : BodyOf → Setting
