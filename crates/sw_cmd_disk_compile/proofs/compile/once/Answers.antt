@@ -36,4 +36,4 @@ pub returns-clause-no_disk_fault : goal.returns-clause-no_disk_fault
 returns-clause-no_disk_fault g c = λ _. fine_ok Failed _ _ _ c.in-Ok.ensures.cause
 
 pub returns-in-Err-Memory-clause-no_disk_fault : goal.returns-in-Err-Memory-clause-no_disk_fault
-returns-in-Err-Memory-clause-no_disk_fault g c = λ _. fine_else Failed _ _ Memory (λ e. cc) c.in-Err-Memory.ensures.cause
+returns-in-Err-Memory-clause-no_disk_fault g c = λ _. fine_else Failed _ _ Memory (λ e. cc) (rw c.in-Err-Memory.field-0-is at c.in-Err-Memory.ensures.cause)

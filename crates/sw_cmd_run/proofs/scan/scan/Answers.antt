@@ -52,7 +52,7 @@ pub returns-in-Ok-clause-disk_cause : goal.returns-in-Ok-clause-disk_cause
 returns-in-Ok-clause-disk_cause g c = spared Stop.OutsideFailed _ _ c.compile.result c.compile.ensures.no_disk (fine_ok Failed _ _ _ c.in-Ok.ensures.cause)
 
 pub returns-in-Err-Failed-clause-disk_cause : goal.returns-in-Err-Failed-clause-disk_cause
-returns-in-Err-Failed-clause-disk_cause g c = let e = c.in-Err-Failed.ensures.cause in failed_so Stop.OutsideFailed _ _ e.later (e.rose refl)
+returns-in-Err-Failed-clause-disk_cause g c = let e = rw c.in-Err-Failed.field-0-is at c.in-Err-Failed.ensures.cause in failed_so Stop.OutsideFailed _ _ e.later (e.rose refl)
 
 pub returns-in-Err-Memory-clause-disk_cause : goal.returns-in-Err-Memory-clause-disk_cause
-returns-in-Err-Memory-clause-disk_cause g c = failed_else Stop.OutsideFailed _ _ Stop.Memory (λ e. cc) (fine_else Failed _ _ Memory (λ e. cc) c.in-Err-Memory.ensures.cause)
+returns-in-Err-Memory-clause-disk_cause g c = failed_else Stop.OutsideFailed _ _ Stop.Memory (λ e. cc) (fine_else Failed _ _ Memory (λ e. cc) (rw c.in-Err-Memory.field-0-is at c.in-Err-Memory.ensures.cause))
