@@ -5,14 +5,19 @@
 mod again;
 mod configs;
 mod laws;
+mod marks;
+mod replay;
 mod reply;
 mod run;
+mod same;
 mod tail;
 mod trace;
 
-pub use again::{Replayed, replay};
 pub use laws::ran_is_one;
+pub use marks::{first_marked, narrow};
+pub use replay::{Replayed, replay_all};
 pub use reply::{Cause, Outcome, Reply};
 pub use run::Run;
+pub use same::{has_same_pairs, is_alike};
 pub use tail::Tail;
 pub use trace::Trace;
