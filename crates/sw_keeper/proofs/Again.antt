@@ -19,8 +19,8 @@ use Rattle.sw_keeper.proofs.Parts.{advances_asked}
 
 module _ (setting : Setting) (runs : List Kept) (marks : List Bool) (from : ℕ) (on : AreTogether setting.body runs marks from) where
   -- what is known of a marked run
-  pub kept_of : (place : ℕ) (k : Kept) → IsMarked marks place → slice_get runs place ≡ Some k → IsKept setting.body k × (job_of k ≡ on.job) × Begins on.first k.run.seen
-  kept_of place k m here =
+  pub known_of : (place : ℕ) (k : Kept) → IsMarked marks place → slice_get runs place ≡ Some k → IsKept setting.body k × (job_of k ≡ on.job) × Begins on.first k.run.seen
+  known_of place k m here =
       let of = on.each place m in
       let same : of.kept ≡ k = one_at runs place of.kept k of.here here in
       (subst (λ (x : Kept). IsKept setting.body x) same of.is_kept, subst (λ (x : Kept). job_of x ≡ on.job) same of.same_job, subst (λ (x : Kept). Begins on.first x.run.seen) same of.begins)
@@ -28,7 +28,7 @@ module _ (setting : Setting) (runs : List Kept) (marks : List Bool) (from : ℕ)
   -- its body goes through its pairs
   pub goes_of : (place : ℕ) (k : Kept) → IsMarked marks place → slice_get runs place ≡ Some k → Goes (setting.body on.job) [] k.run.seen
   goes_of place k m here =
-      let known = kept_of place k m here in
+      let known = known_of place k m here in
       subst (λ (j : Job). Goes (setting.body j) [] k.run.seen) known.1 known.0.goes
 
   -- and through its first pairs
@@ -39,7 +39,7 @@ module _ (setting : Setting) (runs : List Kept) (marks : List Bool) (from : ℕ)
   -- these go on from those with which all begin
   pub begun_on : (place : ℕ) (pairs : List Pair) → IsMarked marks place → BeginsAt runs place pairs → from ≤ length pairs → (more : List Pair) × (pairs ≡ on.first ++ more)
   begun_on place pairs m b le =
-      prefix_of on.first pairs b.0.run.seen (kept_of place b.0 m b.1).2 b.2 (omega (arith, on.count, le))
+      prefix_of on.first pairs b.0.run.seen (known_of place b.0 m b.1).2 b.2 (omega (arith, on.count, le))
 
   module _ {W : Type 0} (gives : W → Question → Answer → W → Type 0) (view : W → Outside) (is : (w : W) (op : Question) (a : Answer) (t : W) → gives w op a t → plain setting.functions op (view w) ≡ (a, view t)) (in_time : EndsInTime setting.body) where
     pub asked_advances : (pairs more : List Pair) (w t : W) → pairs ≡ on.first ++ more → Goes (setting.body on.job) [] pairs → AskedFrom gives pairs from w t → Advances setting on.job on.first pairs [] (view w) (view t)
@@ -57,7 +57,7 @@ module _ (setting : Setting) (runs : List Kept) (marks : List Bool) (from : ℕ)
 
     pub asked_to : (r : Replayed) (w t : W) → IsReplay gives runs marks from r w t → AskedTo setting on.job runs marks on.first r (view w) (view t)
     asked_to (Same place) w t r =
-        let known = kept_of place r.0 r.1 r.2 in
+        let known = known_of place r.0 r.1 r.2 in
         (r.0, r.1, r.2, asked_advances r.0.run.seen known.2.0 w t known.2.1 (goes_of place r.0 r.1 r.2) r.3)
     asked_to (Load alive at) w t r =
         let here = (r.3 r.4.0).0 r.4.1 in

@@ -43,7 +43,7 @@ use Rattle.sw_keeper.proofs.More.{ran_none}
 use Rattle.sw_keeper.proofs.Rest.{calls_next, calls_opens}
 use Rattle.sw_keeper.proofs.Parts.{went_on}
 use Rattle.sw_keeper.proofs.Turns.{at_status, goes_seen}
-use Rattle.sw_keeper.proofs.Again.{kept_of, goes_begun, begun_advances}
+use Rattle.sw_keeper.proofs.Again.{known_of, goes_begun, begun_advances}
 use Rattle.sw_keeper.proofs.Replays.{advances_with}
 use Rattle.sw_keeper.proofs.Whole.{compiled_by}
 
@@ -192,7 +192,7 @@ module _ (setting : Setting) (runs : List Kept) (marks : List Bool) (at : ℕ) (
   load_cut now told_now cut =
       let asks : setting.body on.job (answers on.first) ≡ Asks op =
       (asks_at setting.body runs marks at on l.near l.kept l.pair l.marked l.here l.there).1 ∙ ap Asks (sym l.op_is) in
-      let goes = goes_begun setting runs marks at on l.near on.first l.marked (l.kept, l.here, (kept_of setting runs marks at on l.near l.kept l.marked l.here).2) in
+      let goes = goes_begun setting runs marks at on l.near on.first l.marked (l.kept, l.here, (known_of setting runs marks at on l.near l.kept l.marked l.here).2) in
       let next = calls_next setting on.job on.first o.outside op in_time goes asks in
       cut_front setting (calls_left setting on.job on.first o.outside) (calls_for (calls_within setting (room o.outside.live)) op o.outside) next.0 o.outside.hosts now o.told told_now next.1 cut
 

@@ -35,7 +35,7 @@ use Rattle.sw_keeper.proofs.Pairs.{goes_other}
 use Rattle.sw_keeper.proofs.Rest.{rest_ends}
 use Rattle.sw_keeper.proofs.Parts.{grown_join}
 use Rattle.sw_keeper.proofs.Loads.{did_read}
-use Rattle.sw_keeper.proofs.Again.{kept_of, goes_of}
+use Rattle.sw_keeper.proofs.Again.{known_of, goes_of}
 
 -- an assignment and a message can be answered in one way alone
 put_done : (owner name : List ℕ) (value : Plain) (a : Answer) → Fits (ops.Put owner name value) a → a ≡ Done
@@ -103,7 +103,7 @@ module _ (setting : Setting) (table : Table) (path text : List ℕ) (config : Li
       let lt = slice_get_within runs place k here in
       subst (λ (x : Kept). x.run.path ≡ path) (get_or_from_slice_get runs place k k here) (paths place k lt)
 
-  sound_at : (place : ℕ) (k : Kept) → slice_get runs place ≡ Some k → IsSound setting.read setting.body k
+  pub sound_at : (place : ℕ) (k : Kept) → slice_get runs place ≡ Some k → IsSound setting.read setting.body k
   sound_at place k here =
       let lt = slice_get_within runs place k here in
       subst (λ (x : Kept). IsSound setting.read setting.body x) (get_or_from_slice_get runs place k k here) (sound place k lt)
@@ -226,7 +226,7 @@ module _ (setting : Setting) (table : Table) (path text : List ℕ) (config : Li
     did_whole place k end o m t in_time did here end_is outside told results =
         let job : Job = record { sheet = sheet; config = config; path = path } in
         let e : did.kept ≡ k = one_at runs place did.kept k did.here here in
-        let known = kept_of setting runs marks 0 (together sheet reads some) place k did.marked here in
+        let known = known_of setting runs marks 0 (together sheet reads some) place k did.marked here in
         let job_is : job_of k ≡ job = known.1 in
         let is = alike_at place k did.marked here in
         let adv : Advances setting job [] k.run.seen did.new o.outside m.outside = subst (λ (x : Kept). Advances setting job [] x.run.seen did.new o.outside m.outside) e did.advances in

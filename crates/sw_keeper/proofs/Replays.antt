@@ -26,7 +26,7 @@ use Rattle.sw_keeper.specs.Steps.{Moment, Grown, Advances, DidRespond}
 use Rattle.sw_keeper.specs.Replays.{AskedTo, DidTurn, GoneTo, DidAgree, DidDepart, IsDeparture}
 use Rattle.sw_keeper.proofs.Pairs.{goes_other, fits_behind}
 use Rattle.sw_keeper.proofs.Parts.{advances_none, advances_join, advances_load, grown_none, grown_join}
-use Rattle.sw_keeper.proofs.Again.{kept_of, goes_of}
+use Rattle.sw_keeper.proofs.Again.{known_of, goes_of}
 
 -- where a run departs from these pairs
 module _ (runs : List Kept) (near at : ℕ) (pairs : List Pair) (op : Question) (answer : Answer) (count : length pairs ≡ at) (departs : DepartsAt runs near pairs op answer) where

@@ -1,4 +1,5 @@
 use Rattle.std.proofs.Common.{◌≡◌, ◌<◌, ◌++◌, [], length, arith, rules, Ok, true, false, Some, ap, subst, ◌∙◌, refl, sym}
+use Rattle.std.proofs.lemmas.Option.{slice_get_within}
 use Rattle.sw_world.specs.Body.{Goes, Ends, answers}
 use Rattle.sw_world.specs.Questions.{IsLoad}
 use Rattle.sw_world.specs.Progress.{stops, ran_by}
@@ -10,12 +11,13 @@ use Rattle.sw_record.specs.Together.{AreTogether, AreAtLoads}
 use Rattle.sw_record.proofs.Together.{together_left}
 use Rattle.sw_keeper.specs.Steps.{DidEnd, DiffersBy, moment_of}
 use Rattle.sw_keeper.specs.Cuts.{CutOff, BodyCut}
-use Rattle.sw_keeper.specs.Replays.{DidTurn}
+use Rattle.sw_keeper.specs.Replays.{DidTurn, DidReplay}
 use Rattle.sw_keeper.specs.declared.loading.Came.{Came}
+use Rattle.sw_keeper.specs.declared.evaluate.Ending.{Ending}
 use Rattle.sw_keeper.proofs.Turns.{is_body_given, turned_load, turned_end, runs_none, runs_on, runs_shorter, runs_end, ended_goes, ended_ends, added}
 use Rattle.sw_keeper.proofs.Loads.{fits_load, did_answered, did_opened, did_read, did_not_read}
 use Rattle.sw_keeper.proofs.Replays.{turn_same, differs_can, turn_differs, gone_load, are_loads, gone_none, turn_join, gone_within, turn_loaded, all_fit}
-use Rattle.sw_keeper.proofs.Ends.{reads_at, together, known_differs, none_alike, known_goes, did_known, did_whole}
+use Rattle.sw_keeper.proofs.Ends.{reads_at, sound_at, together, known_differs, none_alike, known_goes, did_known, did_whole}
 use Rattle.sw_keeper.proofs.Cuts.{cut_none, cut_at, load_calls, evaluated_all, turn_cut, run_cut, ended_cut, gone_cut, differs_cut, load_cut, after_load_cut, read_cut, agreed_cut, departed_cut}
 use Rattle.sw_keeper.proofs.evaluate.+evaluate.Goals as goal
 
@@ -283,4 +285,86 @@ evaluate_anew-returns-in_err-read_sheet-clause-cut g t c =
 pub evaluate_anew-returns-in_err-end-in-Ok-clause-cut : goal.evaluate_anew-returns-in_err-end-in-Ok-clause-cut
 evaluate_anew-returns-in_err-end-in-Ok-clause-cut g t c =
     let cut = read_cut (setting_of g.H.Hosts.answer g.H.Hosts.after g.R.Reader.reads g.E.Engine.body) c.args.opening.now.path c.args.opening.now.text c.args.opening.now.config c.in-Ok.sheet (record { live = c.args.moment.now.live; hosts = g.H.Hosts.state c.args.hosts.now }) (g.H.Hosts.state c.run_body.new.hosts) (g.E.Engine.ran c.args.engine.now) (g.E.Engine.ran c.run_body.new.engine) (sym c.in_ok-read_sheet.ensures ∙ c.in-Ok.is) c.in_err-end-in-Ok.ensures.cut in
+    search (rules, cut)
+
+pub evaluate-evaluate_anew-requires-clause-none : goal.evaluate-evaluate_anew-requires-clause-none
+evaluate-evaluate_anew-requires-clause-none g t c =
+    none_alike (setting_of g.H.Hosts.answer g.H.Hosts.after g.R.Reader.reads g.E.Engine.body) c.args.within.now.kept.now c.args.opening.now.path c.args.opening.now.text c.args.opening.now.config c.runs-runs.result.now c.alike_of-alive.result c.runs-runs.ensures.same c.runs-runs.ensures.path c.runs-runs.ensures.sound c.alike_of-alive.ensures c.in_default.ensures
+
+pub evaluate-replay_runs-requires : goal.evaluate-replay_runs-requires
+evaluate-replay_runs-requires g t c κs within =
+    let is = (c.alike_of-alive.ensures c.in-Some.first).0 c.in-Some.ensures in
+    let reads = reads_at (setting_of g.H.Hosts.answer g.H.Hosts.after g.R.Reader.reads g.E.Engine.body) c.args.within.now.kept.now c.args.opening.now.path c.args.opening.now.text c.args.opening.now.config c.runs-runs.result.now c.alike_of-alive.result c.runs-runs.ensures.same c.runs-runs.ensures.path c.runs-runs.ensures.sound c.alike_of-alive.ensures c.in-Some.first is.0 c.in-Some.ensures is.1 in
+    let on = together (setting_of g.H.Hosts.answer g.H.Hosts.after g.R.Reader.reads g.E.Engine.body) c.args.within.now.kept.now c.args.opening.now.path c.args.opening.now.text c.args.opening.now.config c.runs-runs.result.now c.alike_of-alive.result c.runs-runs.ensures.same c.runs-runs.ensures.path c.runs-runs.ensures.sound c.alike_of-alive.ensures is.0.sheet reads (c.in-Some.first, c.in-Some.ensures) in
+    let together : AreTogether g.E.Engine.body c.runs-runs.result.now c.alike_of-alive.result 0 = on in
+    search (rules, together)
+
+pub evaluate-returns-in_err-ending-clause-cut : goal.evaluate-returns-in_err-ending-clause-cut
+evaluate-returns-in_err-ending-clause-cut g t c =
+    let is = (c.alike_of-alive.ensures c.in-Some.first).0 c.in-Some.ensures in
+    let reads = reads_at (setting_of g.H.Hosts.answer g.H.Hosts.after g.R.Reader.reads g.E.Engine.body) c.args.within.now.kept.now c.args.opening.now.path c.args.opening.now.text c.args.opening.now.config c.runs-runs.result.now c.alike_of-alive.result c.runs-runs.ensures.same c.runs-runs.ensures.path c.runs-runs.ensures.sound c.alike_of-alive.ensures c.in-Some.first is.0 c.in-Some.ensures is.1 in
+    let on = together (setting_of g.H.Hosts.answer g.H.Hosts.after g.R.Reader.reads g.E.Engine.body) c.args.within.now.kept.now c.args.opening.now.path c.args.opening.now.text c.args.opening.now.config c.runs-runs.result.now c.alike_of-alive.result c.runs-runs.ensures.same c.runs-runs.ensures.path c.runs-runs.ensures.sound c.alike_of-alive.ensures is.0.sheet reads (c.in-Some.first, c.in-Some.ensures) in
+    let cut = read_cut (setting_of g.H.Hosts.answer g.H.Hosts.after g.R.Reader.reads g.E.Engine.body) c.args.opening.now.path c.args.opening.now.text c.args.opening.now.config is.0.sheet (record { live = c.args.moment.now.live; hosts = g.H.Hosts.state c.args.hosts.now }) (g.H.Hosts.state c.replay_runs.new.hosts) (g.E.Engine.ran c.args.engine.now) (g.E.Engine.ran c.replay_runs.new.engine) reads (c.in_err-replay_runs.ensures.cut on) in
+    search (rules, cut)
+
+pub evaluate-run_at-requires-in-Departs : goal.evaluate-run_at-requires-in-Departs
+evaluate-run_at-requires-in-Departs g t c =
+    slice_get_within c.runs-runs.result.now c.in-Some.first ((c.alike_of-alive.ensures c.in-Some.first).0 c.in-Some.ensures).0 ((c.alike_of-alive.ensures c.in-Some.first).0 c.in-Some.ensures).1
+
+pub evaluate-run_body-requires-in-Departs : goal.evaluate-run_body-requires-in-Departs
+evaluate-run_body-requires-in-Departs g t c κs within =
+    let reads : g.R.Reader.reads c.args.opening.now.path c.args.opening.now.text ≡ Ok c.sheet-in-Departs.result.now = reads_at (setting_of g.H.Hosts.answer g.H.Hosts.after g.R.Reader.reads g.E.Engine.body) c.args.within.now.kept.now c.args.opening.now.path c.args.opening.now.text c.args.opening.now.config c.runs-runs.result.now c.alike_of-alive.result c.runs-runs.ensures.same c.runs-runs.ensures.path c.runs-runs.ensures.sound c.alike_of-alive.ensures c.in-Some.first c.run_at-in-Departs.result.now c.in-Some.ensures c.run_at-in-Departs.ensures ∙ ap Ok (sym c.sheet-in-Departs.ensures) in
+    let on = together (setting_of g.H.Hosts.answer g.H.Hosts.after g.R.Reader.reads g.E.Engine.body) c.args.within.now.kept.now c.args.opening.now.path c.args.opening.now.text c.args.opening.now.config c.runs-runs.result.now c.alike_of-alive.result c.runs-runs.ensures.same c.runs-runs.ensures.path c.runs-runs.ensures.sound c.alike_of-alive.ensures c.sheet-in-Departs.result.now reads (c.in-Some.first, c.in-Some.ensures) in
+    let did = subst (λ (x : Ending). DidReplay (setting_of g.H.Hosts.answer g.H.Hosts.after g.R.Reader.reads g.E.Engine.body) c.args.within.now.kept.now on.job c.runs-runs.result.now c.alike_of-alive.result [] x (moment_of c.args.moment.now.live (g.H.Hosts.state c.args.hosts.now) c.args.moment.now.results (g.E.Engine.ran c.args.engine.now)) (moment_of c.replay_runs.new.moment.live (g.H.Hosts.state c.replay_runs.new.hosts) c.replay_runs.new.moment.results (g.E.Engine.ran c.replay_runs.new.engine))) c.in-Departs.is (c.in_ok-replay_runs.ensures.did on) in
+    let goes : Goes (g.E.Engine.body (record { sheet = c.sheet-in-Departs.result.now; config = c.args.opening.now.config; path = c.args.opening.now.path })) [] c.as_slice-known.result.now = subst (λ l. Goes (g.E.Engine.body (record { sheet = c.sheet-in-Departs.result.now; config = c.args.opening.now.config; path = c.args.opening.now.path })) [] l) (sym c.as_slice-known.ensures) (known_goes (setting_of g.H.Hosts.answer g.H.Hosts.after g.R.Reader.reads g.E.Engine.body) c.args.within.now.kept.now c.args.opening.now.path c.args.opening.now.text c.args.opening.now.config c.runs-runs.result.now c.alike_of-alive.result c.runs-runs.ensures.same c.runs-runs.ensures.path c.runs-runs.ensures.sound c.alike_of-alive.ensures c.sheet-in-Departs.result.now reads (c.in-Some.first, c.in-Some.ensures) c.in-Departs.departure did.departs) in
+    let differs : DiffersBy c.args.within.now.kept.now c.args.opening.now.path c.args.opening.now.text c.args.opening.now.config c.as_slice-known.result.now c.in-Departs.departure.cause = subst (λ l. DiffersBy c.args.within.now.kept.now c.args.opening.now.path c.args.opening.now.text c.args.opening.now.config l c.in-Departs.departure.cause) (sym c.as_slice-known.ensures) (known_differs (setting_of g.H.Hosts.answer g.H.Hosts.after g.R.Reader.reads g.E.Engine.body) c.args.within.now.kept.now c.args.opening.now.path c.args.opening.now.text c.args.opening.now.config c.runs-runs.result.now c.alike_of-alive.result c.runs-runs.ensures.same c.runs-runs.ensures.path c.runs-runs.ensures.sound c.alike_of-alive.ensures c.in-Departs.departure did.departs) in
+    search (rules, reads, goes, differs)
+
+pub evaluate-returns-in_ok-end-in-Departs-clause-did : goal.evaluate-returns-in_ok-end-in-Departs-clause-did
+evaluate-returns-in_ok-end-in-Departs-clause-did g t c =
+    let reads : g.R.Reader.reads c.args.opening.now.path c.args.opening.now.text ≡ Ok c.sheet-in-Departs.result.now = reads_at (setting_of g.H.Hosts.answer g.H.Hosts.after g.R.Reader.reads g.E.Engine.body) c.args.within.now.kept.now c.args.opening.now.path c.args.opening.now.text c.args.opening.now.config c.runs-runs.result.now c.alike_of-alive.result c.runs-runs.ensures.same c.runs-runs.ensures.path c.runs-runs.ensures.sound c.alike_of-alive.ensures c.in-Some.first c.run_at-in-Departs.result.now c.in-Some.ensures c.run_at-in-Departs.ensures ∙ ap Ok (sym c.sheet-in-Departs.ensures) in
+    let on = together (setting_of g.H.Hosts.answer g.H.Hosts.after g.R.Reader.reads g.E.Engine.body) c.args.within.now.kept.now c.args.opening.now.path c.args.opening.now.text c.args.opening.now.config c.runs-runs.result.now c.alike_of-alive.result c.runs-runs.ensures.same c.runs-runs.ensures.path c.runs-runs.ensures.sound c.alike_of-alive.ensures c.sheet-in-Departs.result.now reads (c.in-Some.first, c.in-Some.ensures) in
+    let did = subst (λ (x : Ending). DidReplay (setting_of g.H.Hosts.answer g.H.Hosts.after g.R.Reader.reads g.E.Engine.body) c.args.within.now.kept.now on.job c.runs-runs.result.now c.alike_of-alive.result [] x (moment_of c.args.moment.now.live (g.H.Hosts.state c.args.hosts.now) c.args.moment.now.results (g.E.Engine.ran c.args.engine.now)) (moment_of c.replay_runs.new.moment.live (g.H.Hosts.state c.replay_runs.new.hosts) c.replay_runs.new.moment.results (g.E.Engine.ran c.replay_runs.new.engine))) c.in-Departs.is (c.in_ok-replay_runs.ensures.did on) in
+    did_known (setting_of g.H.Hosts.answer g.H.Hosts.after g.R.Reader.reads g.E.Engine.body) c.args.within.now.kept.now c.args.opening.now.path c.args.opening.now.text c.args.opening.now.config c.runs-runs.result.now c.alike_of-alive.result c.runs-runs.ensures.same c.runs-runs.ensures.path c.runs-runs.ensures.sound c.alike_of-alive.ensures c.sheet-in-Departs.result.now reads (c.in-Some.first, c.in-Some.ensures) c.in-Departs.departure c.in_ok-end-in-Departs.end (moment_of c.args.moment.now.live (g.H.Hosts.state c.args.hosts.now) c.args.moment.now.results (g.E.Engine.ran c.args.engine.now)) (moment_of c.replay_runs.new.moment.live (g.H.Hosts.state c.replay_runs.new.hosts) c.replay_runs.new.moment.results (g.E.Engine.ran c.replay_runs.new.engine)) (moment_of c.run_body.new.moment.live (g.H.Hosts.state c.run_body.new.hosts) c.run_body.new.moment.results (g.E.Engine.ran c.run_body.new.engine)) did
+    (subst (λ l. DidEnd (setting_of g.H.Hosts.answer g.H.Hosts.after g.R.Reader.reads g.E.Engine.body) c.args.within.now.kept.now (record { sheet = c.sheet-in-Departs.result.now; config = c.args.opening.now.config; path = c.args.opening.now.path }) c.args.opening.now.text l c.in_ok-end-in-Departs.end (moment_of c.replay_runs.new.moment.live (g.H.Hosts.state c.replay_runs.new.hosts) c.replay_runs.new.moment.results (g.E.Engine.ran c.replay_runs.new.engine)) (moment_of c.run_body.new.moment.live (g.H.Hosts.state c.run_body.new.hosts) c.run_body.new.moment.results (g.E.Engine.ran c.run_body.new.engine))) c.as_slice-known.ensures c.in_ok-end-in-Departs.ensures.did)
+
+pub evaluate-returns-in_err-end-in-Departs-clause-cut : goal.evaluate-returns-in_err-end-in-Departs-clause-cut
+evaluate-returns-in_err-end-in-Departs-clause-cut g t c =
+    let reads : g.R.Reader.reads c.args.opening.now.path c.args.opening.now.text ≡ Ok c.sheet-in-Departs.result.now = reads_at (setting_of g.H.Hosts.answer g.H.Hosts.after g.R.Reader.reads g.E.Engine.body) c.args.within.now.kept.now c.args.opening.now.path c.args.opening.now.text c.args.opening.now.config c.runs-runs.result.now c.alike_of-alive.result c.runs-runs.ensures.same c.runs-runs.ensures.path c.runs-runs.ensures.sound c.alike_of-alive.ensures c.in-Some.first c.run_at-in-Departs.result.now c.in-Some.ensures c.run_at-in-Departs.ensures ∙ ap Ok (sym c.sheet-in-Departs.ensures) in
+    let on = together (setting_of g.H.Hosts.answer g.H.Hosts.after g.R.Reader.reads g.E.Engine.body) c.args.within.now.kept.now c.args.opening.now.path c.args.opening.now.text c.args.opening.now.config c.runs-runs.result.now c.alike_of-alive.result c.runs-runs.ensures.same c.runs-runs.ensures.path c.runs-runs.ensures.sound c.alike_of-alive.ensures c.sheet-in-Departs.result.now reads (c.in-Some.first, c.in-Some.ensures) in
+    let did = subst (λ (x : Ending). DidReplay (setting_of g.H.Hosts.answer g.H.Hosts.after g.R.Reader.reads g.E.Engine.body) c.args.within.now.kept.now on.job c.runs-runs.result.now c.alike_of-alive.result [] x (moment_of c.args.moment.now.live (g.H.Hosts.state c.args.hosts.now) c.args.moment.now.results (g.E.Engine.ran c.args.engine.now)) (moment_of c.replay_runs.new.moment.live (g.H.Hosts.state c.replay_runs.new.hosts) c.replay_runs.new.moment.results (g.E.Engine.ran c.replay_runs.new.engine))) c.in-Departs.is (c.in_ok-replay_runs.ensures.did on) in
+    let cut = read_cut (setting_of g.H.Hosts.answer g.H.Hosts.after g.R.Reader.reads g.E.Engine.body) c.args.opening.now.path c.args.opening.now.text c.args.opening.now.config c.sheet-in-Departs.result.now (record { live = c.args.moment.now.live; hosts = g.H.Hosts.state c.args.hosts.now }) (g.H.Hosts.state c.run_body.new.hosts) (g.E.Engine.ran c.args.engine.now) (g.E.Engine.ran c.run_body.new.engine) reads
+        (departed_cut (setting_of g.H.Hosts.answer g.H.Hosts.after g.R.Reader.reads g.E.Engine.body) c.args.within.now.kept.now on.job c.runs-runs.result.now c.alike_of-alive.result [] c.in-Departs.departure (moment_of c.args.moment.now.live (g.H.Hosts.state c.args.hosts.now) c.args.moment.now.results (g.E.Engine.ran c.args.engine.now)) (moment_of c.replay_runs.new.moment.live (g.H.Hosts.state c.replay_runs.new.hosts) c.replay_runs.new.moment.results (g.E.Engine.ran c.replay_runs.new.engine)) (g.H.Hosts.state c.run_body.new.hosts) (g.E.Engine.ran c.run_body.new.engine) did
+        (subst (λ l. CutOff (setting_of g.H.Hosts.answer g.H.Hosts.after g.R.Reader.reads g.E.Engine.body) (calls_left (setting_of g.H.Hosts.answer g.H.Hosts.after g.R.Reader.reads g.E.Engine.body) (record { sheet = c.sheet-in-Departs.result.now; config = c.args.opening.now.config; path = c.args.opening.now.path }) l (record { live = c.replay_runs.new.moment.live; hosts = g.H.Hosts.state c.replay_runs.new.hosts })) (g.H.Hosts.state c.replay_runs.new.hosts) (g.H.Hosts.state c.run_body.new.hosts) (g.E.Engine.ran c.replay_runs.new.engine) (g.E.Engine.ran c.run_body.new.engine)) c.as_slice-known.ensures c.in_err-end-in-Departs.ensures.cut)) in
+    search (rules, cut)
+
+pub evaluate-run_at-requires-in-Agrees : goal.evaluate-run_at-requires-in-Agrees
+evaluate-run_at-requires-in-Agrees g t c =
+    let is = (c.alike_of-alive.ensures c.in-Some.first).0 c.in-Some.ensures in
+    let reads = reads_at (setting_of g.H.Hosts.answer g.H.Hosts.after g.R.Reader.reads g.E.Engine.body) c.args.within.now.kept.now c.args.opening.now.path c.args.opening.now.text c.args.opening.now.config c.runs-runs.result.now c.alike_of-alive.result c.runs-runs.ensures.same c.runs-runs.ensures.path c.runs-runs.ensures.sound c.alike_of-alive.ensures c.in-Some.first is.0 c.in-Some.ensures is.1 in
+    let on = together (setting_of g.H.Hosts.answer g.H.Hosts.after g.R.Reader.reads g.E.Engine.body) c.args.within.now.kept.now c.args.opening.now.path c.args.opening.now.text c.args.opening.now.config c.runs-runs.result.now c.alike_of-alive.result c.runs-runs.ensures.same c.runs-runs.ensures.path c.runs-runs.ensures.sound c.alike_of-alive.ensures is.0.sheet reads (c.in-Some.first, c.in-Some.ensures) in
+    let did = subst (λ (x : Ending). DidReplay (setting_of g.H.Hosts.answer g.H.Hosts.after g.R.Reader.reads g.E.Engine.body) c.args.within.now.kept.now on.job c.runs-runs.result.now c.alike_of-alive.result [] x (moment_of c.args.moment.now.live (g.H.Hosts.state c.args.hosts.now) c.args.moment.now.results (g.E.Engine.ran c.args.engine.now)) (moment_of c.replay_runs.new.moment.live (g.H.Hosts.state c.replay_runs.new.hosts) c.replay_runs.new.moment.results (g.E.Engine.ran c.replay_runs.new.engine))) c.in-Agrees.is (c.in_ok-replay_runs.ensures.did on) in
+    slice_get_within c.runs-runs.result.now c.in-Agrees.place did.kept did.here
+
+pub evaluate-take_over-requires : goal.evaluate-take_over-requires
+evaluate-take_over-requires g t c =
+    (sound_at (setting_of g.H.Hosts.answer g.H.Hosts.after g.R.Reader.reads g.E.Engine.body) c.args.within.now.kept.now c.args.opening.now.path c.args.opening.now.text c.args.opening.now.config c.runs-runs.result.now c.alike_of-alive.result c.runs-runs.ensures.same c.runs-runs.ensures.path c.runs-runs.ensures.sound c.alike_of-alive.ensures c.in-Agrees.place c.run_at-in-Agrees.result.now c.run_at-in-Agrees.ensures).read
+
+pub evaluate-returns-in_ok-end-in-Agrees-clause-did : goal.evaluate-returns-in_ok-end-in-Agrees-clause-did
+evaluate-returns-in_ok-end-in-Agrees-clause-did g t c =
+    let is = (c.alike_of-alive.ensures c.in-Some.first).0 c.in-Some.ensures in
+    let reads = reads_at (setting_of g.H.Hosts.answer g.H.Hosts.after g.R.Reader.reads g.E.Engine.body) c.args.within.now.kept.now c.args.opening.now.path c.args.opening.now.text c.args.opening.now.config c.runs-runs.result.now c.alike_of-alive.result c.runs-runs.ensures.same c.runs-runs.ensures.path c.runs-runs.ensures.sound c.alike_of-alive.ensures c.in-Some.first is.0 c.in-Some.ensures is.1 in
+    let on = together (setting_of g.H.Hosts.answer g.H.Hosts.after g.R.Reader.reads g.E.Engine.body) c.args.within.now.kept.now c.args.opening.now.path c.args.opening.now.text c.args.opening.now.config c.runs-runs.result.now c.alike_of-alive.result c.runs-runs.ensures.same c.runs-runs.ensures.path c.runs-runs.ensures.sound c.alike_of-alive.ensures is.0.sheet reads (c.in-Some.first, c.in-Some.ensures) in
+    let did = subst (λ (x : Ending). DidReplay (setting_of g.H.Hosts.answer g.H.Hosts.after g.R.Reader.reads g.E.Engine.body) c.args.within.now.kept.now on.job c.runs-runs.result.now c.alike_of-alive.result [] x (moment_of c.args.moment.now.live (g.H.Hosts.state c.args.hosts.now) c.args.moment.now.results (g.E.Engine.ran c.args.engine.now)) (moment_of c.replay_runs.new.moment.live (g.H.Hosts.state c.replay_runs.new.hosts) c.replay_runs.new.moment.results (g.E.Engine.ran c.replay_runs.new.engine))) c.in-Agrees.is (c.in_ok-replay_runs.ensures.did on) in
+    did_whole (setting_of g.H.Hosts.answer g.H.Hosts.after g.R.Reader.reads g.E.Engine.body) c.args.within.now.kept.now c.args.opening.now.path c.args.opening.now.text c.args.opening.now.config c.runs-runs.result.now c.alike_of-alive.result c.runs-runs.ensures.same c.runs-runs.ensures.path c.runs-runs.ensures.sound c.alike_of-alive.ensures is.0.sheet reads (c.in-Some.first, c.in-Some.ensures) c.in-Agrees.place c.run_at-in-Agrees.result.now c.in_ok-end-in-Agrees.end (moment_of c.args.moment.now.live (g.H.Hosts.state c.args.hosts.now) c.args.moment.now.results (g.E.Engine.ran c.args.engine.now)) (moment_of c.replay_runs.new.moment.live (g.H.Hosts.state c.replay_runs.new.hosts) c.replay_runs.new.moment.results (g.E.Engine.ran c.replay_runs.new.engine)) (moment_of c.replay_runs.new.moment.live (g.H.Hosts.state c.replay_runs.new.hosts) c.take_over.new.self (g.E.Engine.ran c.replay_runs.new.engine))
+    g.met.E.Engine.ends_in_time did c.run_at-in-Agrees.ensures c.in_ok-end-in-Agrees.ensures.end refl refl c.in_ok-end-in-Agrees.ensures.runs
+
+pub evaluate-returns-in_err-end-in-Agrees-clause-cut : goal.evaluate-returns-in_err-end-in-Agrees-clause-cut
+evaluate-returns-in_err-end-in-Agrees-clause-cut g t c =
+    let is = (c.alike_of-alive.ensures c.in-Some.first).0 c.in-Some.ensures in
+    let reads = reads_at (setting_of g.H.Hosts.answer g.H.Hosts.after g.R.Reader.reads g.E.Engine.body) c.args.within.now.kept.now c.args.opening.now.path c.args.opening.now.text c.args.opening.now.config c.runs-runs.result.now c.alike_of-alive.result c.runs-runs.ensures.same c.runs-runs.ensures.path c.runs-runs.ensures.sound c.alike_of-alive.ensures c.in-Some.first is.0 c.in-Some.ensures is.1 in
+    let on = together (setting_of g.H.Hosts.answer g.H.Hosts.after g.R.Reader.reads g.E.Engine.body) c.args.within.now.kept.now c.args.opening.now.path c.args.opening.now.text c.args.opening.now.config c.runs-runs.result.now c.alike_of-alive.result c.runs-runs.ensures.same c.runs-runs.ensures.path c.runs-runs.ensures.sound c.alike_of-alive.ensures is.0.sheet reads (c.in-Some.first, c.in-Some.ensures) in
+    let did = subst (λ (x : Ending). DidReplay (setting_of g.H.Hosts.answer g.H.Hosts.after g.R.Reader.reads g.E.Engine.body) c.args.within.now.kept.now on.job c.runs-runs.result.now c.alike_of-alive.result [] x (moment_of c.args.moment.now.live (g.H.Hosts.state c.args.hosts.now) c.args.moment.now.results (g.E.Engine.ran c.args.engine.now)) (moment_of c.replay_runs.new.moment.live (g.H.Hosts.state c.replay_runs.new.hosts) c.replay_runs.new.moment.results (g.E.Engine.ran c.replay_runs.new.engine))) c.in-Agrees.is (c.in_ok-replay_runs.ensures.did on) in
+    let cut = read_cut (setting_of g.H.Hosts.answer g.H.Hosts.after g.R.Reader.reads g.E.Engine.body) c.args.opening.now.path c.args.opening.now.text c.args.opening.now.config is.0.sheet (record { live = c.args.moment.now.live; hosts = g.H.Hosts.state c.args.hosts.now }) (g.H.Hosts.state c.replay_runs.new.hosts) (g.E.Engine.ran c.args.engine.now) (g.E.Engine.ran c.replay_runs.new.engine) reads
+        (agreed_cut (setting_of g.H.Hosts.answer g.H.Hosts.after g.R.Reader.reads g.E.Engine.body) c.args.within.now.kept.now on.job c.runs-runs.result.now c.alike_of-alive.result [] c.in-Agrees.place (moment_of c.args.moment.now.live (g.H.Hosts.state c.args.hosts.now) c.args.moment.now.results (g.E.Engine.ran c.args.engine.now)) (moment_of c.replay_runs.new.moment.live (g.H.Hosts.state c.replay_runs.new.hosts) c.replay_runs.new.moment.results (g.E.Engine.ran c.replay_runs.new.engine)) did) in
     search (rules, cut)
