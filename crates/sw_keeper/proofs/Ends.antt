@@ -143,12 +143,12 @@ module _ (setting : Setting) (table : Table) (path text : List ℕ) (config : Li
         count = refl;
         some = some;
         each = λ place m. let is = (alike place).0 m in record {
-            kept = is.0;
-            here = is.1;
-            is_kept = (sound_at place is.0 is.1).is_kept;
-            same_job = job_at_place sheet place is.0 reads m is.1;
-            begins = (is.0.run.seen, refl);
-          };
+          kept = is.0;
+          here = is.1;
+          is_kept = (sound_at place is.0 is.1).is_kept;
+          same_job = job_at_place sheet place is.0 reads m is.1;
+          begins = (is.0.run.seen, refl);
+        };
       }
 
   -- why a body goes on behind them

@@ -147,8 +147,7 @@ module _ (setting : Setting) (table : Table) (job : Job) (runs : List Kept) (mar
   turn_join (Next alive to) did =
       let next = did.0 in
       let here = (next.are_left next.some.0).0 next.some.1 in
-      let more = more_left runs marks left gone.pairs next.pairs next.some.0 here.1.0 gone.are_left here.0 here.1.1 here.1 (omega (arith, next.count, next.later)) in
-      (
+      let more = more_left runs marks left gone.pairs next.pairs next.some.0 here.1.0 gone.are_left here.0 here.1.1 here.1 (omega (arith, next.count, next.later)) in (
         record {
           pairs = next.pairs;
           count = next.count;
@@ -211,20 +210,19 @@ module _ (setting : Setting) (table : Table) (runs : List Kept) (marks left : Li
   left_with are = narrowed setting.body runs marks at on p.0 a left (asks_at setting.body runs marks at on near k p m here pair).1 are
 
   pub turn_next : AreNarrowed runs marks at a left → HasMark left → DidTurn setting table on.job runs marks on.first (Next left (at + 1)) o t
-  turn_next are some =
-      (
-        record {
-          pairs = on.first ++ (p.0, a) ∷ [];
-          count = omega (arith, on.count, length_push on.first (p.0, a));
-          later = omega (arith, on.count);
-          are_left = left_with are;
-          some = some;
-          new = (responds setting.functions (fresh setting (room o.outside.live)) p.0 o.outside).runs;
-          advances = advances_with;
-          grown = did.grown;
-        },
-        omega (arith, on.count),
-      )
+  turn_next are some = (
+    record {
+      pairs = on.first ++ (p.0, a) ∷ [];
+      count = omega (arith, on.count, length_push on.first (p.0, a));
+      later = omega (arith, on.count);
+      are_left = left_with are;
+      some = some;
+      new = (responds setting.functions (fresh setting (room o.outside.live)) p.0 o.outside).runs;
+      advances = advances_with;
+      grown = did.grown;
+    },
+    omega (arith, on.count),
+  )
 
   -- where none has the answer
   pub differs_with : AreNarrowed runs marks at a left → ((place : ℕ) → IsMarked left place → ⊥) → p.1 ≡ a → ⊥

@@ -164,13 +164,7 @@ fn replay_turn<R: Reader, E: Engine, H: Hosts>(
         (moment_of moment.old.live (H.state hosts.old) moment.old.results (E.ran engine.old))
         (moment_of moment.new.live (H.state hosts.new) moment.new.results (E.ran engine.new))) }
 {
-    match replay_outside(
-        within.alloc,
-        within.reader,
-        &mut moment.live,
-        hosts,
-        going,
-    )? {
+    match replay_outside(within.alloc, within.reader, &mut moment.live, hosts, going)? {
         Replayed::Same(place) => Ok(Came::Whole(place)),
         Replayed::Differs { near, at, answer } => {
             let departure = departure_at(within.alloc, going.runs, near, at, answer)?;

@@ -301,11 +301,7 @@ impl<R: Reader, E: Engine> KeptRuns<R, E> {
         Ok(())
     }
 
-    fn list_with(
-        &self,
-        alloc: Global,
-        kept: &KeptRun<R, E>,
-    ) -> Result<KeptList<R, E>, Memory>
+    fn list_with(&self, alloc: Global, kept: &KeptRun<R, E>) -> Result<KeptList<R, E>, Memory>
         ensures { IfOk result (λ list. IsUsed kept.now (kept_in self.now kept.now.path) list) }
     {
         match self.table.get(kept.run().path()) {

@@ -74,12 +74,12 @@ together_left body runs marks left from to pairs on are some count =
       count = count;
       some = some;
       each = λ place m. let h = (are place).0 m in let of = on.each place h.0 in record {
-          kept = of.kept;
-          here = of.here;
-          is_kept = of.is_kept;
-          same_job = of.same_job;
-          begins = same_begins runs place of.kept pairs h.1 of.here;
-        };
+        kept = of.kept;
+        here = of.here;
+        is_kept = of.is_kept;
+        same_job = of.same_job;
+        begins = same_begins runs place of.kept pairs h.1 of.here;
+      };
     }
 
 all_left : (body : BodyOf) (runs : List Kept) (marks : List Bool) (from : ℕ) (on : AreTogether body runs marks from) → AreLeft runs marks on.first marks
@@ -206,8 +206,7 @@ module _ {W : Type 0} (gives : W → Question → Answer → W → Type 0) where
           let departs = r.6 in
           let all : List Pair = r.0 ++ (r.1, answer) ∷ [] in
           let more = more_of on.pairs r.0 near departs.kept marked.1 departs.here ((r.1, departs.old) ∷ departs.rest, departs.seen) (omega (arith, on.count, r.2, r.3)) in
-          let longer : all ≡ on.pairs ++ (more.0 ++ (r.1, answer) ∷ []) = ap (λ (l : List Pair). l ++ (r.1, answer) ∷ []) more.1 ∙ append_assoc on.pairs more.0 ((r.1, answer) ∷ []) in
-          (
+          let longer : all ≡ on.pairs ++ (more.0 ++ (r.1, answer) ∷ []) = ap (λ (l : List Pair). l ++ (r.1, answer) ∷ []) more.1 ∙ append_assoc on.pairs more.0 ((r.1, answer) ∷ []) in (
             r.0,
             r.1,
             r.2,
@@ -283,8 +282,7 @@ module _ {W : Type 0} (gives : W → Question → Answer → W → Type 0) where
       pub stops_differs : (answer : Answer) (left : List Bool) → DiffersAt gives k.run.seen at answer w t → AreNarrowed runs marks at answer left → ((place : ℕ) → IsMarked left place → ⊥) → IsReplay gives runs marks at (Differs near at answer) w t
       stops_differs answer left d are none =
           let asks = asks_at body runs marks at on near k d.pair m here d.here in
-          let p : Pair = (d.pair.0, answer) in
-          (
+          let p : Pair = (d.pair.0, answer) in (
             on.first,
             d.pair.0,
             on.count,
@@ -305,8 +303,7 @@ module _ {W : Type 0} (gives : W → Question → Answer → W → Type 0) where
         alone (again.Load to) a =
             let load = a.1 in
             let le : to ≤ length k.run.seen = a.0.1 in
-            let front : k.run.seen ≡ take to k.run.seen ++ drop to k.run.seen = sym (take-append-drop to k.run.seen) in
-            (
+            let front : k.run.seen ≡ take to k.run.seen ++ drop to k.run.seen = sym (take-append-drop to k.run.seen) in (
               take to k.run.seen,
               length-take-le to k.run.seen le,
               asked_range k.run.seen at to w t a.0,
@@ -320,8 +317,7 @@ module _ {W : Type 0} (gives : W → Question → Answer → W → Type 0) where
             let front : List Pair = take to k.run.seen in
             let first = asked_range k.run.seen at to w a.0 a.1 in
             let count : length front ≡ to = length-take-le to k.run.seen a.1.1 in
-            let seen : k.run.seen ≡ front ++ d.pair ∷ drop (suc to) k.run.seen = split_at k.run.seen to d.pair d.here in
-            (
+            let seen : k.run.seen ≡ front ++ d.pair ∷ drop (suc to) k.run.seen = split_at k.run.seen to d.pair d.here in (
               front,
               d.pair.0,
               count,

@@ -1,4 +1,4 @@
-//! Runs that are kept, the replay of their questions, and what a compile replies. A kept run and a world flow in, what
+//! Runs that are kept, the replay of their questions, and what a compile replies. Kept runs and a world flow in, what
 //! differs flows out.
 #![tactic(auto)]
 

@@ -2,9 +2,9 @@
 ghost use Rattle.std.specs.Prelude.{◌≡◌, ℕ, IfOk, OnErr};
 ghost use Rattle.sw_record.specs.Together.{AreTogether, IsReplay, IsStep, IsAsked, BrokeOff, replayed_by};
 
+use crate::Run;
 use crate::again::{Again, other_answer, replay};
 use crate::marks::{first_marked, is_alone, narrow};
-use crate::Run;
 use std::alloc::Global;
 use sw_text::{Memory, Shared};
 use sw_world::{Answer, Confirms, ConfirmsNamed, Engine};
@@ -15,7 +15,10 @@ pub enum Replayed {
     /// The run at this place agreed to its end.
     Same(usize),
     /// The marked runs agree up to a load at this place of their pairs, which wasn't asked.
-    Load { alive: [bool; 8], at: usize },
+    Load {
+        alive: [bool; 8],
+        at: usize,
+    },
     /// This answer is the first that none of the runs has that agreed so far; `near` is the first of these, and it has
     /// another one at this place. No later question was asked.
     Differs {
@@ -63,7 +66,10 @@ pub fn replay_all<E: Engine, W: ConfirmsNamed>(
     'questions: loop {
         match replay_step(alloc, runs, left, at, world)? {
             Step::Stops(replayed) => return Ok(replayed),
-            Step::GoesOn { alive: agree, at: to } => {
+            Step::GoesOn {
+                alive: agree,
+                at: to,
+            } => {
                 left = agree;
                 at = to;
             }

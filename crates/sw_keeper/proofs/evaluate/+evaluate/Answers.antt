@@ -197,8 +197,8 @@ replay_turn-returns-in_err-departure-in-Differs-clause-cut g t c =
 pub replay_turn-returns-in_err-came-in-Load-clause-cut : goal.replay_turn-returns-in_err-came-in-Load-clause-cut
 replay_turn-returns-in_err-came-in-Load-clause-cut g t c =
     let cut : (on : AreTogether g.E.Engine.body c.args.going.now.runs.now c.args.going.now.alive c.args.going.now.at) → BodyCut (setting_of g.H.Hosts.answer g.H.Hosts.after g.R.Reader.reads g.E.Engine.body) on.job on.first (moment_of c.args.moment.now.live (g.H.Hosts.state c.args.hosts.now) c.args.moment.now.results (g.E.Engine.ran c.args.engine.now)) (moment_of c.load_turn.new.moment.live (g.H.Hosts.state c.load_turn.new.hosts) c.load_turn.new.moment.results (g.E.Engine.ran c.load_turn.new.engine)) = λ on.
-        let gone = gone_load (setting_of g.H.Hosts.answer g.H.Hosts.after g.R.Reader.reads g.E.Engine.body) c.args.within.now.kept.now c.args.going.now.runs.now c.args.going.now.alive c.args.going.now.at on c.in-Load.alive c.in-Load.at c.in_ok-replay_outside.field-0 (moment_of c.args.moment.now.live (g.H.Hosts.state c.args.hosts.now) c.args.moment.now.results (g.E.Engine.ran c.args.engine.now)) (moment_of c.replay_outside.new.live (g.H.Hosts.state c.replay_outside.new.hosts) c.args.moment.now.results (g.E.Engine.ran c.args.engine.now)) c.in-Load.is (c.in_ok-replay_outside.ensures.to on) refl refl in
-        gone_cut (setting_of g.H.Hosts.answer g.H.Hosts.after g.R.Reader.reads g.E.Engine.body) c.args.within.now.kept.now on.job c.args.going.now.runs.now c.args.going.now.alive on.first c.in-Load.alive c.in-Load.at (moment_of c.args.moment.now.live (g.H.Hosts.state c.args.hosts.now) c.args.moment.now.results (g.E.Engine.ran c.args.engine.now)) (moment_of c.replay_outside.new.live (g.H.Hosts.state c.replay_outside.new.hosts) c.args.moment.now.results (g.E.Engine.ran c.args.engine.now)) gone (g.H.Hosts.state c.load_turn.new.hosts) (g.E.Engine.ran c.load_turn.new.engine) (c.in_err-came-in-Load.ensures.cut (together_left g.E.Engine.body c.args.going.now.runs.now c.args.going.now.alive c.in-Load.alive c.args.going.now.at c.in-Load.at gone.pairs on gone.are_left gone.some gone.count)) in
+    let gone = gone_load (setting_of g.H.Hosts.answer g.H.Hosts.after g.R.Reader.reads g.E.Engine.body) c.args.within.now.kept.now c.args.going.now.runs.now c.args.going.now.alive c.args.going.now.at on c.in-Load.alive c.in-Load.at c.in_ok-replay_outside.field-0 (moment_of c.args.moment.now.live (g.H.Hosts.state c.args.hosts.now) c.args.moment.now.results (g.E.Engine.ran c.args.engine.now)) (moment_of c.replay_outside.new.live (g.H.Hosts.state c.replay_outside.new.hosts) c.args.moment.now.results (g.E.Engine.ran c.args.engine.now)) c.in-Load.is (c.in_ok-replay_outside.ensures.to on) refl refl in
+    gone_cut (setting_of g.H.Hosts.answer g.H.Hosts.after g.R.Reader.reads g.E.Engine.body) c.args.within.now.kept.now on.job c.args.going.now.runs.now c.args.going.now.alive on.first c.in-Load.alive c.in-Load.at (moment_of c.args.moment.now.live (g.H.Hosts.state c.args.hosts.now) c.args.moment.now.results (g.E.Engine.ran c.args.engine.now)) (moment_of c.replay_outside.new.live (g.H.Hosts.state c.replay_outside.new.hosts) c.args.moment.now.results (g.E.Engine.ran c.args.engine.now)) gone (g.H.Hosts.state c.load_turn.new.hosts) (g.E.Engine.ran c.load_turn.new.engine) (c.in_err-came-in-Load.ensures.cut (together_left g.E.Engine.body c.args.going.now.runs.now c.args.going.now.alive c.in-Load.alive c.args.going.now.at c.in-Load.at gone.pairs on gone.are_left gone.some gone.count)) in
     search (rules, cut)
 
 pub load_turn-load-requires : goal.load_turn-load-requires
@@ -265,8 +265,8 @@ replay_runs-turns-smaller g t c =
 pub replay_runs-returns-in_err-replay_turn-clause-cut : goal.replay_runs-returns-in_err-replay_turn-clause-cut
 replay_runs-returns-in_err-replay_turn-clause-cut g t c =
     let cut : (on : AreTogether g.E.Engine.body c.args.going.now.runs.now c.args.going.now.alive c.args.going.now.at) → BodyCut (setting_of g.H.Hosts.answer g.H.Hosts.after g.R.Reader.reads g.E.Engine.body) on.job on.first (moment_of c.args.moment.now.live (g.H.Hosts.state c.args.hosts.now) c.args.moment.now.results (g.E.Engine.ran c.args.engine.now)) (moment_of c.replay_turn.new.moment.live (g.H.Hosts.state c.replay_turn.new.hosts) c.replay_turn.new.moment.results (g.E.Engine.ran c.replay_turn.new.engine)) = λ on.
-        let gone = c.turns.invariant on in
-        gone_cut (setting_of g.H.Hosts.answer g.H.Hosts.after g.R.Reader.reads g.E.Engine.body) c.args.within.now.kept.now on.job c.args.going.now.runs.now c.args.going.now.alive on.first c.turns.left c.turns.to (moment_of c.args.moment.now.live (g.H.Hosts.state c.args.hosts.now) c.args.moment.now.results (g.E.Engine.ran c.args.engine.now)) (moment_of c.turns.moment.live (g.H.Hosts.state c.turns.hosts) c.turns.moment.results (g.E.Engine.ran c.turns.engine)) gone (g.H.Hosts.state c.replay_turn.new.hosts) (g.E.Engine.ran c.replay_turn.new.engine) (c.in_err-replay_turn.ensures.cut (together_left g.E.Engine.body c.args.going.now.runs.now c.args.going.now.alive c.turns.left c.args.going.now.at c.turns.to gone.pairs on gone.are_left gone.some gone.count)) in
+    let gone = c.turns.invariant on in
+    gone_cut (setting_of g.H.Hosts.answer g.H.Hosts.after g.R.Reader.reads g.E.Engine.body) c.args.within.now.kept.now on.job c.args.going.now.runs.now c.args.going.now.alive on.first c.turns.left c.turns.to (moment_of c.args.moment.now.live (g.H.Hosts.state c.args.hosts.now) c.args.moment.now.results (g.E.Engine.ran c.args.engine.now)) (moment_of c.turns.moment.live (g.H.Hosts.state c.turns.hosts) c.turns.moment.results (g.E.Engine.ran c.turns.engine)) gone (g.H.Hosts.state c.replay_turn.new.hosts) (g.E.Engine.ran c.replay_turn.new.engine) (c.in_err-replay_turn.ensures.cut (together_left g.E.Engine.body c.args.going.now.runs.now c.args.going.now.alive c.turns.left c.args.going.now.at c.turns.to gone.pairs on gone.are_left gone.some gone.count)) in
     search (rules, cut)
 
 pub evaluate_anew-returns-in_ok-end-in-Ok-clause-did : goal.evaluate_anew-returns-in_ok-end-in-Ok-clause-did
@@ -334,8 +334,8 @@ evaluate-returns-in_err-end-in-Departs-clause-cut g t c =
     let on = together (setting_of g.H.Hosts.answer g.H.Hosts.after g.R.Reader.reads g.E.Engine.body) c.args.within.now.kept.now c.args.opening.now.path c.args.opening.now.text c.args.opening.now.config c.runs-runs.result.now c.alike_of-alive.result c.runs-runs.ensures.same c.runs-runs.ensures.path c.runs-runs.ensures.sound c.alike_of-alive.ensures c.sheet-in-Departs.result.now reads (c.in-Some.first, c.in-Some.ensures) in
     let did = subst (λ (x : Ending). DidReplay (setting_of g.H.Hosts.answer g.H.Hosts.after g.R.Reader.reads g.E.Engine.body) c.args.within.now.kept.now on.job c.runs-runs.result.now c.alike_of-alive.result [] x (moment_of c.args.moment.now.live (g.H.Hosts.state c.args.hosts.now) c.args.moment.now.results (g.E.Engine.ran c.args.engine.now)) (moment_of c.replay_runs.new.moment.live (g.H.Hosts.state c.replay_runs.new.hosts) c.replay_runs.new.moment.results (g.E.Engine.ran c.replay_runs.new.engine))) c.in-Departs.is (c.in_ok-replay_runs.ensures.did on) in
     let cut = read_cut (setting_of g.H.Hosts.answer g.H.Hosts.after g.R.Reader.reads g.E.Engine.body) c.args.opening.now.path c.args.opening.now.text c.args.opening.now.config c.sheet-in-Departs.result.now (record { live = c.args.moment.now.live; hosts = g.H.Hosts.state c.args.hosts.now }) (g.H.Hosts.state c.run_body.new.hosts) (g.E.Engine.ran c.args.engine.now) (g.E.Engine.ran c.run_body.new.engine) reads
-        (departed_cut (setting_of g.H.Hosts.answer g.H.Hosts.after g.R.Reader.reads g.E.Engine.body) c.args.within.now.kept.now on.job c.runs-runs.result.now c.alike_of-alive.result [] c.in-Departs.departure (moment_of c.args.moment.now.live (g.H.Hosts.state c.args.hosts.now) c.args.moment.now.results (g.E.Engine.ran c.args.engine.now)) (moment_of c.replay_runs.new.moment.live (g.H.Hosts.state c.replay_runs.new.hosts) c.replay_runs.new.moment.results (g.E.Engine.ran c.replay_runs.new.engine)) (g.H.Hosts.state c.run_body.new.hosts) (g.E.Engine.ran c.run_body.new.engine) did
-        (subst (λ l. CutOff (setting_of g.H.Hosts.answer g.H.Hosts.after g.R.Reader.reads g.E.Engine.body) (calls_left (setting_of g.H.Hosts.answer g.H.Hosts.after g.R.Reader.reads g.E.Engine.body) (record { sheet = c.sheet-in-Departs.result.now; config = c.args.opening.now.config; path = c.args.opening.now.path }) l (record { live = c.replay_runs.new.moment.live; hosts = g.H.Hosts.state c.replay_runs.new.hosts })) (g.H.Hosts.state c.replay_runs.new.hosts) (g.H.Hosts.state c.run_body.new.hosts) (g.E.Engine.ran c.replay_runs.new.engine) (g.E.Engine.ran c.run_body.new.engine)) c.as_slice-known.ensures c.in_err-end-in-Departs.ensures.cut)) in
+    (departed_cut (setting_of g.H.Hosts.answer g.H.Hosts.after g.R.Reader.reads g.E.Engine.body) c.args.within.now.kept.now on.job c.runs-runs.result.now c.alike_of-alive.result [] c.in-Departs.departure (moment_of c.args.moment.now.live (g.H.Hosts.state c.args.hosts.now) c.args.moment.now.results (g.E.Engine.ran c.args.engine.now)) (moment_of c.replay_runs.new.moment.live (g.H.Hosts.state c.replay_runs.new.hosts) c.replay_runs.new.moment.results (g.E.Engine.ran c.replay_runs.new.engine)) (g.H.Hosts.state c.run_body.new.hosts) (g.E.Engine.ran c.run_body.new.engine) did
+    (subst (λ l. CutOff (setting_of g.H.Hosts.answer g.H.Hosts.after g.R.Reader.reads g.E.Engine.body) (calls_left (setting_of g.H.Hosts.answer g.H.Hosts.after g.R.Reader.reads g.E.Engine.body) (record { sheet = c.sheet-in-Departs.result.now; config = c.args.opening.now.config; path = c.args.opening.now.path }) l (record { live = c.replay_runs.new.moment.live; hosts = g.H.Hosts.state c.replay_runs.new.hosts })) (g.H.Hosts.state c.replay_runs.new.hosts) (g.H.Hosts.state c.run_body.new.hosts) (g.E.Engine.ran c.replay_runs.new.engine) (g.E.Engine.ran c.run_body.new.engine)) c.as_slice-known.ensures c.in_err-end-in-Departs.ensures.cut)) in
     search (rules, cut)
 
 pub evaluate-run_at-requires-in-Agrees : goal.evaluate-run_at-requires-in-Agrees
@@ -366,5 +366,5 @@ evaluate-returns-in_err-end-in-Agrees-clause-cut g t c =
     let on = together (setting_of g.H.Hosts.answer g.H.Hosts.after g.R.Reader.reads g.E.Engine.body) c.args.within.now.kept.now c.args.opening.now.path c.args.opening.now.text c.args.opening.now.config c.runs-runs.result.now c.alike_of-alive.result c.runs-runs.ensures.same c.runs-runs.ensures.path c.runs-runs.ensures.sound c.alike_of-alive.ensures is.0.sheet reads (c.in-Some.first, c.in-Some.ensures) in
     let did = subst (λ (x : Ending). DidReplay (setting_of g.H.Hosts.answer g.H.Hosts.after g.R.Reader.reads g.E.Engine.body) c.args.within.now.kept.now on.job c.runs-runs.result.now c.alike_of-alive.result [] x (moment_of c.args.moment.now.live (g.H.Hosts.state c.args.hosts.now) c.args.moment.now.results (g.E.Engine.ran c.args.engine.now)) (moment_of c.replay_runs.new.moment.live (g.H.Hosts.state c.replay_runs.new.hosts) c.replay_runs.new.moment.results (g.E.Engine.ran c.replay_runs.new.engine))) c.in-Agrees.is (c.in_ok-replay_runs.ensures.did on) in
     let cut = read_cut (setting_of g.H.Hosts.answer g.H.Hosts.after g.R.Reader.reads g.E.Engine.body) c.args.opening.now.path c.args.opening.now.text c.args.opening.now.config is.0.sheet (record { live = c.args.moment.now.live; hosts = g.H.Hosts.state c.args.hosts.now }) (g.H.Hosts.state c.replay_runs.new.hosts) (g.E.Engine.ran c.args.engine.now) (g.E.Engine.ran c.replay_runs.new.engine) reads
-        (agreed_cut (setting_of g.H.Hosts.answer g.H.Hosts.after g.R.Reader.reads g.E.Engine.body) c.args.within.now.kept.now on.job c.runs-runs.result.now c.alike_of-alive.result [] c.in-Agrees.place (moment_of c.args.moment.now.live (g.H.Hosts.state c.args.hosts.now) c.args.moment.now.results (g.E.Engine.ran c.args.engine.now)) (moment_of c.replay_runs.new.moment.live (g.H.Hosts.state c.replay_runs.new.hosts) c.replay_runs.new.moment.results (g.E.Engine.ran c.replay_runs.new.engine)) did) in
+    (agreed_cut (setting_of g.H.Hosts.answer g.H.Hosts.after g.R.Reader.reads g.E.Engine.body) c.args.within.now.kept.now on.job c.runs-runs.result.now c.alike_of-alive.result [] c.in-Agrees.place (moment_of c.args.moment.now.live (g.H.Hosts.state c.args.hosts.now) c.args.moment.now.results (g.E.Engine.ran c.args.engine.now)) (moment_of c.replay_runs.new.moment.live (g.H.Hosts.state c.replay_runs.new.hosts) c.replay_runs.new.moment.results (g.E.Engine.ran c.replay_runs.new.engine)) did) in
     search (rules, cut)
