@@ -28,9 +28,8 @@ pub(crate) fn load_of<'g, E: Engine>(going: &'g Agreeing<'_, E>) -> &'g Question
     requires loads { AreAtLoads going.now.runs.now going.now.alive going.now.at }
     ensures { IsLoadOf going.now.runs.now going.now.alive going.now.at result.now }
 {
-    let near = match first_marked(&going.alive) {
-        None => unreachable!(),
-        Some(near) => near,
+    let Some(near) = first_marked(&going.alive) else {
+        unreachable!()
     };
     let seen = run_at(going.runs, near).get().seen();
     &seen[going.at].0
@@ -47,9 +46,8 @@ pub(crate) fn after_load<E: Engine>(
     requires fits { AllFit going.now.runs.now going.now.alive going.now.at answer }
     ensures { IfOk result (λ came. IsAnswered going.now.runs.now going.now.alive going.now.at answer came) }
 {
-    let near = match first_marked(&going.alive) {
-        None => unreachable!(),
-        Some(near) => near,
+    let Some(near) = first_marked(&going.alive) else {
+        unreachable!()
     };
     let seen = run_at(going.runs, near).get().seen();
     let _loads = &seen[going.at];

@@ -1,6 +1,6 @@
 -- Marks of eight places.
-use Rattle.std.proofs.Common.{◌≡◌, ◌≢◌, ◌↔◌, ◌⊎◌, ℕ, ◌+◌, ◌<◌, ◌≤◌, Bool, true, false, List, length, get_or, set, sym, ◌∙◌, ap, subst, inl, inr, arith}
-use Rattle.std.proofs.lemmas.List.{get_or_past, get_or-set_same, get_or-set_other, length-set}
+use Rattle.std.proofs.Common.{◌≡◌, ◌≢◌, ◌↔◌, ◌⊎◌, ℕ, ◌+◌, ◌<◌, ◌≤◌, Bool, true, false, List, length, get_or, set, replicate, sym, ◌∙◌, ap, subst, inl, inr, arith}
+use Rattle.std.proofs.lemmas.List.{get_or_past, get_or-set_same, get_or-set_other, get_or-replicate, length-replicate}
 use Rattle.sw_record.specs.Together.{IsMarked}
 
 lt_or_le : (a b : ℕ) → (a < b) ⊎ (b ≤ a)
@@ -61,3 +61,11 @@ marked_all P marks n done none within place = by (lt_or_le place n)
       where
         done_within : P place → IsMarked marks place
         done_within p = (done place (within place p)).1 p
+
+-- at first no place is marked
+pub none_first : (n place : ℕ) → IsMarked (replicate n false) place → ⊥
+none_first n place m = by (lt_or_le place n)
+  where
+    by : (place < n) ⊎ (n ≤ place) → ⊥
+    by (inl lt) = not_true (sym (get_or-replicate n place false false lt) ∙ m)
+    by (inr le) = not_true (sym (get_or_past (replicate n false) place false (omega (arith, le, length-replicate n false))) ∙ m)

@@ -89,9 +89,8 @@ fn replay_step<E: Engine, W: ConfirmsNamed>(
     ensures ok { IfOk result (λ step. IsStep W.gives runs.now alive at step world.old world.new) }
     ensures err { OnErr result (BrokeOff W.gives runs.now alive at world.old world.new) }
 {
-    let near = match first_marked(&alive) {
-        None => unreachable!(),
-        Some(near) => near,
+    let Some(near) = first_marked(&alive) else {
+        unreachable!()
     };
     let run = runs[near].get();
     if is_alone(&alive, near) {
