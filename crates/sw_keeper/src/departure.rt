@@ -5,9 +5,8 @@ ghost use Rattle.sw_world.specs.Body.{Pair};
 ghost use Rattle.sw_keeper.specs.Departures.{HasTwoAnswers, CanDepart};
 ghost use Rattle.sw_keeper.specs.Departing.{DepartsBy};
 
-use crate::reading::run_at;
 use std::alloc::Global;
-use sw_record::{Cause, Run};
+use sw_record::{Cause, Run, run_at};
 use sw_text::{List, Memory, Shared};
 use sw_world::{Answer, Engine, Question, share_pairs};
 

@@ -13,11 +13,11 @@ use crate::context::{Agreeing, Moment, Opening, Start, Within};
 use crate::departure::{Departure, departure_at};
 use crate::loading::{Came, after_load, load_of};
 use crate::outside::{go_outside, replay_outside};
-use crate::reading::{alike_of, cause_anew, read_sheet, run_at};
+use crate::reading::{alike_of, cause_anew, read_sheet};
 use crate::results::run_ended;
 use crate::{HasSetting, Reader};
 use sw_modules::Begin;
-use sw_record::{Replayed, first_marked};
+use sw_record::{Replayed, first_marked, run_at};
 use sw_text::Memory;
 use sw_world::{Answer, End, Engine, Hosts, Question, Turn};
 

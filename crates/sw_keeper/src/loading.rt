@@ -5,9 +5,8 @@ ghost use Rattle.sw_keeper.specs.Loading.{IsLoadOf, AllFit, IsAnswered};
 
 use crate::context::Agreeing;
 use crate::departure::{Departure, departure_at};
-use crate::reading::run_at;
 use std::alloc::Global;
-use sw_record::{first_marked, narrow};
+use sw_record::{first_marked, narrow, run_at};
 use sw_text::Memory;
 use sw_world::{Answer, Engine, Question};
 

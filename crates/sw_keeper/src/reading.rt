@@ -1,5 +1,5 @@
 // Which kept runs may serve a module, and the sheet of one that has to run.
-ghost use Rattle.std.specs.Prelude.{◌≡◌, ◌≢◌, ◌<◌, ◌≤◌, ◌↔◌, [], length, slice_get, Some, IfOk, IsTrue, MatchOption};
+ghost use Rattle.std.specs.Prelude.{◌≡◌, ◌≢◌, ◌≤◌, ◌↔◌, [], length, IfOk, IsTrue, MatchOption};
 ghost use Rattle.std.specs.List.{All};
 ghost use Rattle.sw_folder.specs.Files.{most_bytes};
 ghost use Rattle.sw_keeper.specs.Keeping.{most_kept};
@@ -11,14 +11,6 @@ use sw_record::{Cause, Run, is_alike};
 use sw_text::{Fault, Memory, Name, Shared};
 use sw_tree::Sheet;
 use sw_world::Engine;
-
-/// The run at a place.
-pub(crate) fn run_at<'k, E: Engine>(runs: &'k [Shared<Run<E>>], place: usize) -> &'k Shared<Run<E>>
-    requires { place < length runs.now }
-    ensures { slice_get runs.now place ≡ Some result.now }
-{
-    &runs[place]
-}
 
 /// The kept runs that are of the text and the configuration of a module.
 pub(crate) fn alike_of<E: Engine>(runs: &[Shared<Run<E>>], opening: &Opening) -> [bool; 8]

@@ -14,7 +14,7 @@ mod tail;
 mod trace;
 
 pub use laws::ran_is_one;
-pub use marks::{first_marked, narrow};
+pub use marks::{first_marked, narrow, run_at};
 pub use replay::{Replayed, replay_all};
 pub use reply::{Cause, Outcome, Reply};
 pub use run::Run;

@@ -1,11 +1,19 @@
 // Which of the kept runs of a module still agree.
-ghost use Rattle.std.specs.Prelude.{◌≡◌, ◌↔◌, ℕ, ◌<◌, slice_get, Some, IsTrue, MatchOption};
+ghost use Rattle.std.specs.Prelude.{◌≡◌, ◌↔◌, ℕ, ◌<◌, length, slice_get, Some, IsTrue, MatchOption};
 ghost use Rattle.sw_world.specs.Body.{Pair};
 ghost use Rattle.sw_record.specs.Together.{IsMarked, AreNarrowed, HasAnswerAt};
 
 use crate::Run;
 use sw_text::Shared;
 use sw_world::{Answer, Engine, Question};
+
+/// The run at a place.
+pub fn run_at<'k, E: Engine>(runs: &'k [Shared<Run<E>>], place: usize) -> &'k Shared<Run<E>>
+    requires { place < length runs.now }
+    ensures { slice_get runs.now place ≡ Some result.now }
+{
+    &runs[place]
+}
 
 /// The first place that is marked.
 pub fn first_marked(marks: &[bool; 8]) -> Option<usize>

@@ -4,7 +4,7 @@ ghost use Rattle.sw_record.specs.Together.{AreTogether, IsReplay, IsStep, IsAske
 
 use crate::Run;
 use crate::again::{Again, other_answer, replay};
-use crate::marks::{first_marked, is_alone, narrow};
+use crate::marks::{first_marked, is_alone, narrow, run_at};
 use std::alloc::Global;
 use sw_text::{Memory, Shared};
 use sw_world::{Answer, Confirms, ConfirmsNamed, Engine};
@@ -92,7 +92,7 @@ fn replay_step<E: Engine, W: ConfirmsNamed>(
     let Some(near) = first_marked(&alive) else {
         unreachable!()
     };
-    let run = runs[near].get();
+    let run = run_at(runs, near).get();
     if is_alone(&alive, near) {
         let again = replay(alloc, run, at, world)?;
         return Ok(Step::Stops(replayed_of(near, alive, again)));
