@@ -1,9 +1,10 @@
 -- Evaluations that begin with kept runs.
-use Rattle.std.proofs.Common.{◌≡◌, ◌≢◌, ℕ, suc, ◌<◌, Bool, List, [], ◌∷◌, ◌++◌, length, map, take, drop, get_or, slice_get, Option, Some, Ok, refl, sym, ◌∙◌, ap, subst, append_assoc, append-nil, inl, arith, length-map}
+use Rattle.std.proofs.Common.{◌≡◌, ◌≢◌, ℕ, suc, ◌<◌, Bool, List, [], ◌∷◌, ◌++◌, length, map, take, drop, get_or, slice_get, Option, Some, Result, Ok, refl, sym, ◌∙◌, ap, subst, append_assoc, append-nil, inl, arith, length-map}
 use Rattle.std.specs.List.{All, Contains}
 use Rattle.std.proofs.lemmas.List.{get_or-map}
 use Rattle.std.proofs.lemmas.List.Elements.{All-contains, All-map, Contains-get_or}
 use Rattle.std.proofs.lemmas.Option.{slice_get-get_or, slice_get_within, get_or_from_slice_get}
+use Rattle.sw_text.specs.declared.fault.Fault.{Fault}
 use Rattle.sw_text.specs.declared.place.Span.{Span}
 use Rattle.sw_tree.specs.declared.sheet.Sheet.{Sheet}
 use Rattle.sw_values.specs.declared.plain.Plain.{Plain}
@@ -131,7 +132,7 @@ module _ (setting : Setting) (table : Table) (path text : List ℕ) (config : Li
       let C : List ℕ → Job = λ p. record { sheet = sheet; config = config; path = p } in
       ap A sheet_is ∙ ap B is.2 ∙ ap C is.0
     where
-      same_sheet : (x y : Sheet) → Ok x ≡ Ok y → x ≡ y
+      same_sheet : (x y : Sheet) → ◌≡◌ {A = Result Sheet Fault} (Ok x) (Ok y) → x ≡ y
       same_sheet x y e = cc
 
   -- and begin together

@@ -17,7 +17,7 @@ same_job reads a b is_a is_b path text config =
     let C : List ℕ → Job = λ p. record { sheet = b.sheet; config = b.run.config; path = p } in
     ap A sheet ∙ ap B config ∙ ap C path
   where
-    same_sheet : (x y : Sheet) → Ok x ≡ Ok y → x ≡ y
+    same_sheet : (x y : Sheet) → ◌≡◌ {A = Result Sheet Fault} (Ok x) (Ok y) → x ≡ y
     same_sheet x y e = cc
 
 same_run : (a b : Run) → a.path ≡ b.path → a.text ≡ b.text → a.config ≡ b.config → a.seen ≡ b.seen → a.end ≡ b.end → a ≡ b
