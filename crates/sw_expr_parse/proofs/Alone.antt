@@ -9,9 +9,10 @@ use Rattle.sw_parse_terminals.specs.Numbers.{number_of, these, just}
 use Rattle.sw_tree.specs.declared.expr.Expr.{Expr}
 use Rattle.sw_tree.specs.declared.text.Text.{Text}
 use Rattle.sw_parse_table.specs.declared.source.Source.{Source}
+use Rattle.sw_parse_table.specs.declared.operator.Precedence.TheVariants.{Product, Sum, Relation, Equality, And, Or}
 use Rattle.sw_parse_table.specs.Parts.{Part, Form, Texts, Values}
 use Rattle.sw_parse_table.specs.Sources.{text_of, terminal_at, text_between}
-use Rattle.sw_parse_table.specs.Sets.{level_operators, prefixes, endings, starts}
+use Rattle.sw_parse_table.specs.Sets.{operators, prefixes, endings, starts}
 use Rattle.sw_parse_table.specs.Values.{ends_with_comma, to_text, to_called, to_unary, to_space, to_list}
 use Rattle.sw_parse_table.specs.Table.{forms}
 use Rattle.sw_parse_table.specs.Expressions.{part_insert, word_part, word_start, word, arguments_in, called, primary, prefix, unary, chain, disjunction, space_item, space, list_item, expr}
@@ -26,12 +27,12 @@ use Rattle.sw_expr_parse.proofs.Climb.{chain_same}
 record Ender (k : ℕ) : Type 0 where
   part : member k (these (T.Part ∷ T.PartInsert ∷ [])) ≡ false
   call : member k (just T.CallParen) ≡ false
-  products : member k (level_operators 0) ≡ false
-  sums : member k (level_operators 1) ≡ false
-  relations : member k (level_operators 2) ≡ false
-  equalities : member k (level_operators 3) ≡ false
-  ands : member k (level_operators 4) ≡ false
-  ors : member k (level_operators 5) ≡ false
+  products : member k (operators Product) ≡ false
+  sums : member k (operators Sum) ≡ false
+  relations : member k (operators Relation) ≡ false
+  equalities : member k (operators Equality) ≡ false
+  ands : member k (operators And) ≡ false
+  ors : member k (operators Or) ≡ false
   value : member k (without endings starts) ≡ false
   comma : member k (just T.Comma) ≡ false
 
@@ -141,21 +142,23 @@ module _ (source : Source) (n : ℕ) where
           (many (prefix source)) (primary source) at at (at + 1) [] (Values value ∷ [])
           (none (prefix source) prefixes at (firsts source).signs (rw there refl)) primary_alone)
 
-      chain_alone : reader source n (chain source 0) at ≡ Got (Values value ∷ []) (at + 1)
-      unfolding chain
-      chain_alone = unary_alone
+      product_alone : reader source n (chain source Product) at ≡ Got (Values value ∷ []) (at + 1)
+      product_alone = chain_same source n at Product (at + 1) value unary_alone (rw behind ends.products)
+
+      sum_alone : reader source n (chain source Sum) at ≡ Got (Values value ∷ []) (at + 1)
+      sum_alone = chain_same source n at Sum (at + 1) value product_alone (rw behind ends.sums)
+
+      relation_alone : reader source n (chain source Relation) at ≡ Got (Values value ∷ []) (at + 1)
+      relation_alone = chain_same source n at Relation (at + 1) value sum_alone (rw behind ends.relations)
+
+      equality_alone : reader source n (chain source Equality) at ≡ Got (Values value ∷ []) (at + 1)
+      equality_alone = chain_same source n at Equality (at + 1) value relation_alone (rw behind ends.equalities)
+
+      conjunction_alone : reader source n (chain source And) at ≡ Got (Values value ∷ []) (at + 1)
+      conjunction_alone = chain_same source n at And (at + 1) value equality_alone (rw behind ends.ands)
 
       disjunction_alone : reads source n disjunction at ≡ Got (Values value ∷ []) (at + 1)
-      unfolding disjunction
-      disjunction_alone =
-          chain_same source n at 5 (at + 1) value (omega arith)
-          (chain_same source n at 4 (at + 1) value (omega arith)
-          (chain_same source n at 3 (at + 1) value (omega arith)
-          (chain_same source n at 2 (at + 1) value (omega arith)
-          (chain_same source n at 1 (at + 1) value (omega arith)
-          (chain_same source n at 0 (at + 1) value (omega arith) chain_alone
-          (rw behind ends.products)) (rw behind ends.sums)) (rw behind ends.relations)) (rw behind ends.equalities))
-          (rw behind ends.ands)) (rw behind ends.ors)
+      disjunction_alone = chain_same source n at Or (at + 1) value conjunction_alone (rw behind ends.ors)
 
       space_alone : reads source n space at ≡ Got (Values value ∷ []) (at + 1)
       unfolding space

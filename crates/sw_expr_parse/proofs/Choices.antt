@@ -6,7 +6,7 @@ use Rattle.sw_parse_terminals.specs.Numbers.{just}
 use Rattle.sw_parse_table.specs.declared.source.Source.{Source}
 use Rattle.sw_parse_table.specs.Sources.{terminal_at}
 use Rattle.sw_parse_table.specs.Sets.{numbers, constants, words, bangs, parens_opening, literals, dollars}
-use Rattle.sw_parse_table.specs.Expressions.{number, insert, quoted, text_item, url_item, template, hash, constant, url, url_template, special, variable, word_insert, part_insert, word_part, word_start, word, arguments_in, called, owned_variable, owned_call, owned, range, parent, important, parens, brackets, literal, other, primary, special_expr, special_value, special_parens, special_brackets, special_item}
+use Rattle.sw_parse_table.specs.Expressions.{number, insert, quoted, text_item, url_item, template, hash, constant, url, url_template, special, variable, word_insert, part_insert, word_part, word_start, word, arguments_in, called, owned_variable, owned_call, owned, range, parent, important, parens, brackets, literal, other, primary, special_number, special_expr, special_value, special_parens, special_brackets, special_item}
 use Rattle.sw_parse_table.specs.Reads.{reader, reads}
 use Rattle.sw_parse_expr_lists.proofs.Choices.{goes_left, goes_right}
 
@@ -29,7 +29,7 @@ record Firsts (source : Source) : Type 0 where
   of_owned : first (owned source) ≡ (just T.Owner)
 
 firsts : (source : Source) → Firsts source
-unfolding number insert quoted text_item url_item template hash constant url url_template special variable word_insert part_insert word_part word_start word arguments_in called owned_variable owned_call owned range parent important parens brackets literal other primary special_expr special_value special_parens special_brackets special_item
+unfolding number insert quoted text_item url_item template hash constant url url_template special variable word_insert part_insert word_part word_start word arguments_in called owned_variable owned_call owned range parent important parens brackets literal other primary special_number special_expr special_value special_parens special_brackets special_item
 firsts source =
     record { of_number = refl; of_quoted = refl; of_template = refl; of_hash = refl; of_constant = refl; of_url = refl; of_called = refl; of_range = refl; of_parent = refl; of_important = refl; of_parens = refl; of_literal = refl; of_special = refl; of_variable = refl; of_owned = refl }
 

@@ -1,3 +1,4 @@
 pub mod Alone
+pub mod Binding
 pub mod Forms
 pub mod Readings

@@ -12,7 +12,7 @@ use std::alloc::Global;
 use sw_parse_expr_lists::expr_at;
 use sw_parse_expr_nodes::plain_text_of;
 use sw_parse_grammar::ReadError;
-use sw_parse_table::{Source, found, is_at};
+use sw_parse_table::{Precedence, Source, found, is_at};
 use sw_parse_terminals::Terminal;
 use sw_tree::{Expr, ExprKind};
 
@@ -97,7 +97,6 @@ pub fn read_value(
 }
 
 /// The same of a sum.
-#[tactic(auto, unfolding(sw_parse_table::specs::Expressions::sum))]
 pub fn read_sum(
     alloc: Global,
     source: &Source,
@@ -114,6 +113,6 @@ pub fn read_sum(
         source,
         levels,
         at,
-        2,
+        Precedence::Sum,
     )
 }

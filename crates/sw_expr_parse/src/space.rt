@@ -12,7 +12,7 @@ use crate::chain::chain_at;
 use std::alloc::Global;
 use sw_parse_expr_nodes::{given_up, spaced};
 use sw_parse_grammar::ReadError;
-use sw_parse_table::{Source, found, goes_on, span_between};
+use sw_parse_table::{Precedence, Source, found, goes_on, span_between};
 use sw_text::{List, Memory};
 use sw_tree::Expr;
 
@@ -50,7 +50,7 @@ fn space_items_at<F: Fn(u8, usize) -> Result<(Expr, usize), ReadError> + Copy>(
     let mut list = Vec::new(alloc);
     let mut place = at;
     'items: while goes_on(source, place) {
-        let (item, next) = chain_at(alloc, deeper, source, levels, place, 6)?;
+        let (item, next) = chain_at(alloc, deeper, source, levels, place, Precedence::Or)?;
         list.push(item)?;
         place = next;
     }
@@ -58,7 +58,7 @@ fn space_items_at<F: Fn(u8, usize) -> Result<(Expr, usize), ReadError> + Copy>(
 }
 
 /// A space list, over a reader of those where fewer levels may be opened.
-#[tactic(auto, using(sw_parse_expr_nodes::proofs::Collected::collected), unfolding(sw_parse_grammar::specs::Readers::parse, sw_parse_table::specs::Expressions::space, sw_parse_table::specs::Expressions::disjunction))]
+#[tactic(auto, using(sw_parse_expr_nodes::proofs::Collected::collected), unfolding(sw_parse_grammar::specs::Readers::parse, sw_parse_table::specs::Expressions::space))]
 pub(crate) fn space_by<F: Fn(u8, usize) -> Result<(Expr, usize), ReadError> + Copy>(
     alloc: Global,
     deeper: F,
@@ -70,7 +70,7 @@ pub(crate) fn space_by<F: Fn(u8, usize) -> Result<(Expr, usize), ReadError> + Co
     requires reading { Reading (F.Fn.post deeper) source.now levels }
     ensures { ReadsValue result (reads source.now levels space at) }
 {
-    let (first, place) = chain_at(alloc, deeper, source, levels, at, 6)?;
+    let (first, place) = chain_at(alloc, deeper, source, levels, at, Precedence::Or)?;
     let (rest, place) = space_items_at(alloc, deeper, source, levels, place)?;
     let value = found(space_of(source, at, place, first, rest))?;
     Ok((value, place))

@@ -6,12 +6,12 @@ ghost use Rattle.sw_parse_terminals.specs.declared.terminal.Terminal.TheVariants
 ghost use Rattle.sw_parse_terminals.specs.Numbers.{number_of, just};
 ghost use Rattle.sw_parse_table.specs.Parts.{Place};
 ghost use Rattle.sw_parse_table.specs.Sources.{terminal_at};
-ghost use Rattle.sw_parse_table.specs.Sets.{starts, prefixes, dollars, numbers, constants, bangs, parens_opening, words, level_operators};
+ghost use Rattle.sw_parse_table.specs.Sets.{starts, prefixes, dollars, numbers, constants, bangs, parens_opening, words, operators};
 ghost use Rattle.sw_parse_table.specs.Values.{ends_with_comma};
 ghost use Rattle.sw_parse_table.specs.Reads.{reader, Reads};
 
 use sw_parse_grammar::ReadError;
-use sw_parse_table::{Source, begins_value, is_at};
+use sw_parse_table::{Precedence, Source, begins_value, is_at};
 use sw_parse_terminals::Terminal;
 
 /// The place behind a token that has to stand here.
@@ -128,27 +128,31 @@ pub fn begins_argument(source: &Source, at: usize) -> bool
     begins_value(source, at)
 }
 
-/// Whether an operator of a level stands at a place: 0 binds most strongly, 5 and above least.
-pub fn is_operator(source: &Source, at: usize, level: u8) -> bool
-    ensures test { result ≡ member (terminal_at source.now at) (level_operators level) }
+/// Whether an operator that binds so stands at a place.
+pub fn is_operator(source: &Source, at: usize, precedence: Precedence) -> bool
+    ensures test { result ≡ member (terminal_at source.now at) (operators precedence) }
     ensures within { IsTrue result → at < length source.now.lexemes.now }
 {
-    match level {
-        0 => {
+    match precedence {
+        Precedence::Product => {
             is_at(source, at, Terminal::Times)
                 || is_at(source, at, Terminal::Divide)
                 || is_at(source, at, Terminal::Modulo)
         }
-        1 => is_at(source, at, Terminal::Plus) || is_at(source, at, Terminal::Minus),
-        2 => {
+        Precedence::Sum => {
+            is_at(source, at, Terminal::Plus) || is_at(source, at, Terminal::Minus)
+        }
+        Precedence::Relation => {
             is_at(source, at, Terminal::Less)
                 || is_at(source, at, Terminal::LessEqual)
                 || is_at(source, at, Terminal::Greater)
                 || is_at(source, at, Terminal::GreaterEqual)
         }
-        3 => is_at(source, at, Terminal::Equal) || is_at(source, at, Terminal::NotEqual),
-        4 => is_at(source, at, Terminal::And),
-        _ => is_at(source, at, Terminal::Or),
+        Precedence::Equality => {
+            is_at(source, at, Terminal::Equal) || is_at(source, at, Terminal::NotEqual)
+        }
+        Precedence::And => is_at(source, at, Terminal::And),
+        Precedence::Or => is_at(source, at, Terminal::Or),
     }
 }
 

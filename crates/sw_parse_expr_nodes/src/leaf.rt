@@ -5,17 +5,17 @@ ghost use Rattle.sw_parse_grammar.specs.Readers.{Answers};
 ghost use Rattle.sw_parse_terminals.specs.declared.terminal.Terminal.TheVariants.{Sign, Number};
 ghost use Rattle.sw_parse_terminals.specs.Numbers.{just};
 ghost use Rattle.sw_parse_table.specs.Parts.{Place, Values};
-ghost use Rattle.sw_parse_table.specs.Values.{to_number, to_quoted, to_hash, to_constant, to_url, to_variable, to_range, to_parent, to_important};
-ghost use Rattle.sw_parse_table.specs.Expressions.{number, quoted, hash, constant, url, variable, range, parent, important};
+ghost use Rattle.sw_parse_table.specs.Values.{to_number, to_written, to_quoted, to_hash, to_constant, to_url, to_variable, to_range, to_parent, to_important};
+ghost use Rattle.sw_parse_table.specs.Expressions.{number, special_number, quoted, hash, constant, url, variable, range, parent, important};
 ghost use Rattle.sw_parse_table.specs.Reads.{reader, reads, ReadsValue};
 
 use crate::at::{is_bang, is_constant, is_dollar, kept, skipped};
 use crate::numeral::numeral;
+use crate::text::plain_parts_of;
 use std::alloc::Global;
 use sw_parse_grammar::ReadError;
 use sw_parse_table::{
-    Source, bytes_at, bytes_between, constant_at, decoded_at, found, is_at, said, span_between,
-    stretch_between,
+    Source, bytes_at, bytes_between, constant_at, decoded_at, found, is_at, span_between,
 };
 use sw_parse_terminals::Terminal;
 use sw_text::{Memory, Name};
@@ -56,6 +56,37 @@ pub fn number_at(
 {
     let place = behind_number(source, levels, at)?;
     let value = found(number_of(alloc, source, at, place))?;
+    Ok((value, place))
+}
+
+fn special_number_of(
+    alloc: Global,
+    source: &Source,
+    at: usize,
+    place: usize,
+) -> Result<Expr, Memory>
+    ensures { IfOk result (λ value. to_written source.now at place [] ≡ Values value ∷ []) }
+{
+    let text = Name::new(alloc, bytes_between(source, at, place))?;
+    let span = span_between(source, at, place)?;
+    Ok(Expr {
+        kind: ExprKind::Special(Parts::Plain(text)),
+        span,
+    })
+}
+
+/// A number with its sign in the text of a special function: it is read as it is written.
+#[tactic(auto, unfolding(sw_parse_grammar::specs::Readers::parse, sw_parse_table::specs::Expressions::special_number))]
+pub fn special_number_at(
+    alloc: Global,
+    source: &Source,
+    levels: u8,
+    at: usize,
+) -> Result<(Expr, usize), ReadError>
+    ensures { ReadsValue result (reads source.now levels special_number at) }
+{
+    let place = behind_number(source, levels, at)?;
+    let value = found(special_number_of(alloc, source, at, place))?;
     Ok((value, place))
 }
 
@@ -136,9 +167,8 @@ fn url_of(alloc: Global, source: &Source, at: usize, place: usize) -> Result<Exp
     ensures { IfOk result (λ value. to_url source.now at place [] ≡ Values value ∷ []) }
 {
     let span = span_between(source, at, place)?;
-    let stretch = stretch_between(source, at, place);
     Ok(Expr {
-        kind: ExprKind::Url(Parts::Plain(said(alloc, source, &stretch)?)),
+        kind: ExprKind::Url(plain_parts_of(alloc, source, at, place)?),
         span,
     })
 }

@@ -15,8 +15,8 @@ pub use at::{
 };
 pub use build::{Inner, Inserted, bracketed, chained, enclosed, listed, prefixed, spaced};
 pub use leaf::{
-    constant_value_at, hash_at, important_at, number_at, parent_at, quoted_at, range_at, url_at,
-    variable_at,
+    constant_value_at, hash_at, important_at, number_at, parent_at, quoted_at, range_at,
+    special_number_at, url_at, variable_at,
 };
 pub use lined::comment_text_of;
 pub use text::{appended, grown, joined, parts_of, plain_text_of, text_of};

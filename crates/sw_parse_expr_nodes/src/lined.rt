@@ -1,11 +1,10 @@
 // The text of a loud comment that is a statement.
 ghost use Rattle.std.specs.Prelude.{◌≡◌, ◌++◌, ◌-◌, ◌<◌, map, reverse, length, string_bytes, IsTrue, IfOk, OnOk};
-ghost use Rattle.sw_parse_table.specs.Sources.{text_piece};
 ghost use Rattle.sw_parse_table.specs.Lined.{is_made, is_lined, line_start, line_part, lines_from, lines, lined_pieces, lined_parts, lined_text, comment_text};
 ghost use Rattle.sw_parse_expr_nodes.specs.Views.{insert_of};
 
 use crate::build::Inserted;
-use crate::text::{piece_of, text_of};
+use crate::text::{piece_of, push_name, text_of};
 use std::alloc::Global;
 use sw_parse_table::{Source, bytes_at, from_at, is_at, span_between, to_at};
 use sw_parse_terminals::Terminal;
@@ -76,18 +75,6 @@ fn lines(alloc: Global, source: &Source, at: usize, from: usize, to: usize) -> R
     let mut text = String::new(alloc);
     add_lines(&mut text, source, at, from, to)?;
     Name::new(alloc, text.as_str())
-}
-
-/// Puts a text behind the pieces, where it isn't empty.
-#[tactic(auto, using(crate::proofs::TextPieces::reverse_more))]
-fn push_name(pieces: &mut Vec<Piece>, text: Name) -> Result<(), Memory>
-    ensures { OnOk result (reverse pieces.new.items ≡ text_piece text ++ reverse pieces.old.items) }
-{
-    if text.as_str().is_empty() {
-        return Ok(());
-    }
-    pieces.push(Piece::Text(text))?;
-    Ok(())
 }
 
 fn lined_pieces(

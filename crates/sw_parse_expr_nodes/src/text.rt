@@ -1,17 +1,50 @@
 // Texts with what is inserted in them.
 ghost use Rattle.std.specs.Prelude.{◌≡◌, ◌++◌, [], map, reverse, IfOk, IfErr, OnOk};
-ghost use Rattle.sw_parse_table.specs.Sources.{said, IsCut, pieces_from, parts_from, parts_between, text_piece, text_between};
+ghost use Rattle.sw_parse_table.specs.Sources.{Texts, texts, texts_list, bytes_from, pieces_in, text_pieces, plain_parts, IsCut, pieces_from, parts_from, parts_between, text_piece, text_between};
 ghost use Rattle.sw_parse_expr_nodes.specs.Views.{insert_of, inserts_in, inserted_piece};
 
 use crate::build::Inserted;
 use std::alloc::Global;
 use sw_parse_grammar::ReadError;
-use sw_parse_table::{Source, Stretch, behind, found, said, span_between, stretch_between, up_to};
-use sw_text::{List, Memory};
+use sw_parse_table::{
+    Source, Stretch, behind, bytes_from, found, has_comments, span_between, stretch_between, texts,
+    up_to,
+};
+use sw_text::{List, Memory, Name};
 use sw_tree::{Parts, Piece, Text};
 
-/// Puts the text of a stretch behind the pieces, where it isn't empty.
+/// Puts a text behind the pieces, where it isn't empty.
 #[tactic(auto, using(crate::proofs::TextPieces::reverse_more))]
+pub(crate) fn push_name(pieces: &mut Vec<Piece>, text: Name) -> Result<(), Memory>
+    ensures { OnOk result (reverse pieces.new.items ≡ text_piece text ++ reverse pieces.old.items) }
+{
+    if text.as_str().is_empty() {
+        return Ok(());
+    }
+    pieces.push(Piece::Text(text))?;
+    Ok(())
+}
+
+/// The same of several, the last one first.
+fn push_names(pieces: &mut Vec<Piece>, list: List<Name>) -> Result<(), Memory>
+    ensures { OnOk result (reverse pieces.new.items ≡ pieces_in list ++ reverse pieces.old.items) }
+{
+    let mut rest = list;
+    'texts: while let Some(text) = rest.pop() {
+        push_name(pieces, text)?;
+    }
+    Ok(())
+}
+
+/// The text of a stretch that has no comments.
+fn bytes_of(alloc: Global, source: &Source, stretch: &Stretch) -> Result<Name, Memory>
+    requires { IsCut source.now stretch.now }
+    ensures { IfOk result (λ text. text ≡ bytes_from source.now stretch.now.from stretch.now.to) }
+{
+    Name::new(alloc, bytes_from(source, stretch.from, stretch.to))
+}
+
+/// Puts the texts of a stretch behind the pieces, the last one first.
 fn push_text(
     alloc: Global,
     pieces: &mut Vec<Piece>,
@@ -19,15 +52,13 @@ fn push_text(
     stretch: &Stretch,
 ) -> Result<(), Memory>
     requires { IsCut source.now stretch.now }
-    ensures { OnOk result (reverse pieces.new.items ≡ text_piece (said source.now stretch.now) ++ reverse
+    ensures { OnOk result (reverse pieces.new.items ≡ text_pieces (texts source.now stretch.now) ++ reverse
         pieces.old.items) }
 {
-    let text = said(alloc, source, stretch)?;
-    if text.as_str().is_empty() {
-        return Ok(());
+    if has_comments(source, stretch) {
+        return push_names(pieces, texts(alloc, source, stretch)?);
     }
-    pieces.push(Piece::Text(text))?;
-    Ok(())
+    push_name(pieces, bytes_of(alloc, source, stretch)?)
 }
 
 pub(crate) fn piece_of(inserted: Inserted) -> Piece
@@ -65,6 +96,34 @@ fn pieces_of(
     Ok(List::from_vec(pieces))
 }
 
+/// Texts that stand apart, or the only one.
+fn parts_of_texts(alloc: Global, list: List<Name>) -> Result<Parts, Memory>
+    ensures { (several : Texts) → list ≡ texts_list several → IfOk result (λ parts. parts ≡ plain_parts several) }
+{
+    if 1 < list.len() {
+        let mut pieces = Vec::new(alloc);
+        push_names(&mut pieces, list)?;
+        pieces.reverse();
+        return Ok(Parts::Mixed(List::from_vec(pieces)));
+    }
+    let mut list = list;
+    match list.pop() {
+        None => Ok(Parts::Plain(Name::new(alloc, "")?)),
+        Some(text) => Ok(Parts::Plain(text)),
+    }
+}
+
+/// What the text of a stretch is made of, where nothing is inserted in it.
+fn plain_parts(alloc: Global, source: &Source, stretch: &Stretch) -> Result<Parts, Memory>
+    requires { IsCut source.now stretch.now }
+    ensures { IfOk result (λ parts. parts ≡ plain_parts (texts source.now stretch.now)) }
+{
+    if has_comments(source, stretch) {
+        return parts_of_texts(alloc, texts(alloc, source, stretch)?);
+    }
+    Ok(Parts::Plain(bytes_of(alloc, source, stretch)?))
+}
+
 #[inline(always)]
 fn parts_by(
     alloc: Global,
@@ -76,7 +135,7 @@ fn parts_by(
     ensures { IfOk result (λ parts. parts_from source.now stretch (map insert_of list) ≡ parts) }
 {
     if list.is_empty() {
-        return Ok(Parts::Plain(said(alloc, source, &stretch)?));
+        return plain_parts(alloc, source, &stretch);
     }
     Ok(Parts::Mixed(pieces_of(alloc, source, stretch, list)?))
 }
@@ -93,6 +152,19 @@ pub fn parts_of(
     ensures { IfOk result (λ parts. parts_between source.now at place (map insert_of list) ≡ parts) }
 {
     parts_by(alloc, source, stretch_between(source, at, place), list)
+}
+
+/// The same where nothing is inserted in it.
+pub(crate) fn plain_parts_of(
+    alloc: Global,
+    source: &Source,
+    at: usize,
+    place: usize,
+) -> Result<Parts, Memory>
+    ensures { IfOk result (λ parts. parts_between source.now at place [] ≡ parts) }
+{
+    let stretch = stretch_between(source, at, place);
+    plain_parts(alloc, source, &stretch)
 }
 
 /// The text from the token at a place to the one before another.
@@ -122,9 +194,8 @@ pub fn plain_text_of(
     ensures { IfOk result (λ text. text_between source.now at place [] ≡ text) }
 {
     let span = span_between(source, at, place)?;
-    let stretch = stretch_between(source, at, place);
     Ok(Text {
-        parts: Parts::Plain(said(alloc, source, &stretch)?),
+        parts: plain_parts_of(alloc, source, at, place)?,
         span,
     })
 }

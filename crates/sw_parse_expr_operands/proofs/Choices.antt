@@ -7,7 +7,7 @@ use Rattle.sw_parse_table.specs.declared.source.Source.{Source}
 use Rattle.sw_parse_table.specs.Parts.{Part, Form}
 use Rattle.sw_parse_table.specs.Sources.{terminal_at}
 use Rattle.sw_parse_table.specs.Sets.{numbers, dollars, special_texts, special_values}
-use Rattle.sw_parse_table.specs.Expressions.{number, insert, quoted, text_item, url_item, template, hash, constant, url, url_template, special, variable, word_insert, part_insert, word_part, word_start, word, arguments_in, called, owned_variable, owned_call, owned, range, parent, important, parens, brackets, literal, other, primary, special_expr, special_value, special_parens, special_brackets, special_item}
+use Rattle.sw_parse_table.specs.Expressions.{number, insert, quoted, text_item, url_item, template, hash, constant, url, url_template, special, variable, word_insert, part_insert, word_part, word_start, word, arguments_in, called, owned_variable, owned_call, owned, range, parent, important, parens, brackets, literal, other, primary, special_number, special_expr, special_value, special_parens, special_brackets, special_item}
 use Rattle.sw_parse_table.specs.Reads.{reader, reads}
 use Rattle.sw_parse_expr_lists.proofs.Choices.{goes_left, goes_right}
 
@@ -17,7 +17,7 @@ texts = skip special_texts
 
 -- what each row begins with
 record Firsts (source : Source) : Type 0 where
-  of_number : first (number source) ≡ numbers
+  of_number : first (special_number source) ≡ numbers
   of_variable : first (variable source) ≡ dollars
   of_owned : first (owned source) ≡ (just T.Owner)
   of_raw : first texts ≡ special_texts
@@ -26,7 +26,7 @@ record Firsts (source : Source) : Type 0 where
   of_special_parens : first (special_parens source) ≡ (just T.RawParen)
 
 firsts : (source : Source) → Firsts source
-unfolding number insert quoted text_item url_item template hash constant url url_template special variable word_insert part_insert word_part word_start word arguments_in called owned_variable owned_call owned range parent important parens brackets literal other primary special_expr special_value special_parens special_brackets special_item
+unfolding number insert quoted text_item url_item template hash constant url url_template special variable word_insert part_insert word_part word_start word arguments_in called owned_variable owned_call owned range parent important parens brackets literal other primary special_number special_expr special_value special_parens special_brackets special_item
 firsts source =
     record { of_number = refl; of_variable = refl; of_owned = refl; of_raw = refl; of_insert = refl; of_special_value = refl; of_special_parens = refl }
 
@@ -35,7 +35,7 @@ module _ (source : Source) (n : ℕ) (i : ℕ) where
       → reads source n special_expr i ≡ reader source n (alt (variable source) (alt (owned source) (called source))) i
   unfolding special_expr
   special_expr_past_1 o0 =
-      goes_right source n (number source) (alt (variable source) (alt (owned source) (called source))) numbers i
+      goes_right source n (special_number source) (alt (variable source) (alt (owned source) (called source))) numbers i
       (firsts source).of_number o0
 
   special_expr_past_2 : member (terminal_at source i) numbers ≡ false → member (terminal_at source i) dollars ≡ false
@@ -52,10 +52,10 @@ module _ (source : Source) (n : ℕ) (i : ℕ) where
       (firsts source).of_owned o2
 
   pub special_expr_number : member (terminal_at source i) numbers ≡ true
-      → reads source n special_expr i ≡ reader source n (number source) i
+      → reads source n special_expr i ≡ reader source n (special_number source) i
   unfolding special_expr
   special_expr_number m =
-      goes_left source n (number source) (alt (variable source) (alt (owned source) (called source))) numbers i
+      goes_left source n (special_number source) (alt (variable source) (alt (owned source) (called source))) numbers i
       (firsts source).of_number m
 
   pub special_expr_variable : member (terminal_at source i) numbers ≡ false → member

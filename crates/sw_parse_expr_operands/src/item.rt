@@ -12,7 +12,7 @@ use crate::{called_at, owned_at};
 use std::alloc::Global;
 use sw_parse_expr_lists::inserted_at;
 use sw_parse_expr_nodes::{
-    Inserted, appended, begins_word, is_dollar, is_number, number_at, variable_at,
+    Inserted, appended, begins_word, is_dollar, is_number, special_number_at, variable_at,
 };
 use sw_parse_grammar::ReadError;
 use sw_parse_table::{Source, found, is_at};
@@ -80,7 +80,7 @@ fn special_expr_at<F: Fn(u8, usize) -> Result<(Expr, usize), ReadError> + Copy>(
     ensures { ReadsValue result (reads source.now levels special_expr at) }
 {
     if is_number(source, at) {
-        number_at(alloc, source, levels, at)
+        special_number_at(alloc, source, levels, at)
     } else if is_dollar(source, at) {
         variable_at(alloc, source, levels, at)
     } else if is_at(source, at, Terminal::Owner) {

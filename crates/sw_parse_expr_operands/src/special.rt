@@ -7,6 +7,7 @@ ghost use Rattle.sw_parse_table.specs.Expressions.{special, special_parens, spec
 ghost use Rattle.sw_parse_table.specs.Reads.{reader, reads, Reads, ReadsValue};
 ghost use Rattle.sw_parse_expr_nodes.specs.Views.{insert_of};
 ghost use Rattle.sw_parse_expr_lists.specs.Deeper.{Callable, Reading};
+ghost use Rattle.sw_parse_expr_operands.specs.Specials.{own_parens};
 
 use crate::item::{
     begins_special, insert_alone_at, is_special_text, is_special_value, more, raw_at,
@@ -40,7 +41,7 @@ fn special_parens_at<F: Fn(u8, usize) -> Result<(Expr, usize), ReadError> + Copy
     if levels == 0 {
         return Err(ReadError::TooDeep(at));
     }
-    let (list, place) = special_inside_at(alloc, deeper, source, levels - 1, at + 1)?;
+    let (list, place) = special_items_at(alloc, deeper, source, levels - 1, at + 1)?;
     if !is_at(source, place, Terminal::RawParenEnd) {
         return Err(ReadError::Unexpected(place));
     }
@@ -67,7 +68,7 @@ fn special_brackets_at<F: Fn(u8, usize) -> Result<(Expr, usize), ReadError> + Co
     if levels == 0 {
         return Err(ReadError::TooDeep(at));
     }
-    let (list, place) = special_inside_at(alloc, deeper, source, levels - 1, at + 1)?;
+    let (list, place) = special_items_at(alloc, deeper, source, levels - 1, at + 1)?;
     if !is_at(source, place, Terminal::RawBracketEnd) {
         return Err(ReadError::Unexpected(place));
     }
@@ -125,7 +126,6 @@ fn special_items_at<F: Fn(u8, usize) -> Result<(Expr, usize), ReadError> + Copy>
 }
 
 /// The values in at least one part.
-#[cycle(special)]
 #[tactic(auto, unfolding(sw_parse_grammar::specs::Readers::parse, sw_parse_table::specs::Expressions::special_inside))]
 fn special_inside_at<F: Fn(u8, usize) -> Result<(Expr, usize), ReadError> + Copy>(
     alloc: Global,
@@ -142,6 +142,32 @@ fn special_inside_at<F: Fn(u8, usize) -> Result<(Expr, usize), ReadError> + Copy
     let (rest, place) = special_items_at(alloc, deeper, source, levels, place)?;
     let list = more(first, rest)?;
     Ok((list, place))
+}
+
+/// What stands in the parentheses of a special function.
+#[tactic(auto, unfolding(sw_parse_grammar::specs::Readers::parse))]
+fn own_parens_at<F: Fn(u8, usize) -> Result<(Expr, usize), ReadError> + Copy>(
+    alloc: Global,
+    deeper: F,
+    source: &Source,
+    levels: u8,
+    at: usize,
+) -> Result<(List<Inserted>, usize), ReadError>
+    requires callable { Callable (F.Fn.pre deeper) levels }
+    requires reading { Reading (F.Fn.post deeper) source.now levels }
+    ensures { Reads (λ list. map insert_of list) result (reader source.now levels own_parens at) }
+{
+    if !is_at(source, at, Terminal::RawParen) {
+        return Err(ReadError::Unexpected(at));
+    }
+    if levels == 0 {
+        return Err(ReadError::TooDeep(at));
+    }
+    let (list, place) = special_inside_at(alloc, deeper, source, levels - 1, at + 1)?;
+    if !is_at(source, place, Terminal::RawParenEnd) {
+        return Err(ReadError::Unexpected(place));
+    }
+    Ok((list, place + 1))
 }
 
 fn special_of(
@@ -161,7 +187,7 @@ fn special_of(
 }
 
 /// `calc(..)` and what else is read as it is.
-#[tactic(auto, unfolding(sw_parse_grammar::specs::Readers::parse, sw_parse_table::specs::Expressions::special, sw_parse_table::specs::Expressions::special_parens))]
+#[tactic(auto, unfolding(sw_parse_grammar::specs::Readers::parse, sw_parse_table::specs::Expressions::special))]
 pub fn special_at<F: Fn(u8, usize) -> Result<(Expr, usize), ReadError> + Copy>(
     alloc: Global,
     deeper: F,
@@ -174,7 +200,7 @@ pub fn special_at<F: Fn(u8, usize) -> Result<(Expr, usize), ReadError> + Copy>(
     ensures { ReadsValue result (reads source.now levels special at) }
 {
     let place = skipped(source, levels, at, Terminal::Special)?;
-    let (list, place) = special_parens_at(alloc, deeper, source, levels, place)?;
+    let (list, place) = own_parens_at(alloc, deeper, source, levels, place)?;
     let value = found(special_of(alloc, source, at, place, list))?;
     Ok((value, place))
 }

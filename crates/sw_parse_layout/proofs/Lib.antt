@@ -7,3 +7,13 @@ pub mod Brought
 pub mod Stands
 pub mod Endings
 pub mod Progress
+pub mod Nesting
+pub mod Entering
+pub mod Firsts
+pub mod Stepping
+pub mod Begun
+pub mod Blocked
+pub mod Alike
+pub mod Gaps
+pub mod Filling
+pub mod Filled

@@ -36,7 +36,7 @@ use Rattle.sw_parse_layout.proofs.Reaching.{past_silent, past_loud, white_end_re
 use Rattle.sw_parse_layout.proofs.Stands.{Stands, Steps, goes, unclosed, step_steps}
 use Rattle.sw_parse_layout.proofs.Endings.{start_stands}
 
-busy : Mode → ℕ
+pub busy : Mode → ℕ
 busy modes.Between = 0
 busy (modes.Statement depth) = 1
 busy (modes.Comment extent) = 1
@@ -53,19 +53,19 @@ busy_between : busy modes.Between ≡ 0
 unfolding busy
 busy_between = refl
 
-busy_statement : (depth : ℕ) → busy (modes.Statement depth) ≡ 1
+pub busy_statement : (depth : ℕ) → busy (modes.Statement depth) ≡ 1
 unfolding busy
 busy_statement depth = refl
 
-weight : State → ℕ
+pub weight : State → ℕ
 weight s = 2 * s.at + busy s.mode
 
-weight_of : (s : State) → weight s ≡ 2 * s.at + busy s.mode
+pub weight_of : (s : State) → weight s ≡ 2 * s.at + busy s.mode
 unfolding weight
 weight_of s = refl
 
 module _ (bs : List ℕ) (text : IsText bs) where
-  data Grows (s : State) : Result Found ℕ → Type 0 where
+  pub data Grows (s : State) : Result Found ℕ → Type 0 where
     on : {f : Found} → weight s < weight f.state → Grows s (Ok f)
     ends : {k : ℕ} → Grows s (Err k)
 
@@ -246,7 +246,7 @@ module _ (bs : List ℕ) (text : IsText bs) where
   outsides s (modes.Comment extent) e st l = comments s extent l
   outsides s (modes.Behind extent) e st l = behinds s extent l
 
-  grows : (s : State) → Stands bs s → s.at < length bs → Grows s (step bs s)
+  pub grows : (s : State) → Stands bs s → s.at < length bs → Grows s (step bs s)
   unfolding step
   grows s st l = either (Grows s) (is_outside s.line) _ _ (λ _. outsides s s.mode refl st l) (λ _. pieces s l)
 
@@ -257,7 +257,7 @@ module _ (bs : List ℕ) (text : IsText bs) where
       go true e = f (grind (arith, nat_tests))
       go false e = g (grind (arith, nat_tests))
 
-  spent : (s : State) → 2 * length bs ≤ weight s → length bs ≤ s.at
+  pub spent : (s : State) → 2 * length bs ≤ weight s → length bs ≤ s.at
   spent s l = let a = weight_of s in let b = busy_small s.mode in omega arith
 
   fuel : (n m : ℕ) (s : State) → Stands bs s → 2 * length bs ≤ n + weight s → 2 * length bs ≤ m + weight s

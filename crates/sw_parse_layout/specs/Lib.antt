@@ -7,3 +7,5 @@ pub mod Comments
 pub mod Steps
 pub mod Layout
 pub mod Faults
+pub mod Laws
+pub mod LawsOfText

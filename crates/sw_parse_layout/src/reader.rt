@@ -1,7 +1,10 @@
 // The tokens of an indented sheet.
-ghost use Rattle.std.specs.Prelude.{◌≡◌, Ok, IfOk, IfErr};
+ghost use Rattle.std.specs.Prelude.{◌≡◌, length, Ok, IfOk, IfErr};
+ghost use Rattle.sw_text.specs.Places.{mark_length};
 ghost use Rattle.std.specs.Str.{IsCharBoundary};
 ghost use Rattle.sw_parse_layout.specs.Layout.{layout};
+ghost use Rattle.sw_parse_layout.specs.Laws.{Statements};
+ghost use Rattle.sw_parse_layout.specs.LawsOfText.{Fills};
 ghost use Rattle.sw_parse_layout.specs.Faults.{fault_at, TellsFault};
 
 use crate::walk::{LayoutEnd, Place, layout};
@@ -14,6 +17,9 @@ use sw_tokens::{Fault10, Tokens};
 /// else at the first token that its layout refuses.
 pub fn tokens_of(alloc: Global, sheet: &Shared<SheetText>) -> Result<Tokens, Fault10>
     ensures tokens { IfOk result (λ tokens. layout sheet.now.bytes ≡ Ok tokens.list) }
+    ensures statements { IfOk result (λ tokens. Statements sheet.now.bytes 0 tokens.list) }
+    ensures text { IfOk result (λ tokens.
+        Fills sheet.now.bytes (mark_length sheet.now.bytes) (length sheet.now.bytes) tokens.list) }
     ensures sheet { IfOk result (λ tokens. tokens.sheet ≡ sheet.now) }
     ensures fault { IfErr result (TellsFault sheet.now (layout sheet.now.bytes)) }
 {

@@ -5,6 +5,8 @@ ghost use Rattle.sw_text.specs.Places.{mark_length};
 ghost use Rattle.sw_parse_layout.specs.Laid.{both, earlier, behind};
 ghost use Rattle.sw_parse_layout.specs.Layout.{walk, comment_end_sign, last_tokens, finished, start_at, laid_of, end_of, layout, TellsLaid, Told, IsPlace, told_by, place_of, Fits32};
 ghost use Rattle.sw_tokens.specs.Order.{InOrder};
+ghost use Rattle.sw_parse_layout.specs.Laws.{Statements};
+ghost use Rattle.sw_parse_layout.specs.LawsOfText.{Fills};
 
 use crate::blocks::{Blocks, due_sign, shut_blocks};
 use crate::laid::{Laid, both, joined, nothing, told_token};
@@ -163,6 +165,8 @@ pub fn layout(alloc: Global, text: &str) -> Result<List<Token>, LayoutEnd>
     requires { length text.now < 2 ^ 32 }
     ensures told { Told result (layout text.now) }
     ensures order { IfOk result (λ tokens. InOrder text.now 0 tokens) }
+    ensures statements { IfOk result (λ tokens. Statements text.now 0 tokens) }
+    ensures text { IfOk result (λ tokens. Fills text.now (mark_length text.now) (length text.now) tokens) }
     ensures place { IfErr result (IsPlace text.now) }
 {
     match laid_of(alloc, text) {

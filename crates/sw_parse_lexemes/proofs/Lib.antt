@@ -6,3 +6,8 @@ pub mod Lies
 mod Examples
 pub mod Firsts
 pub mod Passing
+mod Turns
+pub mod Knowing
+mod Laws
+pub mod NameLaws
+mod WordLaws

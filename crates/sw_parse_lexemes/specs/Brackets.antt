@@ -1,5 +1,5 @@
 -- What a bracket is at its place, and `;` in brackets (Sass specification, "Special functions"; CSS Syntax, blocks).
-use Rattle.std.specs.Prelude.{ℕ, ◌-◌, nat_lt, Bool, true, false, not, ◌&&◌, ◌||◌, if◌then◌else◌, List, length, Option, Some, None, slice_get}
+use Rattle.std.specs.Prelude.{ℕ, ◌+◌, ◌-◌, nat_lt, Bool, true, false, not, ◌&&◌, ◌||◌, if◌then◌else◌, List, length, Option, Some, None, slice_get}
 use Rattle.sw_parse_terminals.specs.declared.terminal.Terminal.{Terminal}
 use Rattle.sw_parse_terminals.specs.declared.terminal.Terminal.TheVariants as terminals
 use Rattle.sw_parse_lexemes.specs.declared.sort.Sort.TheVariants as sorts
@@ -10,14 +10,18 @@ use Rattle.sw_parse_lexemes.specs.declared.state.Bracket.TheVariants as brackets
 use Rattle.sw_parse_lexemes.specs.declared.state.Frame.{Frame}
 use Rattle.sw_parse_lexemes.specs.declared.state.State.{State}
 use Rattle.sw_parse_lexemes.specs.Classes.{same}
-use Rattle.sw_parse_lexemes.specs.Ahead.{spaced_at, next_sort}
-use Rattle.sw_parse_lexemes.specs.Names.{is, continues}
+use Rattle.sw_parse_lexemes.specs.Ahead.{sort_at, spaced_at, code_from}
+use Rattle.sw_parse_lexemes.specs.Names.{is, is_not, continues}
 use Rattle.sw_parse_lexemes.specs.Signs.{is_text, or_raw}
+
+-- a condition begins with `(` or `not`
+abbrev pub opens_condition : List Plain → ℕ → Bool
+opens_condition plains at = same (sort_at plains at) sorts.OpenParen || is_not plains at
 
 -- `(` in an expression or a media query
 abbrev pub plain_paren : List Plain → ℕ → Terminal
 plain_paren plains at =
-    if same (next_sort plains at) sorts.OpenParen || same (next_sort plains at) sorts.Not
+    if opens_condition plains (code_from plains (at + 1))
     then terminals.ConditionParen
     else terminals.Paren
 

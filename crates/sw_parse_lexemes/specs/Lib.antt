@@ -11,3 +11,5 @@ pub mod Brackets
 pub mod Terminals
 pub mod Steps
 pub mod Lexemes
+pub mod Turns
+pub mod Laws

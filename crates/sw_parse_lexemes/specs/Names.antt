@@ -131,6 +131,10 @@ name_in_include state plains at =
     else (if is state.before terminals.OwnerDot then terminals.Named
     else using_or_named (sort_at plains at))
 
+-- `not` stands there, and no word that begins with it
+abbrev pub is_not : List Plain → ℕ → Bool
+is_not plains at = same (sort_at plains at) sorts.Not && not (is_direct plains (at + 1) sorts.OpenInsert)
+
 -- `not` stands before a feature behind `and`, in a condition, and where a `(` follows
 abbrev pub not_in_media : State → List Plain → ℕ → Terminal
 not_in_media state plains at =
@@ -142,20 +146,21 @@ not_in_media state plains at =
 abbrev pub only_in_media : List Plain → ℕ → Terminal
 only_in_media plains at = if begins_word plains (code_from plains (at + 1)) then terminals.Only else terminals.Word
 
--- a constant is no word, but where a `#{` follows directly
-abbrev pub word_in_media : List Plain → ℕ → Terminal
-word_in_media plains at =
-    if is_direct plains (at + 1) sorts.OpenInsert then terminals.Word else constant_or_word (sort_at plains at)
+abbrev pub is_only : Sort → Bool
+is_only sorts.Only = true
+is_only _ = false
 
+-- a keyword or a constant is no word
+abbrev pub keyword_in_media : State → List Plain → ℕ → Terminal
+keyword_in_media state plains at =
+    if same (sort_at plains at) sorts.Not then not_in_media state plains at
+    else (if is_only (sort_at plains at) then only_in_media plains at
+    else constant_or_word (sort_at plains at))
+
+-- but where a `#{` follows directly, any name begins a word
 abbrev pub name_in_media : State → List Plain → ℕ → Terminal
 name_in_media state plains at =
-    elim (sort_at plains at) as (λ _. Terminal) [
-      | sorts.And ↦ terminals.And
-      | sorts.Or ↦ terminals.Or
-      | sorts.Not ↦ not_in_media state plains at
-      | sorts.Only ↦ only_in_media plains at
-      | _ ↦ word_in_media plains at
-    ]
+    if is_direct plains (at + 1) sorts.OpenInsert then terminals.Word else keyword_in_media state plains at
 
 abbrev pub is_in : Sort → Bool
 is_in sorts.In = true

@@ -66,10 +66,21 @@ plus_terminal state plains at =
     else (if plus_signs state plains at then terminals.Sign
     else by_operand state terminals.Plus terminals.PrefixPlus)
 
+-- a `#{`, or a `-` directly before one, directly behind an `@` is the name of an at-rule
+abbrev pub names_rule : State → List Plain → ℕ → Bool
+names_rule state plains at =
+    (is state.before terminals.AtInsert || is state.before terminals.WordMinus) && not (spaced_at plains at)
+
+abbrev pub minus_in_text : State → List Plain → ℕ → Terminal
+minus_in_text state plains at =
+    if names_rule state plains at && is_direct plains (at + 1) sorts.OpenInsert
+    then terminals.WordMinus
+    else sign_in_text state.mode (minus_signs state plains at)
+
 abbrev pub minus_terminal : State → List Plain → ℕ → Terminal
 minus_terminal state plains at =
     if continues state plains at then terminals.Part
-    else (if is_text state.mode then sign_in_text state.mode (minus_signs state plains at)
+    else (if is_text state.mode then minus_in_text state plains at
     else (if is_direct plains (at + 1) sorts.OpenInsert
     then (if is_apart state plains at then terminals.Other else terminals.WordMinus)
     else (if minus_signs state plains at then terminals.Sign
@@ -132,10 +143,6 @@ ends_value state plains at =
 abbrev pub bang_terminal : State → List Plain → ℕ → Terminal
 bang_terminal state plains at =
     if takes_flags state.mode && ends_value state plains at then terminals.Ending else or_raw state.mode terminals.Bang
-
--- a `#{` directly behind an `@` is the name of an at-rule
-abbrev pub names_rule : State → List Plain → ℕ → Bool
-names_rule state plains at = is state.before terminals.AtInsert && not (spaced_at plains at)
 
 -- a `#{` that goes on with no word
 abbrev pub insert_in : State → List Plain → ℕ → Terminal

@@ -1,21 +1,28 @@
 // What a bracket is at its place, and `;` in brackets.
-ghost use Rattle.std.specs.Prelude.{◌≡◌, ◌<◌, length};
-ghost use Rattle.sw_parse_lexemes.specs.Brackets.{plain_paren, include_paren, paren_in, paren_terminal, bracket_terminal, innermost, is_custom, stray, closes_paren, closes_bracket, is_outer, is_brace, is_inner, sign_in_brackets, open_brace, close_brace, semicolon};
+ghost use Rattle.std.specs.Prelude.{◌≡◌, ◌<◌, ◌≤◌, length};
+ghost use Rattle.sw_parse_lexemes.specs.Brackets.{opens_condition, plain_paren, include_paren, paren_in, paren_terminal, bracket_terminal, innermost, is_custom, stray, closes_paren, closes_bracket, is_outer, is_brace, is_inner, sign_in_brackets, open_brace, close_brace, semicolon};
 
-use crate::ahead::{next_sort, spaced_at};
+use crate::ahead::{code_from, sort_at, spaced_at};
 use crate::class::same;
-use crate::name::{continues, is};
+use crate::name::{continues, is, is_not};
 use crate::plain::Plain;
 use crate::sign::{is_text, or_raw};
 use crate::sort::Sort;
 use crate::state::{Bracket, Frame, Mode, State};
 use sw_parse_terminals::Terminal;
 
+fn opens_condition(plains: &[Plain], at: usize) -> bool
+    requires { at ≤ length plains.now }
+    ensures { result ≡ opens_condition plains.now at }
+{
+    same(sort_at(plains, at), Sort::OpenParen) || is_not(plains, at)
+}
+
 fn plain_paren(plains: &[Plain], at: usize) -> Terminal
     requires { at < length plains.now }
     ensures { result ≡ plain_paren plains.now at }
 {
-    if same(next_sort(plains, at), Sort::OpenParen) || same(next_sort(plains, at), Sort::Not) {
+    if opens_condition(plains, code_from(plains, at + 1)) {
         Terminal::ConditionParen
     } else {
         Terminal::Paren

@@ -6,6 +6,7 @@ mod ahead;
 mod bracket;
 mod class;
 mod cursor;
+mod law;
 mod lexemes;
 mod mode;
 mod name;
@@ -19,6 +20,10 @@ mod step;
 mod terminal;
 mod words;
 
+pub use law::{
+    signs_are_told_by_their_neighbours, statements_are_told_by_their_colon,
+    tokens_are_seen_in_turn, words_are_told_by_their_neighbours,
+};
 pub use lexemes::{lexemes_of, value_lexemes_of};
 pub use plain::Plain;
 pub use sort::Sort;

@@ -1,7 +1,7 @@
 // What a name is at its place.
-ghost use Rattle.std.specs.Prelude.{◌≡◌, ◌<◌, length};
+ghost use Rattle.std.specs.Prelude.{◌≡◌, ◌<◌, ◌≤◌, length};
 ghost use Rattle.sw_parse_terminals.specs.Numbers.{number_of};
-ghost use Rattle.sw_parse_lexemes.specs.Names.{is, is_raw, continues, is_apart, behind_dollar, is_bang, behind_bang, constant_or_word, is_special_name, name_in_expression, stays_text, owns, name_in_special, word_in_load, before_member, name_in_use, name_in_forward, using_or_named, name_in_include, not_in_media, only_in_media, word_in_media, name_in_media, is_in, is_from, name_in_each, name_in_for, is_bound_end, name_in_bounds, name_in, behind_sign, name_terminal};
+ghost use Rattle.sw_parse_lexemes.specs.Names.{is, is_raw, continues, is_apart, behind_dollar, is_bang, behind_bang, constant_or_word, is_special_name, name_in_expression, stays_text, owns, name_in_special, word_in_load, before_member, name_in_use, name_in_forward, using_or_named, name_in_include, is_not, not_in_media, only_in_media, is_only, keyword_in_media, name_in_media, is_in, is_from, name_in_each, name_in_for, is_bound_end, name_in_bounds, name_in, behind_sign, name_terminal};
 
 use crate::ahead::{begins_word, code_from, is_direct, name_direct, next_sort, sort_at, spaced_at};
 use crate::class::{is_reserved, same};
@@ -222,6 +222,13 @@ fn name_in_include(state: &State, plains: &[Plain], at: usize) -> Terminal
     }
 }
 
+pub(crate) fn is_not(plains: &[Plain], at: usize) -> bool
+    requires { at ≤ length plains.now }
+    ensures { result ≡ is_not plains.now at }
+{
+    same(sort_at(plains, at), Sort::Not) && !is_direct(plains, at + 1, Sort::OpenInsert)
+}
+
 fn not_in_media(state: &State, plains: &[Plain], at: usize) -> Terminal
     requires { at < length plains.now }
     ensures { result ≡ not_in_media state.now plains.now at }
@@ -247,12 +254,23 @@ fn only_in_media(plains: &[Plain], at: usize) -> Terminal
     }
 }
 
-fn word_in_media(plains: &[Plain], at: usize) -> Terminal
-    requires { at < length plains.now }
-    ensures { result ≡ word_in_media plains.now at }
+fn is_only(sort: Sort) -> bool
+    ensures { result ≡ is_only sort }
 {
-    if is_direct(plains, at + 1, Sort::OpenInsert) {
-        Terminal::Word
+    match sort {
+        Sort::Only => true,
+        _ => false,
+    }
+}
+
+fn keyword_in_media(state: &State, plains: &[Plain], at: usize) -> Terminal
+    requires { at < length plains.now }
+    ensures { result ≡ keyword_in_media state.now plains.now at }
+{
+    if same(sort_at(plains, at), Sort::Not) {
+        not_in_media(state, plains, at)
+    } else if is_only(sort_at(plains, at)) {
+        only_in_media(plains, at)
     } else {
         constant_or_word(sort_at(plains, at))
     }
@@ -262,12 +280,10 @@ fn name_in_media(state: &State, plains: &[Plain], at: usize) -> Terminal
     requires { at < length plains.now }
     ensures { result ≡ name_in_media state.now plains.now at }
 {
-    match sort_at(plains, at) {
-        Sort::And => Terminal::And,
-        Sort::Or => Terminal::Or,
-        Sort::Not => not_in_media(state, plains, at),
-        Sort::Only => only_in_media(plains, at),
-        _ => word_in_media(plains, at),
+    if is_direct(plains, at + 1, Sort::OpenInsert) {
+        Terminal::Word
+    } else {
+        keyword_in_media(state, plains, at)
     }
 }
 

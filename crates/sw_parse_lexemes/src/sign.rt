@@ -1,6 +1,6 @@
 // What a sign is at its place.
 ghost use Rattle.std.specs.Prelude.{◌≡◌, ◌<◌, length};
-ghost use Rattle.sw_parse_lexemes.specs.Signs.{ends_operand, is_text, or_raw, plus_signs, minus_signs, sign_in_text, by_operand, plus_terminal, minus_terminal, star_terminal, comma_terminal, dot_terminal, is_params, is_behind_rest, dollar_in_code, dollar_terminal, is_flag, takes_flags, ends_value, bang_terminal, names_rule, insert_in, insert_terminal};
+ghost use Rattle.sw_parse_lexemes.specs.Signs.{ends_operand, is_text, or_raw, plus_signs, minus_signs, sign_in_text, by_operand, plus_terminal, names_rule, minus_in_text, minus_terminal, star_terminal, comma_terminal, dot_terminal, is_params, is_behind_rest, dollar_in_code, dollar_terminal, is_flag, takes_flags, ends_value, bang_terminal, insert_in, insert_terminal};
 
 use crate::ahead::{
     code_from, is_direct, name_direct, next_sort, number_direct, sort_at, spaced_at,
@@ -105,6 +105,24 @@ pub(crate) fn plus_terminal(state: &State, plains: &[Plain], at: usize) -> Termi
     }
 }
 
+fn names_rule(state: &State, plains: &[Plain], at: usize) -> bool
+    ensures { result ≡ names_rule state.now plains.now at }
+{
+    (is(state.before, Terminal::AtInsert) || is(state.before, Terminal::WordMinus))
+        && !spaced_at(plains, at)
+}
+
+fn minus_in_text(state: &State, plains: &[Plain], at: usize) -> Terminal
+    requires { at < length plains.now }
+    ensures { result ≡ minus_in_text state.now plains.now at }
+{
+    if names_rule(state, plains, at) && is_direct(plains, at + 1, Sort::OpenInsert) {
+        Terminal::WordMinus
+    } else {
+        sign_in_text(state.mode, minus_signs(state, plains, at))
+    }
+}
+
 pub(crate) fn minus_terminal(state: &State, plains: &[Plain], at: usize) -> Terminal
     requires { at < length plains.now }
     ensures { result ≡ minus_terminal state.now plains.now at }
@@ -112,7 +130,7 @@ pub(crate) fn minus_terminal(state: &State, plains: &[Plain], at: usize) -> Term
     if continues(state, plains, at) {
         Terminal::Part
     } else if is_text(state.mode) {
-        sign_in_text(state.mode, minus_signs(state, plains, at))
+        minus_in_text(state, plains, at)
     } else if is_direct(plains, at + 1, Sort::OpenInsert) {
         if is_apart(state, plains, at) {
             Terminal::Other
@@ -250,12 +268,6 @@ pub(crate) fn bang_terminal(state: &State, plains: &[Plain], at: usize) -> Termi
     } else {
         or_raw(state.mode, Terminal::Bang)
     }
-}
-
-fn names_rule(state: &State, plains: &[Plain], at: usize) -> bool
-    ensures { result ≡ names_rule state.now plains.now at }
-{
-    is(state.before, Terminal::AtInsert) && !spaced_at(plains, at)
 }
 
 fn insert_in(state: &State, plains: &[Plain], at: usize) -> Terminal

@@ -7,7 +7,7 @@ use Rattle.sw_parse_terminals.specs.Numbers.{just}
 use Rattle.sw_parse_table.specs.declared.source.Source.{Source}
 use Rattle.sw_parse_table.specs.Sources.{terminal_at}
 use Rattle.sw_parse_table.specs.Sets.{dollars}
-use Rattle.sw_parse_table.specs.Expressions.{number, insert, quoted, text_item, url_item, template, hash, constant, url, url_template, special, variable, word_insert, part_insert, word_part, word_start, word, arguments_in, called, owned_variable, owned_call, owned, range, parent, important, parens, brackets, literal, other, primary, prefix, unary, link, chain, sum, disjunction, space_item, space, list_item, expr, colon_space, pair, pairs_rest, items_rest, inside, items, named_argument, plain_argument, argument, arguing, special_expr, special_value, special_parens, special_brackets, special_item, special_inside}
+use Rattle.sw_parse_table.specs.Expressions.{number, insert, quoted, text_item, url_item, template, hash, constant, url, url_template, special, variable, word_insert, part_insert, word_part, word_start, word, arguments_in, called, owned_variable, owned_call, owned, range, parent, important, parens, brackets, literal, other, primary, prefix, unary, link, product, sum, relation, equality, conjunction, disjunction, space_item, space, list_item, expr, colon_space, pair, pairs_rest, items_rest, inside, items, named_argument, plain_argument, argument, arguing, special_number, special_expr, special_value, special_parens, special_brackets, special_item, special_inside}
 use Rattle.sw_parse_table.specs.Statements.{dollar_name, param, params, using}
 use Rattle.sw_parse_table.specs.Reads.{reader, reads}
 use Rattle.sw_parse_table.proofs.Decided.{Separated}
@@ -17,7 +17,7 @@ use Rattle.sw_parse_statement_heads.specs.CallableRows.{dots_row, behind_name, s
 
 module _ (source : Source) where
   pub more_params : Separated source (just T.Comma) (param source) dollars
-  unfolding number insert quoted text_item url_item template hash constant url url_template special variable word_insert part_insert word_part word_start word arguments_in called owned_variable owned_call owned range parent important parens brackets literal other primary prefix unary link chain sum disjunction space_item space list_item expr colon_space pair pairs_rest items_rest inside items named_argument plain_argument argument arguing special_expr special_value special_parens special_brackets special_item special_inside dollar_name param
+  unfolding number insert quoted text_item url_item template hash constant url url_template special variable word_insert part_insert word_part word_start word arguments_in called owned_variable owned_call owned range parent important parens brackets literal other primary prefix unary link product sum relation equality conjunction disjunction space_item space list_item expr colon_space pair pairs_rest items_rest inside items named_argument plain_argument argument arguing special_number special_expr special_value special_parens special_brackets special_item special_inside dollar_name param
   more_params = record { all = refl; starts = refl }
 
   starts_arguments : first (arguments_in source) ≡ just T.CallParen

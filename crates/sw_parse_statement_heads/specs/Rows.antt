@@ -16,7 +16,7 @@ use Rattle.sw_parse_table.specs.Parts.{Part, Form, Place, Behind, Owns, Values, 
 use Rattle.sw_parse_table.specs.Sets.{endings}
 use Rattle.sw_parse_table.specs.Sources.{bytes_at}
 use Rattle.sw_parse_table.specs.Actions.{to_behind, to_say, to_return}
-use Rattle.sw_parse_table.specs.Expressions.{word_insert, word_part}
+use Rattle.sw_parse_table.specs.Expressions.{signed_insert, word_part}
 use Rattle.sw_parse_table.specs.Statements.{finish, dollar_name, colon_expr, owner, as_prefix, filter, with_passed, return}
 use Rattle.sw_parse_statement_text.specs.Rows.{place_in, passed_in}
 use Rattle.sw_parse_statement_heads.specs.declared.set.Target.{Target}
@@ -67,7 +67,7 @@ return_row source = seq (build (to_return source) (worded_expr source terminals.
 
 -- the name of an at-rule
 abbrev pub inserted_name : Source → Grammar Part Form
-inserted_name source = seq (word_insert source) (many (word_part source))
+inserted_name source = seq (signed_insert source) (many (word_part source))
 
 abbrev pub at_name_row : Source → Grammar Part Form
 at_name_row source =

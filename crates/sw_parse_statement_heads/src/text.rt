@@ -5,7 +5,7 @@ ghost use Rattle.sw_parse_terminals.specs.declared.terminal.Terminal.TheVariants
 ghost use Rattle.sw_parse_terminals.specs.Numbers.{just};
 ghost use Rattle.sw_parse_table.specs.Parts.{Texts};
 ghost use Rattle.sw_parse_table.specs.Sources.{terminal_at, text_between};
-ghost use Rattle.sw_parse_table.specs.Expressions.{space, word, word_part, word_insert};
+ghost use Rattle.sw_parse_table.specs.Expressions.{space, word, word_part, word_insert, signed_insert};
 ghost use Rattle.sw_parse_table.specs.Statements.{raw, optional_raw, at_name, property};
 ghost use Rattle.sw_parse_table.specs.Reads.{reader, reads, Reads, ReadsValue};
 ghost use Rattle.sw_parse_expr_nodes.specs.Views.{insert_of};
@@ -158,6 +158,23 @@ fn first_insert_at(
     )
 }
 
+/// A `#{}` with which a name begins, or one behind a `-`.
+#[tactic(auto, unfolding(sw_parse_grammar::specs::Readers::parse))]
+fn signed_insert_at(
+    alloc: Global,
+    source: &Source,
+    levels: u8,
+    at: usize,
+) -> Result<(Inserted, usize), ReadError>
+    ensures { Reads (λ inserted. insert_of inserted ∷ []) result (reads source.now levels signed_insert at) }
+{
+    if is_at(source, at, Terminal::WordMinus) {
+        first_insert_at(alloc, source, levels, at + 1)
+    } else {
+        first_insert_at(alloc, source, levels, at)
+    }
+}
+
 /// A name that begins with `#{}`: all that stand in it.
 #[tactic(auto, unfolding(sw_parse_grammar::specs::Readers::parse))]
 fn inserted_name_at(
@@ -168,7 +185,7 @@ fn inserted_name_at(
 ) -> Result<(List<Inserted>, usize), ReadError>
     ensures { Reads (λ list. map insert_of list) result (reader source.now levels (inserted_name source.now) at) }
 {
-    let (first, place) = first_insert_at(alloc, source, levels, at)?;
+    let (first, place) = signed_insert_at(alloc, source, levels, at)?;
     let (rest, place) = name_parts_at(alloc, source, levels, place)?;
     let list = found(joined(Some(first), rest))?;
     Ok((list, place))

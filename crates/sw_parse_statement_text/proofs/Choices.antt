@@ -7,7 +7,7 @@ use Rattle.sw_parse_terminals.specs.Numbers.{just}
 use Rattle.sw_parse_table.specs.declared.source.Source.{Source}
 use Rattle.sw_parse_table.specs.Parts.{Part, Form}
 use Rattle.sw_parse_table.specs.Sources.{terminal_at}
-use Rattle.sw_parse_table.specs.Expressions.{number, insert, quoted, text_item, url_item, template, hash, constant, url, url_template, special, variable, word_insert, part_insert, word_part, word_start, word, arguments_in, called, owned_variable, owned_call, owned, range, parent, important, parens, brackets, literal, other, primary, prefix, unary, link, chain, sum, disjunction, space_item, space, list_item, expr, colon_space, pair, pairs_rest, items_rest, inside, items, named_argument, plain_argument, argument, arguing, special_expr, special_value, special_parens, special_brackets, special_item, special_inside}
+use Rattle.sw_parse_table.specs.Expressions.{number, insert, quoted, text_item, url_item, template, hash, constant, url, url_template, special, variable, word_insert, part_insert, word_part, word_start, word, arguments_in, called, owned_variable, owned_call, owned, range, parent, important, parens, brackets, literal, other, primary, prefix, unary, link, product, sum, relation, equality, conjunction, disjunction, space_item, space, list_item, expr, colon_space, pair, pairs_rest, items_rest, inside, items, named_argument, plain_argument, argument, arguing, special_number, special_expr, special_value, special_parens, special_brackets, special_item, special_inside}
 use Rattle.sw_parse_table.specs.Statements.{raw_item, raw_inside, raw, optional_raw, dollar_name, member_, filter, as_name, as_prefix}
 use Rattle.sw_parse_table.specs.Reads.{reader, reads}
 use Rattle.sw_parse_table.proofs.Decided.{Repeats}
@@ -16,7 +16,7 @@ use Rattle.sw_parse_statement_text.specs.Rows.{raw_starts, raw_group, comma_memb
 
 module _ (source : Source) where
   pub raw_items : Repeats source (raw_item source) raw_starts
-  unfolding number insert quoted text_item url_item template hash constant url url_template special variable word_insert part_insert word_part word_start word arguments_in called owned_variable owned_call owned range parent important parens brackets literal other primary prefix unary link chain sum disjunction space_item space list_item expr colon_space pair pairs_rest items_rest inside items named_argument plain_argument argument arguing special_expr special_value special_parens special_brackets special_item special_inside raw_item raw_inside
+  unfolding number insert quoted text_item url_item template hash constant url url_template special variable word_insert part_insert word_part word_start word arguments_in called owned_variable owned_call owned range parent important parens brackets literal other primary prefix unary link product sum relation equality conjunction disjunction space_item space list_item expr colon_space pair pairs_rest items_rest inside items named_argument plain_argument argument arguing special_number special_expr special_value special_parens special_brackets special_item special_inside raw_item raw_inside
   raw_items = record { all = refl; one = refl; some = refl; starts = refl }
 
   pub members : Repeats source (comma_member source) (just T.Comma)

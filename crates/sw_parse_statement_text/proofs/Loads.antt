@@ -11,7 +11,7 @@ use Rattle.sw_parse_table.specs.Parts.{Part, Form}
 use Rattle.sw_parse_table.specs.Sources.{terminal_at, text_of}
 use Rattle.sw_parse_table.specs.Sets.{dollars}
 use Rattle.sw_parse_table.specs.Table.{forms}
-use Rattle.sw_parse_table.specs.Expressions.{number, insert, quoted, text_item, url_item, template, hash, constant, url, url_template, special, variable, word_insert, part_insert, word_part, word_start, word, arguments_in, called, owned_variable, owned_call, owned, range, parent, important, parens, brackets, literal, other, primary, prefix, unary, link, chain, sum, disjunction, space_item, space, list_item, expr, colon_space, pair, pairs_rest, items_rest, inside, items, named_argument, plain_argument, argument, arguing, special_expr, special_value, special_parens, special_brackets, special_item, special_inside}
+use Rattle.sw_parse_table.specs.Expressions.{number, insert, quoted, text_item, url_item, template, hash, constant, url, url_template, special, variable, word_insert, part_insert, word_part, word_start, word, arguments_in, called, owned_variable, owned_call, owned, range, parent, important, parens, brackets, literal, other, primary, prefix, unary, link, product, sum, relation, equality, conjunction, disjunction, space_item, space, list_item, expr, colon_space, pair, pairs_rest, items_rest, inside, items, named_argument, plain_argument, argument, arguing, special_number, special_expr, special_value, special_parens, special_brackets, special_item, special_inside}
 use Rattle.sw_parse_table.specs.Statements.{dollar_name, given_name, given, giving, passed, passing, default_flag, with_given, with_passed}
 use Rattle.sw_parse_table.specs.Actions.{to_given}
 use Rattle.sw_parse_table.specs.Reads.{reader}
@@ -70,7 +70,7 @@ module _ (source : Source) where
   form_is loads.Forward = refl
 
   pub givens : (load : Load) → Separated source (just T.Comma) (given_row source load) dollars
-  unfolding number insert quoted text_item url_item template hash constant url url_template special variable word_insert part_insert word_part word_start word arguments_in called owned_variable owned_call owned range parent important parens brackets literal other primary prefix unary link chain sum disjunction space_item space list_item expr colon_space pair pairs_rest items_rest inside items named_argument plain_argument argument arguing special_expr special_value special_parens special_brackets special_item special_inside dollar_name given_name given passed default_flag
+  unfolding number insert quoted text_item url_item template hash constant url url_template special variable word_insert part_insert word_part word_start word arguments_in called owned_variable owned_call owned range parent important parens brackets literal other primary prefix unary link product sum relation equality conjunction disjunction space_item space list_item expr colon_space pair pairs_rest items_rest inside items named_argument plain_argument argument arguing special_number special_expr special_value special_parens special_brackets special_item special_inside dollar_name given_name given passed default_flag
   givens loads.Use = record { all = refl; starts = refl }
   givens loads.Forward = record { all = refl; starts = refl }
 

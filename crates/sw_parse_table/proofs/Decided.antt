@@ -1,5 +1,5 @@
 -- The table fits: one kind of token decides each choice, and only groups have the tokens that open and close.
-use Rattle.std.proofs.Common.{◌≡◌, ℕ, zero, suc, ◌≤◌, ◌<◌, true, not, List, ◌++◌, refl, ap, length, arith}
+use Rattle.std.proofs.Common.{◌≡◌, ℕ, ◌≤◌, true, not, List, ◌++◌, refl, ap, length}
 use Rattle.std.proofs.lemmas.Option.{slice_get_past}
 use Rattle.sw_parse_grammar.specs.Grammar.{Grammar, decided, many, sep, first, nullable, without}
 use Rattle.sw_parse_grammar.specs.Levels.{nested}
@@ -7,17 +7,19 @@ use Rattle.sw_parse_grammar.proofs.Loops.{Fit}
 use Rattle.sw_parse_terminals.specs.declared.terminal.Terminal.TheVariants as terminals
 use Rattle.sw_parse_terminals.specs.Numbers.{just}
 use Rattle.sw_parse_table.specs.declared.source.Source.{Source}
-use Rattle.sw_parse_table.specs.Parts.{Part, Form, Whole, Block, Value, Inside, Items, Arguing, RawInside, SpecialInside, Taking, Condition, Feature, Giving, Passing, SpaceList, Sum}
+use Rattle.sw_parse_table.specs.declared.operator.Precedence.{Precedence}
+use Rattle.sw_parse_table.specs.declared.operator.Precedence.TheVariants as precedences
+use Rattle.sw_parse_table.specs.Parts.{Part, Form, Whole, Block, Value, Inside, Items, Arguing, RawInside, SpecialInside, SpecialItems, Taking, Condition, Feature, Giving, Passing, SpaceList, Sum}
 use Rattle.sw_parse_table.specs.Sources.{text_of, terminal_at, terminal_in}
-use Rattle.sw_parse_table.specs.Sets.{level_operators, prefixes, endings, starts, special_starts}
-use Rattle.sw_parse_table.specs.Expressions.{number, insert, quoted, text_item, url_item, template, hash, constant, url, url_template, special, variable, word_insert, part_insert, word_part, word_start, word, arguments_in, called, owned_variable, owned_call, owned, range, parent, important, parens, brackets, literal, other, primary, prefix, unary, link, chain, sum, disjunction, space_item, space, list_item, expr, colon_space, pair, pairs_rest, items_rest, inside, items, named_argument, plain_argument, argument, arguing, special_expr, special_value, special_parens, special_brackets, special_item, special_inside}
+use Rattle.sw_parse_table.specs.Sets.{operators, prefixes, endings, starts, special_starts}
+use Rattle.sw_parse_table.specs.Expressions.{number, insert, quoted, text_item, url_item, template, hash, constant, url, url_template, special, variable, word_insert, part_insert, word_part, word_start, word, arguments_in, called, owned_variable, owned_call, owned, range, parent, important, parens, brackets, literal, other, primary, prefix, unary, link, product, sum, relation, equality, conjunction, disjunction, side, space_item, space, list_item, expr, colon_space, pair, pairs_rest, items_rest, inside, items, named_argument, plain_argument, argument, arguing, special_number, special_expr, special_value, special_parens, special_brackets, special_item, special_inside}
 use Rattle.sw_parse_table.specs.Queries.{feature, and_feature, or_feature, not_feature, features, condition, typed_rest, typed_parts, typed_part, typed_name, inserted, typed, inserted_query, prefixed_query, paren_feature, query, comma_query, queries, value_piece, comparison, colon_piece, feature_inside}
 use Rattle.sw_parse_table.specs.Statements.{finish, block, raw_item, raw, raw_inside, optional_raw, dollar_name, flag, default_flag, colon_expr, set, owner, assigned, block_or_end, property, property_value, declaration, custom_name, custom, rule, supports, at_root, at_name, at, import, extend, charset, comment, given_name, given, giving, with_given, as_name, use_, as_prefix, member_, filter, passed, passing, with_passed, forward, param, taking, params, function, mixin, include_name, using, include, content, return, warn, debug, error, else_if, else_, if_, each, for_, while_, media, plain_statement, load_statement, member_statement, flow_statement, css_statement, statement}
 use Rattle.sw_parse_table.specs.Table.{forms, opening, closing}
 
 module _ (source : Source) where
   forms_decided : (form : Form) → decided (forms source) (forms source form) ≡ true
-  unfolding number insert quoted text_item url_item template hash constant url url_template special variable word_insert part_insert word_part word_start word arguments_in called owned_variable owned_call owned range parent important parens brackets literal other primary prefix unary link chain sum disjunction space_item space list_item expr colon_space pair pairs_rest items_rest inside items named_argument plain_argument argument arguing special_expr special_value special_parens special_brackets special_item special_inside feature and_feature or_feature not_feature features condition typed_rest typed_parts typed_part typed_name inserted typed inserted_query prefixed_query paren_feature query comma_query queries value_piece comparison colon_piece feature_inside finish block raw_item raw raw_inside optional_raw dollar_name flag default_flag colon_expr set owner assigned block_or_end property property_value declaration custom_name custom rule supports at_root at_name at import extend charset comment given_name given giving with_given as_name use_ as_prefix member_ filter passed passing with_passed forward param taking params function mixin include_name using include content return warn debug error else_if else_ if_ each for_ while_ media plain_statement load_statement member_statement flow_statement css_statement statement
+  unfolding number insert quoted text_item url_item template hash constant url url_template special variable word_insert part_insert word_part word_start word arguments_in called owned_variable owned_call owned range parent important parens brackets literal other primary prefix unary link product sum relation equality conjunction disjunction space_item space list_item expr colon_space pair pairs_rest items_rest inside items named_argument plain_argument argument arguing special_number special_expr special_value special_parens special_brackets special_item special_inside feature and_feature or_feature not_feature features condition typed_rest typed_parts typed_part typed_name inserted typed inserted_query prefixed_query paren_feature query comma_query queries value_piece comparison colon_piece feature_inside finish block raw_item raw raw_inside optional_raw dollar_name flag default_flag colon_expr set owner assigned block_or_end property property_value declaration custom_name custom rule supports at_root at_name at import extend charset comment given_name given giving with_given as_name use_ as_prefix member_ filter passed passing with_passed forward param taking params function mixin include_name using include content return warn debug error else_if else_ if_ each for_ while_ media plain_statement load_statement member_statement flow_statement css_statement statement
   forms_decided Whole = refl
   forms_decided Block = refl
   forms_decided Value = refl
@@ -26,6 +28,7 @@ module _ (source : Source) where
   forms_decided Arguing = refl
   forms_decided RawInside = refl
   forms_decided SpecialInside = refl
+  forms_decided SpecialItems = refl
   forms_decided Taking = refl
   forms_decided Condition = refl
   forms_decided Feature = refl
@@ -35,7 +38,7 @@ module _ (source : Source) where
   forms_decided Sum = refl
 
   pub forms_nested : (form : Form) → nested opening closing (forms source form) ≡ true
-  unfolding number insert quoted text_item url_item template hash constant url url_template special variable word_insert part_insert word_part word_start word arguments_in called owned_variable owned_call owned range parent important parens brackets literal other primary prefix unary link chain sum disjunction space_item space list_item expr colon_space pair pairs_rest items_rest inside items named_argument plain_argument argument arguing special_expr special_value special_parens special_brackets special_item special_inside feature and_feature or_feature not_feature features condition typed_rest typed_parts typed_part typed_name inserted typed inserted_query prefixed_query paren_feature query comma_query queries value_piece comparison colon_piece feature_inside finish block raw_item raw raw_inside optional_raw dollar_name flag default_flag colon_expr set owner assigned block_or_end property property_value declaration custom_name custom rule supports at_root at_name at import extend charset comment given_name given giving with_given as_name use_ as_prefix member_ filter passed passing with_passed forward param taking params function mixin include_name using include content return warn debug error else_if else_ if_ each for_ while_ media plain_statement load_statement member_statement flow_statement css_statement statement
+  unfolding number insert quoted text_item url_item template hash constant url url_template special variable word_insert part_insert word_part word_start word arguments_in called owned_variable owned_call owned range parent important parens brackets literal other primary prefix unary link product sum relation equality conjunction disjunction space_item space list_item expr colon_space pair pairs_rest items_rest inside items named_argument plain_argument argument arguing special_number special_expr special_value special_parens special_brackets special_item special_inside feature and_feature or_feature not_feature features condition typed_rest typed_parts typed_part typed_name inserted typed inserted_query prefixed_query paren_feature query comma_query queries value_piece comparison colon_piece feature_inside finish block raw_item raw raw_inside optional_raw dollar_name flag default_flag colon_expr set owner assigned block_or_end property property_value declaration custom_name custom rule supports at_root at_name at import extend charset comment given_name given giving with_given as_name use_ as_prefix member_ filter passed passing with_passed forward param taking params function mixin include_name using include content return warn debug error else_if else_ if_ each for_ while_ media plain_statement load_statement member_statement flow_statement css_statement statement
   forms_nested Whole = refl
   forms_nested Block = refl
   forms_nested Value = refl
@@ -44,6 +47,7 @@ module _ (source : Source) where
   forms_nested Arguing = refl
   forms_nested RawInside = refl
   forms_nested SpecialInside = refl
+  forms_nested SpecialItems = refl
   forms_nested Taking = refl
   forms_nested Condition = refl
   forms_nested Feature = refl
@@ -84,7 +88,7 @@ module _ (source : Source) where
     pub arguments : Separated (just terminals.Comma) (argument source) (just terminals.DollarNamed ++ without (just terminals.DollarNamed) starts)
 
   pub loops : Loops
-  unfolding number insert quoted text_item url_item template hash constant url url_template special variable word_insert part_insert word_part word_start word arguments_in called owned_variable owned_call owned range parent important parens brackets literal other primary prefix unary link chain sum disjunction space_item space list_item expr colon_space pair pairs_rest items_rest inside items named_argument plain_argument argument arguing special_expr special_value special_parens special_brackets special_item special_inside
+  unfolding number insert quoted text_item url_item template hash constant url url_template special variable word_insert part_insert word_part word_start word arguments_in called owned_variable owned_call owned range parent important parens brackets literal other primary prefix unary link product sum relation equality conjunction disjunction space_item space list_item expr colon_space pair pairs_rest items_rest inside items named_argument plain_argument argument arguing special_number special_expr special_value special_parens special_brackets special_item special_inside
   loops =
       record {
         text_items = record { all = refl; one = refl; some = refl; starts = refl };
@@ -98,12 +102,11 @@ module _ (source : Source) where
         arguments = record { all = refl; starts = refl };
       }
 
-  pub links : (level : ℕ) → level < 6 → Repeats (link source level (chain source level)) (level_operators level)
-  unfolding number insert quoted text_item url_item template hash constant url url_template special variable word_insert part_insert word_part word_start word arguments_in called owned_variable owned_call owned range parent important parens brackets literal other primary prefix unary link chain sum disjunction space_item space list_item expr colon_space pair pairs_rest items_rest inside items named_argument plain_argument argument arguing special_expr special_value special_parens special_brackets special_item special_inside
-  links zero l = record { all = refl; one = refl; some = refl; starts = refl }
-  links (suc zero) l = record { all = refl; one = refl; some = refl; starts = refl }
-  links (suc (suc zero)) l = record { all = refl; one = refl; some = refl; starts = refl }
-  links (suc (suc (suc zero))) l = record { all = refl; one = refl; some = refl; starts = refl }
-  links (suc (suc (suc (suc zero)))) l = record { all = refl; one = refl; some = refl; starts = refl }
-  links (suc (suc (suc (suc (suc zero))))) l = record { all = refl; one = refl; some = refl; starts = refl }
-  links (suc (suc (suc (suc (suc (suc level)))))) l = absurd (omega arith)
+  pub links : (precedence : Precedence) → Repeats (link source precedence (side source precedence)) (operators precedence)
+  unfolding number insert quoted text_item url_item template hash constant url url_template special variable word_insert part_insert word_part word_start word arguments_in called owned_variable owned_call owned range parent important parens brackets literal other primary prefix unary link product sum relation equality conjunction disjunction space_item space list_item expr colon_space pair pairs_rest items_rest inside items named_argument plain_argument argument arguing special_number special_expr special_value special_parens special_brackets special_item special_inside
+  links precedences.Product = record { all = refl; one = refl; some = refl; starts = refl }
+  links precedences.Sum = record { all = refl; one = refl; some = refl; starts = refl }
+  links precedences.Relation = record { all = refl; one = refl; some = refl; starts = refl }
+  links precedences.Equality = record { all = refl; one = refl; some = refl; starts = refl }
+  links precedences.And = record { all = refl; one = refl; some = refl; starts = refl }
+  links precedences.Or = record { all = refl; one = refl; some = refl; starts = refl }

@@ -1,12 +1,13 @@
 -- The grammar of expressions, as a table of productions (Sass specification, the syntax of expressions).
-use Rattle.std.specs.Prelude.{ℕ, zero, suc}
 use Rattle.sw_parse_grammar.specs.Grammar.{Grammar, keep, skip, empty, seq, alt, many, sep, group, unless, build, anywhere}
 use Rattle.sw_parse_terminals.specs.declared.terminal.Terminal.TheVariants.{Comma, Colon, RawParen, RawBracket, RawParenEnd, RawBracketEnd, Insert, InsertEnd, TextPiece, TemplateEnd, Piece, UrlEnd, Number, Sign, Quoted, Template, Hash, Url, UrlTemplate, Special, DollarNamed, Owner, Word, WordMinus, WordInsert, Range, Ampersand, Bracket, HashName, VariableName, OwnerDot, OwnerDollar, Part as WordPart, PartInsert, CallParen, ParenEnd, BracketEnd, Important, Ellipsis}
 use Rattle.sw_parse_terminals.specs.Numbers.{just}
 use Rattle.sw_parse_table.specs.declared.source.Source.{Source}
-use Rattle.sw_parse_table.specs.Parts.{Part, Form, Value, Inside, Items, Arguing, SpecialInside}
-use Rattle.sw_parse_table.specs.Sets.{constants, dollars, bangs, parens_opening, prefixes, level_operators, special_texts, endings}
-use Rattle.sw_parse_table.specs.Values.{to_insert, inserted_piece, to_text, to_number, to_quoted, to_decoded, to_template, to_hash, to_constant, to_url, to_special, to_variable, to_owned, to_called, to_range, to_parent, to_important, to_parens, to_brackets, to_sign, to_unary, to_link, to_chain, to_space, to_list, to_pair, marked, sorted, to_named, to_spread, to_arguments, to_stands}
+use Rattle.sw_parse_table.specs.declared.operator.Precedence.{Precedence}
+use Rattle.sw_parse_table.specs.declared.operator.Precedence.TheVariants as precedences
+use Rattle.sw_parse_table.specs.Parts.{Part, Form, Value, Inside, Items, Arguing, SpecialInside, SpecialItems}
+use Rattle.sw_parse_table.specs.Sets.{constants, dollars, bangs, parens_opening, prefixes, operators, special_texts, endings}
+use Rattle.sw_parse_table.specs.Values.{to_insert, inserted_piece, to_text, to_number, to_quoted, to_decoded, to_template, to_hash, to_constant, to_url, to_special, to_written, to_variable, to_owned, to_called, to_range, to_parent, to_important, to_parens, to_brackets, to_sign, to_unary, to_link, to_chain, to_space, to_list, to_pair, marked, sorted, to_named, to_spread, to_arguments, to_stands}
 
 module _ (source : Source) where
   -- number = [sign·] digits
@@ -63,11 +64,15 @@ module _ (source : Source) where
   unfoldable pub word_part : Grammar Part Form
   word_part = alt (skip (just WordPart)) part_insert
 
-  -- word_name = (name | "-"·"#{" expr "}") {word_part}
-  unfoldable pub word_start : Grammar Part Form
-  word_start = alt (skip (just Word)) (alt (seq (skip (just WordMinus)) word_insert) word_insert)
+  -- signed_insert = ["-"·] "#{" expr "}"
+  abbrev pub signed_insert : Grammar Part Form
+  signed_insert = alt (seq (skip (just WordMinus)) word_insert) word_insert
 
-  -- word = (name | ["-"·] "#{" expr "}") {word_part}
+  -- word_start = name | signed_insert
+  unfoldable pub word_start : Grammar Part Form
+  word_start = alt (skip (just Word)) signed_insert
+
+  -- word = word_start {word_part}
   unfoldable pub word : Grammar Part Form
   word = build (to_text source) (seq word_start (many word_part))
 
@@ -122,23 +127,55 @@ module _ (source : Source) where
   unfoldable pub unary : Grammar Part Form
   unary = build (to_unary source) (seq (many prefix) primary)
 
-  -- an operator of a level and what stands behind it
-  unfoldable pub link : ℕ → Grammar Part Form → Grammar Part Form
-  link n operand = build (to_link source) (seq (skip (level_operators n)) operand)
+  -- an operator that binds so, and what stands behind it
+  unfoldable pub link : Precedence → Grammar Part Form → Grammar Part Form
+  link precedence side = build (to_link source) (seq (skip (operators precedence)) side)
 
-  -- product = unary {("*" | "/" | "%") unary}, sum = product {("+" | "-") product}, relation = sum {("<" | "<=" | ">" |
-  -- ">=") sum},
-  -- equality = relation {("==" | "!=") relation}, conjunction = equality {"and" equality}, disjunction = conjunction
-  -- {"or" conjunction}
-  unfoldable pub chain : ℕ → Grammar Part Form
-  chain zero = unary
-  chain (suc n) = build (to_chain source) (seq (chain n) (many (link n (chain n))))
+  -- linked = side {operator side}
+  abbrev pub linked : Precedence → Grammar Part Form → Grammar Part Form
+  linked precedence side = build (to_chain source) (seq side (many (link precedence side)))
 
+  -- product = unary {("*" | "/" | "%") unary}
+  unfoldable pub product : Grammar Part Form
+  product = linked precedences.Product unary
+
+  -- sum = product {("+" | "-") product}
   unfoldable pub sum : Grammar Part Form
-  sum = chain 2
+  sum = linked precedences.Sum product
 
+  -- relation = sum {("<" | "<=" | ">" | ">=") sum}
+  unfoldable pub relation : Grammar Part Form
+  relation = linked precedences.Relation sum
+
+  -- equality = relation {("==" | "!=") relation}
+  unfoldable pub equality : Grammar Part Form
+  equality = linked precedences.Equality relation
+
+  -- conjunction = equality {"and" equality}
+  unfoldable pub conjunction : Grammar Part Form
+  conjunction = linked precedences.And equality
+
+  -- disjunction = conjunction {"or" conjunction}
   unfoldable pub disjunction : Grammar Part Form
-  disjunction = chain 6
+  disjunction = linked precedences.Or conjunction
+
+  -- what stands on the sides of operators that bind so
+  abbrev pub side : Precedence → Grammar Part Form
+  side precedences.Product = unary
+  side precedences.Sum = product
+  side precedences.Relation = sum
+  side precedences.Equality = relation
+  side precedences.And = equality
+  side precedences.Or = conjunction
+
+  -- the same with these operators
+  abbrev pub chain : Precedence → Grammar Part Form
+  chain precedences.Product = product
+  chain precedences.Sum = sum
+  chain precedences.Relation = relation
+  chain precedences.Equality = equality
+  chain precedences.And = conjunction
+  chain precedences.Or = disjunction
 
   -- space = disjunction {disjunction}
   unfoldable pub space_item : Grammar Part Form
@@ -188,21 +225,27 @@ module _ (source : Source) where
   unfoldable pub arguing : Grammar Part Form
   arguing = build (anywhere to_arguments) (alt (seq argument (sep (just Comma) argument)) empty)
 
-  -- special_inside = special_item {special_item}
+  -- special_inside = special_item {special_item}, where numbers stay as they are written
+  unfoldable pub special_number : Grammar Part Form
+  special_number = build (to_written source) (alt (seq (skip (just Sign)) (skip (just Number))) (skip (just Number)))
+
   unfoldable pub special_expr : Grammar Part Form
-  special_expr = alt number (alt variable (alt owned called))
+  special_expr = alt special_number (alt variable (alt owned called))
 
   unfoldable pub special_value : Grammar Part Form
   special_value = build (to_stands source) special_expr
 
   unfoldable pub special_parens : Grammar Part Form
-  special_parens = group (just RawParen) SpecialInside (just RawParenEnd)
+  special_parens = group (just RawParen) SpecialItems (just RawParenEnd)
 
   unfoldable pub special_brackets : Grammar Part Form
-  special_brackets = group (just RawBracket) SpecialInside (just RawBracketEnd)
+  special_brackets = group (just RawBracket) SpecialItems (just RawBracketEnd)
 
   unfoldable pub special_item : Grammar Part Form
   special_item = alt (skip special_texts) (alt insert (alt special_value (alt special_parens special_brackets)))
 
+  abbrev pub special_items : Grammar Part Form
+  special_items = many special_item
+
   unfoldable pub special_inside : Grammar Part Form
-  special_inside = seq special_item (many special_item)
+  special_inside = seq special_item special_items

@@ -64,7 +64,9 @@ pub data Form : Type 0 where
   -- the arguments of a call
   Arguing : Form
   RawInside : Form
+  -- in the parentheses of a special function, and in brackets in its text
   SpecialInside : Form
+  SpecialItems : Form
   -- parameters
   Taking : Form
   -- in the parentheses of a media query: a condition, or a feature

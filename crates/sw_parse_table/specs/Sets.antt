@@ -1,7 +1,9 @@
 -- Sets of terminals that the grammar of expressions speaks of.
-use Rattle.std.specs.Prelude.{ℕ, zero, suc, List, [], ◌∷◌, ◌++◌}
+use Rattle.std.specs.Prelude.{ℕ, List, [], ◌∷◌, ◌++◌}
 use Rattle.sw_parse_terminals.specs.declared.terminal.Terminal.TheVariants.{Raw, SpecialComma, RawParen, RawBracket, Insert, Number, Sign, Quoted, Template, Hash, True, False, Null, Url, UrlTemplate, Special, Dollar, DollarNamed, Owner, Word, WordMinus, WordInsert, Range, Ampersand, Bang, Paren, ConditionParen, Bracket, PrefixPlus, PrefixMinus, PrefixSlash, Not, Ending, Or, And, Equal, NotEqual, Less, LessEqual, Greater, GreaterEqual, Plus, Minus, Times, Divide, Modulo}
 use Rattle.sw_parse_terminals.specs.Numbers.{these, just}
+use Rattle.sw_parse_table.specs.declared.operator.Precedence.{Precedence}
+use Rattle.sw_parse_table.specs.declared.operator.Precedence.TheVariants as precedences
 
 -- the operators of each chain
 abbrev pub ors : List ℕ
@@ -22,14 +24,14 @@ sums = these (Plus ∷ Minus ∷ [])
 abbrev pub products : List ℕ
 products = these (Times ∷ Divide ∷ Modulo ∷ [])
 
--- the same by how strongly they bind
-abbrev pub level_operators : ℕ → List ℕ
-level_operators zero = products
-level_operators (suc zero) = sums
-level_operators (suc (suc zero)) = relations
-level_operators (suc (suc (suc zero))) = equalities
-level_operators (suc (suc (suc (suc zero)))) = ands
-level_operators _ = ors
+-- the same by how they bind
+abbrev pub operators : Precedence → List ℕ
+operators precedences.Product = products
+operators precedences.Sum = sums
+operators precedences.Relation = relations
+operators precedences.Equality = equalities
+operators precedences.And = ands
+operators precedences.Or = ors
 
 abbrev pub prefixes : List ℕ
 prefixes = these (PrefixPlus ∷ PrefixMinus ∷ PrefixSlash ∷ Not ∷ [])

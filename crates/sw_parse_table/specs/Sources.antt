@@ -38,6 +38,39 @@ abbrev pub text_piece : List ℕ → List Piece
 text_piece [] = []
 text_piece (b ∷ bytes) = pieces.Text (b ∷ bytes) ∷ []
 
+-- a first text, and those that stand apart behind it
+pub record Texts : Type 0 where
+  pub first : List ℕ
+  pub rest : List (List ℕ)
+
+abbrev pub texts_list : Texts → List (List ℕ)
+texts_list texts = texts.first ∷ texts.rest
+
+-- a text before the first one
+abbrev pub begun : List ℕ → Texts → Texts
+begun text texts = record { first = text ++ texts.first; rest = texts.rest }
+
+-- a text, the white space where comments stand behind it, and texts: without white space they stay apart
+abbrev pub cut : List ℕ → List ℕ → Texts → Texts
+cut text [] texts = record { first = text; rest = texts_list texts }
+cut text (b ∷ gap) texts = begun (text ++ b ∷ gap) texts
+
+abbrev pub pieces_in : List (List ℕ) → List Piece
+pieces_in [] = []
+pieces_in (text ∷ texts) = text_piece text ++ pieces_in texts
+
+-- those that aren't empty
+abbrev pub text_pieces : Texts → List Piece
+text_pieces texts = pieces_in (texts_list texts)
+
+abbrev pub plain_parts_by : List ℕ → List (List ℕ) → Parts
+plain_parts_by first [] = Plain first
+plain_parts_by first (next ∷ rest) = Mixed (pieces_in (first ∷ next ∷ rest))
+
+-- one text, or several that stand apart
+abbrev pub plain_parts : Texts → Parts
+plain_parts texts = plain_parts_by texts.first texts.rest
+
 -- a comment to the end of its line is open behind a byte: anything that isn't white space begins one
 abbrev pub is_silent : Bool → ℕ → Bool
 is_silent true b = not (is_break b)
@@ -151,22 +184,24 @@ module _ (source : Source) where
   gap_at at =
       blank_from (from_at at) (to_at (at - 1)) (first_between at) (token_at at - first_between at)
 
-  -- what stands from an offset on up to a token, where a comment stands before that; and from where on more follows
-  abbrev pub before_gap : ℕ → ℕ → List ℕ
-  before_gap from at = if is_commented at then bytes_from from (to_at (at - 1)) ++ gap_at at else []
+  -- what stands from an offset on up to a token and behind it, where a comment stands before that
+  abbrev pub before_gap : ℕ → ℕ → Texts → Texts
+  before_gap from at texts =
+      if is_commented at then cut (bytes_from from (to_at (at - 1))) (gap_at at) texts else texts
 
+  -- from where on more follows
   abbrev pub behind_gap : ℕ → ℕ → ℕ
   behind_gap from at = if is_commented at then from_at at else from
 
-  -- the text from an offset to another without the comments in it, which stand behind so many tokens from a place on
-  abbrev pub said_from : ℕ → ℕ → ℕ → ℕ → List ℕ
-  said_from to from at zero = bytes_from from to
-  said_from to from at (suc n) =
-      before_gap from (at + 1) ++ said_from to (behind_gap from (at + 1)) (at + 1) n
+  -- the texts from an offset to another without the comments in them, which stand behind so many tokens from a place on
+  abbrev pub texts_from : ℕ → ℕ → ℕ → ℕ → Texts
+  texts_from to from at zero = record { first = bytes_from from to; rest = [] }
+  texts_from to from at (suc n) =
+      before_gap from (at + 1) (texts_from to (behind_gap from (at + 1)) (at + 1) n)
 
-  -- the text of a stretch without the comments in it
-  unfoldable pub said : Stretch → List ℕ
-  said stretch = said_from stretch.to stretch.from stretch.first (stretch.end - stretch.first)
+  -- the text of a stretch without the comments in it: two texts where one stands with no white space beside it
+  unfoldable pub texts : Stretch → Texts
+  texts stretch = texts_from stretch.to stretch.from stretch.first (stretch.end - stretch.first)
 
   -- the text may be cut at both its ends
   pub record IsCut (stretch : Stretch) : Type 0 where
@@ -187,15 +222,15 @@ module _ (source : Source) where
 
   -- what a stretch says, with what is inserted in it
   abbrev pub pieces_from : Stretch → List Part → List Piece
-  pieces_from stretch [] = text_piece (said stretch)
+  pieces_from stretch [] = text_pieces (texts stretch)
   pieces_from stretch (Inserts i j value ∷ parts) =
-      text_piece (said (up_to stretch i)) ++ pieces.Inserted value ∷ pieces_from (behind stretch j) parts
+      text_pieces (texts (up_to stretch i)) ++ pieces.Inserted value ∷ pieces_from (behind stretch j) parts
   pieces_from stretch (Stands i j value ∷ parts) =
-      text_piece (said (up_to stretch i)) ++ pieces.Value value ∷ pieces_from (behind stretch j) parts
+      text_pieces (texts (up_to stretch i)) ++ pieces.Value value ∷ pieces_from (behind stretch j) parts
   pieces_from stretch (_ ∷ parts) = pieces_from stretch parts
 
   abbrev pub parts_from : Stretch → List Part → Parts
-  parts_from stretch [] = Plain (said stretch)
+  parts_from stretch [] = plain_parts (texts stretch)
   parts_from stretch (part ∷ parts) = Mixed (pieces_from stretch (part ∷ parts))
 
   -- the text from the token at a place to the one before another, without comments and with what is inserted in it

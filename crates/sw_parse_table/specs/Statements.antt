@@ -10,7 +10,7 @@ use Rattle.sw_parse_table.specs.Parts.{Part, Form, Block, RawInside, Taking, Giv
 use Rattle.sw_parse_table.specs.Sets.{dollars, endings}
 use Rattle.sw_parse_table.specs.Values.{to_text}
 use Rattle.sw_parse_table.specs.Actions.{to_behind, to_block, to_parameters, to_branch, to_set, to_owner, to_assigned, to_declaration, to_custom, to_rule, to_supports, to_media, to_at_root, to_at_rule, to_import, to_extend, to_charset, to_comment, to_use, to_given, to_member, to_forward, to_param, to_callable, to_include_name, to_include, to_content, to_return, to_say, to_if, to_each, to_for, to_while}
-use Rattle.sw_parse_table.specs.Expressions.{insert, word_insert, word_part, word, arguments_in, space, expr, colon_space}
+use Rattle.sw_parse_table.specs.Expressions.{insert, signed_insert, word_part, word, arguments_in, space, expr, colon_space}
 use Rattle.sw_parse_table.specs.Queries.{queries}
 
 module _ (source : Source) where
@@ -98,7 +98,7 @@ module _ (source : Source) where
   unfoldable pub at_name : Grammar Part Form
   at_name =
       build (to_text source) (alt (seq (skip (just terminals.AtOther)) (many (word_part source))) (seq (skip
-      (just terminals.AtInsert)) (seq (word_insert source) (many (word_part source)))))
+      (just terminals.AtInsert)) (seq (signed_insert source) (many (word_part source)))))
 
   unfoldable pub at : Grammar Part Form
   at = build (to_at_rule source) (seq (build to_behind (seq at_name optional_raw)) block_or_end)

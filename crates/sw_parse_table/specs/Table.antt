@@ -4,8 +4,8 @@ use Rattle.sw_parse_grammar.specs.Grammar.{Grammar, ahead, seq, many}
 use Rattle.sw_parse_terminals.specs.declared.terminal.Terminal.TheVariants as terminals
 use Rattle.sw_parse_table.specs.declared.source.Source.{Source}
 use Rattle.sw_parse_terminals.specs.Numbers.{these}
-use Rattle.sw_parse_table.specs.Parts.{Part, Form, Whole, Block, Value, Inside, Items, Arguing, RawInside, SpecialInside, Taking, Condition, Feature, Giving, Passing, SpaceList, Sum}
-use Rattle.sw_parse_table.specs.Expressions.{expr, inside, items, arguing, special_inside, space, sum}
+use Rattle.sw_parse_table.specs.Parts.{Part, Form, Whole, Block, Value, Inside, Items, Arguing, RawInside, SpecialInside, SpecialItems, Taking, Condition, Feature, Giving, Passing, SpaceList, Sum}
+use Rattle.sw_parse_table.specs.Expressions.{expr, inside, items, arguing, special_inside, special_items, space, sum}
 use Rattle.sw_parse_table.specs.Statements.{statement, raw_inside, taking, giving, passing}
 use Rattle.sw_parse_table.specs.Queries.{condition, feature_inside}
 
@@ -19,6 +19,7 @@ module _ (source : Source) where
   forms Arguing = arguing source
   forms RawInside = raw_inside source
   forms SpecialInside = special_inside source
+  forms SpecialItems = special_items source
   forms Taking = taking source
   forms Condition = condition source
   forms Feature = feature_inside source

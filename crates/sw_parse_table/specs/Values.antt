@@ -158,6 +158,11 @@ module _ (source : Source) where
   to_special at behind inserts =
       value_of (exprs.Special (parts_between source at behind inserts)) (span_between source at behind)
 
+  -- a number that stays as it is written
+  abbrev pub to_written : ℕ → ℕ → List Part → List Part
+  to_written at behind parts =
+      value_of (exprs.Special (Plain (bytes_between source at behind))) (span_between source at behind)
+
   abbrev pub to_variable : ℕ → ℕ → List Part → List Part
   to_variable at behind (Place name ∷ []) =
       value_of (exprs.Variable (dashed (bytes_at source name))) (span_between source at behind)

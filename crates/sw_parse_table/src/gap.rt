@@ -1,12 +1,12 @@
 // Texts without the comments in them.
 ghost use Rattle.std.specs.Prelude.{◌≡◌, ◌-◌, ◌<◌, ℕ, false, [], ◌∷◌, ◌++◌, IfOk, OnOk, string_bytes, if◌then◌else◌};
 ghost use Rattle.std.specs.Str.{IsCharBoundary};
-ghost use Rattle.sw_parse_table.specs.Sources.{bytes, bytes_from, blank, is_silent, is_commented, token_at, token_from, token_to, first_between, gap_at, before_gap, behind_gap, said_from, said, stretch_between, up_to, behind, IsCut};
+ghost use Rattle.sw_parse_table.specs.Sources.{bytes, bytes_from, blank, is_silent, is_commented, token_at, token_from, token_to, first_between, gap_at, Texts, texts_list, begun, cut, before_gap, behind_gap, texts_from, texts, stretch_between, up_to, behind, IsCut};
 
 use crate::Source;
 use crate::text::{bytes_from, from_at, to_at};
 use std::alloc::Global;
-use sw_text::{Memory, Name};
+use sw_text::{List, Memory, Name};
 use sw_text_scan::{is_break, is_white};
 
 /// A part of a sheet's text, and the tokens in it behind which comments may stand.
@@ -171,11 +171,27 @@ fn add_gap(text: &mut String, source: &Source, at: usize) -> Result<(), Memory>
     add_blank(text, bytes_from(source, from, to).as_bytes())
 }
 
-/// Whether comments stand behind the tokens from a place to before another.
+/// Whether comments stand behind the tokens of a stretch. Where none does, it is one text.
+#[tactic(auto, unfolding(crate::specs::Sources::texts))]
 #[inline(always)]
-fn has_comments(source: &Source, first: usize, end: usize) -> bool
-    ensures { (to from : ℕ) → result ≡ false → said_from source.now to from first (end - first) ≡ bytes_from source.now
-        from to }
+pub fn has_comments(source: &Source, stretch: &Stretch) -> bool
+    ensures { result ≡ false → texts source.now stretch.now ≡ record {
+      first = bytes_from source.now stretch.now.from
+          stretch.now.to;
+      rest = [];
+    } }
+{
+    has_comments_from(source, stretch.first, stretch.end)
+}
+
+/// The same of the tokens from a place to before another.
+#[inline(always)]
+fn has_comments_from(source: &Source, first: usize, end: usize) -> bool
+    ensures { (to from : ℕ) → result ≡ false → texts_from source.now to from first (end - first) ≡ record {
+      first =
+          bytes_from source.now from to;
+      rest = [];
+    } }
 {
     'places: for at in first..end {
         if is_commented(source, at + 1) {
@@ -185,28 +201,65 @@ fn has_comments(source: &Source, first: usize, end: usize) -> bool
     false
 }
 
+/// Ends a text, and begins the next one.
+fn end_text(alloc: Global, list: &mut List<Name>, text: &mut String) -> Result<(), Memory>
+    ensures list { OnOk result (list.new ≡ list.old ++ string_bytes text.old ∷ []) }
+    ensures text { OnOk result (string_bytes text.new ≡ []) }
+{
+    list.push(Name::new(alloc, text.as_str())?)?;
+    text.clear();
+    Ok(())
+}
+
+/// Adds the white space between the token at a place and the one before. Where there is none, it ends the text.
+fn add_seam(
+    alloc: Global,
+    list: &mut List<Name>,
+    text: &mut String,
+    source: &Source,
+    at: usize,
+) -> Result<(), Memory>
+    ensures { OnOk result ((behind : Texts) → list.new ++ texts_list (begun (string_bytes text.new) behind) ≡ list.old ++
+        texts_list (cut (string_bytes text.old) (gap_at source.now at) behind)) }
+{
+    let length = text.len();
+    add_gap(text, source, at)?;
+    if text.len() == length {
+        return end_text(alloc, list, text);
+    }
+    Ok(())
+}
+
 /// Adds what stands from an offset on before a token, where a comment stands before it, and tells from where on more
 /// follows.
-fn add_before(text: &mut String, source: &Source, from: u32, at: usize) -> Result<u32, Memory>
+fn add_before(
+    alloc: Global,
+    list: &mut List<Name>,
+    text: &mut String,
+    source: &Source,
+    from: u32,
+    at: usize,
+) -> Result<u32, Memory>
     requires { IsCharBoundary (bytes source.now) from }
     ensures next { IfOk result (λ next. next ≡ behind_gap source.now from at) }
     ensures boundary { IfOk result (λ next. IsCharBoundary (bytes source.now) next) }
-    ensures text { OnOk result (string_bytes text.new ≡ string_bytes text.old ++ before_gap source.now from at) }
+    ensures texts { OnOk result ((behind : Texts) → list.new ++ texts_list (begun (string_bytes text.new) behind) ≡
+        list.old ++ texts_list (begun (string_bytes text.old) (before_gap source.now from at behind))) }
 {
     if !is_commented(source, at) {
         return Ok(from);
     }
     text.push_str(bytes_from(source, from, to_at(source, at.saturating_sub(1))))?;
-    add_gap(text, source, at)?;
+    add_seam(alloc, list, text, source, at)?;
     Ok(from_at(source, at))
 }
 
-/// Adds the text of a stretch without the comments in it.
+/// The text of a stretch without the comments in it: two texts where one stands with no white space beside it.
+#[tactic(auto, unfolding(crate::specs::Sources::texts))]
 #[inline(never)]
-fn add_said(text: &mut String, source: &Source, stretch: &Stretch) -> Result<(), Memory>
+pub fn texts(alloc: Global, source: &Source, stretch: &Stretch) -> Result<List<Name>, Memory>
     requires { IsCut source.now stretch.now }
-    ensures { OnOk result (string_bytes text.new ≡ string_bytes text.old ++ said_from source.now stretch.now.to
-        stretch.now.from stretch.now.first (stretch.now.end - stretch.now.first)) }
+    ensures { IfOk result (λ list. list ≡ texts_list (texts source.now stretch.now)) }
 {
     let Stretch {
         mut from,
@@ -214,24 +267,12 @@ fn add_said(text: &mut String, source: &Source, stretch: &Stretch) -> Result<(),
         first,
         end,
     } = *stretch;
+    let mut list = List::new(alloc);
+    let mut text = String::new(alloc);
     'places: for at in first..end {
-        from = add_before(text, source, from, at + 1)?;
+        from = add_before(alloc, &mut list, &mut text, source, from, at + 1)?;
     }
     text.push_str(bytes_from(source, from, to))?;
-    Ok(())
-}
-
-/// The text of a stretch without the comments in it.
-#[tactic(auto, unfolding(crate::specs::Sources::said))]
-#[inline(always)]
-pub fn said(alloc: Global, source: &Source, stretch: &Stretch) -> Result<Name, Memory>
-    requires { IsCut source.now stretch.now }
-    ensures { IfOk result (λ name. name ≡ said source.now stretch.now) }
-{
-    if !has_comments(source, stretch.first, stretch.end) {
-        return Name::new(alloc, bytes_from(source, stretch.from, stretch.to));
-    }
-    let mut text = String::new(alloc);
-    add_said(&mut text, source, stretch)?;
-    Name::new(alloc, text.as_str())
+    end_text(alloc, &mut list, &mut text)?;
+    Ok(list)
 }

@@ -12,9 +12,9 @@ mod source;
 mod text;
 
 pub use at::{found, is_at, number_at};
-pub use gap::{Stretch, behind, said, stretch_between, up_to};
+pub use gap::{Stretch, behind, has_comments, stretch_between, texts, up_to};
 pub use law::readings_are_of_the_table;
-pub use operator::{constant_at, operator_at, sign_at};
+pub use operator::{Precedence, constant_at, operator_at, sign_at};
 pub use row::{begins_literal, begins_value, goes_on};
 pub use source::Source;
 pub use text::{

@@ -6,6 +6,23 @@ use crate::Source;
 use sw_parse_terminals::Terminal;
 use sw_tree::{Constant, Operator, Sign};
 
+/// How operators bind, those that bind most first.
+#[derive(Clone, Copy, Debug, PartialEq, Eq)]
+pub enum Precedence {
+    /// `*`, `/` and `%`
+    Product,
+    /// `+` and `-`
+    Sum,
+    /// `<`, `<=`, `>` and `>=`
+    Relation,
+    /// `==` and `!=`
+    Equality,
+    /// `and`
+    And,
+    /// `or`
+    Or,
+}
+
 fn operator_of(terminal: Terminal) -> Operator
     ensures { result ≡ operator_of terminal }
 {

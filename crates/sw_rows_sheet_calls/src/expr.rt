@@ -64,10 +64,24 @@ fn add_parts(writer: &mut Writer, parts: &Parts) {
     }
 }
 
+// `/**/` stands between two texts, for the comment that keeps them apart.
 #[cycle(expr)]
 fn add_pieces(writer: &mut Writer, pieces: &[Piece]) {
+    let mut behind_text = false;
     for piece in pieces {
+        let is_text = is_text(piece);
+        if behind_text && is_text {
+            writer.seam();
+        }
         add_piece(writer, piece);
+        behind_text = is_text;
+    }
+}
+
+fn is_text(piece: &Piece) -> bool {
+    match piece {
+        Piece::Text(_) => true,
+        _ => false,
     }
 }
 

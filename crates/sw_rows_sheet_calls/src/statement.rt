@@ -151,7 +151,9 @@ fn add_rule(writer: &mut Writer, rule: &Rule) {
 
 #[cycle(statement)]
 fn add_media(writer: &mut Writer, media: &Media) {
+    writer.set_in_query(true);
     add_prelude(writer, "@media ", &media.queries);
+    writer.set_in_query(false);
     writer.mark(&media.span);
     add_block(writer, media.block.as_slice());
 }

@@ -11,6 +11,8 @@ pub struct Writer {
     out: TextWriter,
     // Each part that has a span is followed by it.
     marks: bool,
+    // It is a media query that is written.
+    in_query: bool,
 }
 
 impl Writer {
@@ -20,6 +22,7 @@ impl Writer {
             alloc,
             out: TextWriter::new(alloc),
             marks,
+            in_query: false,
         }
     }
 
@@ -32,6 +35,19 @@ impl Writer {
     /// Writes a text as it is; where no memory is found, the whole is refused.
     pub fn text(&mut self, text: &str) {
         self.out.text(text);
+    }
+
+    /// Writes `/**/` between two texts that a dropped comment keeps apart. Those of a media query, which are made of its
+    /// parts, stand side by side without one.
+    pub fn seam(&mut self) {
+        if !self.in_query {
+            self.text("/**/");
+        }
+    }
+
+    /// Media queries begin, or end.
+    pub fn set_in_query(&mut self, in_query: bool) {
+        self.in_query = in_query;
     }
 
     /// Writes a name as it is, without escapes.

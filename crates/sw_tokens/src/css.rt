@@ -5,7 +5,7 @@ ghost use Rattle.sw_text_scan.specs.Bytes.{byte};
 ghost use Rattle.sw_text_scan.specs.Runs.{run_end};
 ghost use Rattle.sw_tokens.specs.Pieces.{css_quote, css_loud, css_piece};
 
-use crate::decoded::decoded;
+use crate::escapes::decoded;
 use crate::pieces::{Before, Change, Piece, made, made_white, word_piece};
 use crate::skips::Inside;
 use crate::token::TokenKind;

@@ -1,7 +1,7 @@
 use Rattle.std.proofs.Common.{◌≡◌, List, ◌∷◌, ◌++◌, map, reverse, sym, ◌∙◌, ap, append_assoc}
 use Rattle.sw_tree.specs.declared.text.Piece.{Piece}
 use Rattle.sw_parse_table.specs.declared.gap.Stretch.{Stretch}
-use Rattle.sw_parse_table.specs.Sources.{said, pieces_from, text_piece}
+use Rattle.sw_parse_table.specs.Sources.{texts, pieces_from, text_pieces}
 use Rattle.sw_parse_expr_nodes.specs.declared.build.Inserted.{Inserted}
 use Rattle.sw_parse_expr_nodes.specs.Views.{insert_of, inserted_piece}
 use Rattle.sw_parse_expr_nodes.proofs.TextPieces.{reverse_more, pieces_more, tail}
@@ -20,7 +20,7 @@ items-preserved c =
       pieces =
           ap (λ (x : List Piece). front ++ x) more
           ∙ ap (λ (x : List Piece). front ++ inserted_piece last ∷ x) c.in_ok-push_text.ensures
-          ∙ ap (λ (x : Stretch). front ++ inserted_piece last ∷ (text_piece (said s x) ++ rev)) c.behind-tail.ensures.stretch
+          ∙ ap (λ (x : Stretch). front ++ inserted_piece last ∷ (text_pieces (texts s x) ++ rev)) c.behind-tail.ensures.stretch
           ∙ sym (append_assoc front (tail s c.items.left last) rev)
           ∙ ap (λ (x : Stretch). (pieces_from s x inserts ++ tail s c.items.left last) ++ rev) c.up_to-before.ensures.stretch
           ∙ ap (λ (x : List Piece). x ++ rev) (sym (pieces_more s c.pop.new.self last c.items.left))

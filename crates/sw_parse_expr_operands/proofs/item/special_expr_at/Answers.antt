@@ -5,7 +5,7 @@ use Rattle.sw_parse_expr_operands.proofs.item.special_expr_at.Goals as goal
 pub returns-then-is_number : goal.returns-then-is_number
 returns-then-is_number g c =
     rw (special_expr_number c.args.source.now c.args.levels c.args.at (sym c.if-is_number.ensures.test))
-    c.number_at.ensures
+    c.special_number_at.ensures
 
 pub returns-then-is_dollar : goal.returns-then-is_dollar
 returns-then-is_dollar g c =

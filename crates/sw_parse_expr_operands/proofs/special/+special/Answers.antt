@@ -5,7 +5,7 @@ use Rattle.sw_parse_terminals.specs.declared.terminal.Terminal.TheVariants as T
 use Rattle.sw_parse_terminals.specs.Numbers.{just}
 use Rattle.sw_parse_table.specs.Sources.{text_of}
 use Rattle.sw_parse_table.specs.Table.{forms}
-use Rattle.sw_parse_table.specs.Parts.{SpecialInside}
+use Rattle.sw_parse_table.specs.Parts.{SpecialItems}
 use Rattle.sw_parse_table.specs.Expressions.{special_parens, special_brackets, special_item}
 use Rattle.sw_parse_table.proofs.Decided.{fit, loops}
 use Rattle.sw_parse_expr_operands.proofs.Choices.{special_item_raw, special_item_insert, special_item_special_value, special_item_special_parens, special_item_special_brackets}
@@ -15,33 +15,33 @@ pub special_parens_at-returns-in_err-list : goal.special_parens_at-returns-in_er
 unfolding special_parens
 special_parens_at-returns-in_err-list g t c =
     let p = err_from_is_err_and c.from_residual.result c.from_residual.ensures.1 in
-    rw (p.1, p.2) (group_fails (forms c.args.source.now) (text_of c.args.source.now) (length c.args.source.now.lexemes.now) c.args.levels (just T.RawParen) (just T.RawParenEnd) SpecialInside c.args.at _ (omega arith) (sym c.if-not-is_at.ensures.test) c.in_err-list.ensures)
+    rw (p.1, p.2) (group_fails (forms c.args.source.now) (text_of c.args.source.now) (length c.args.source.now.lexemes.now) c.args.levels (just T.RawParen) (just T.RawParenEnd) SpecialItems c.args.at _ (omega arith) (sym c.if-not-is_at.ensures.test) c.in_err-list.ensures)
 
 pub special_parens_at-returns-then-not-is_at-2 : goal.special_parens_at-returns-then-not-is_at-2
 unfolding special_parens
 special_parens_at-returns-then-not-is_at-2 g t c =
-    group_unclosed (forms c.args.source.now) (text_of c.args.source.now) (length c.args.source.now.lexemes.now) c.args.levels (just T.RawParen) (just T.RawParenEnd) SpecialInside c.args.at _ _ (omega arith) (sym c.if-not-is_at.ensures.test) c.in_ok-list.ensures (sym c.if-not-is_at-2.ensures.test)
+    group_unclosed (forms c.args.source.now) (text_of c.args.source.now) (length c.args.source.now.lexemes.now) c.args.levels (just T.RawParen) (just T.RawParenEnd) SpecialItems c.args.at _ _ (omega arith) (sym c.if-not-is_at.ensures.test) c.in_ok-list.ensures (sym c.if-not-is_at-2.ensures.test)
 
 pub special_parens_at-returns : goal.special_parens_at-returns
 unfolding special_parens
 special_parens_at-returns g t c =
-    group_got (forms c.args.source.now) (text_of c.args.source.now) (length c.args.source.now.lexemes.now) c.args.levels (just T.RawParen) (just T.RawParenEnd) SpecialInside c.args.at _ _ (omega arith) (sym c.if-not-is_at.ensures.test) c.in_ok-list.ensures (sym c.if-not-is_at-2.ensures.test)
+    group_got (forms c.args.source.now) (text_of c.args.source.now) (length c.args.source.now.lexemes.now) c.args.levels (just T.RawParen) (just T.RawParenEnd) SpecialItems c.args.at _ _ (omega arith) (sym c.if-not-is_at.ensures.test) c.in_ok-list.ensures (sym c.if-not-is_at-2.ensures.test)
 
 pub special_brackets_at-returns-in_err-list : goal.special_brackets_at-returns-in_err-list
 unfolding special_brackets
 special_brackets_at-returns-in_err-list g t c =
     let p = err_from_is_err_and c.from_residual.result c.from_residual.ensures.1 in
-    rw (p.1, p.2) (group_fails (forms c.args.source.now) (text_of c.args.source.now) (length c.args.source.now.lexemes.now) c.args.levels (just T.RawBracket) (just T.RawBracketEnd) SpecialInside c.args.at _ (omega arith) (sym c.if-not-is_at.ensures.test) c.in_err-list.ensures)
+    rw (p.1, p.2) (group_fails (forms c.args.source.now) (text_of c.args.source.now) (length c.args.source.now.lexemes.now) c.args.levels (just T.RawBracket) (just T.RawBracketEnd) SpecialItems c.args.at _ (omega arith) (sym c.if-not-is_at.ensures.test) c.in_err-list.ensures)
 
 pub special_brackets_at-returns-then-not-is_at-2 : goal.special_brackets_at-returns-then-not-is_at-2
 unfolding special_brackets
 special_brackets_at-returns-then-not-is_at-2 g t c =
-    group_unclosed (forms c.args.source.now) (text_of c.args.source.now) (length c.args.source.now.lexemes.now) c.args.levels (just T.RawBracket) (just T.RawBracketEnd) SpecialInside c.args.at _ _ (omega arith) (sym c.if-not-is_at.ensures.test) c.in_ok-list.ensures (sym c.if-not-is_at-2.ensures.test)
+    group_unclosed (forms c.args.source.now) (text_of c.args.source.now) (length c.args.source.now.lexemes.now) c.args.levels (just T.RawBracket) (just T.RawBracketEnd) SpecialItems c.args.at _ _ (omega arith) (sym c.if-not-is_at.ensures.test) c.in_ok-list.ensures (sym c.if-not-is_at-2.ensures.test)
 
 pub special_brackets_at-returns : goal.special_brackets_at-returns
 unfolding special_brackets
 special_brackets_at-returns g t c =
-    group_got (forms c.args.source.now) (text_of c.args.source.now) (length c.args.source.now.lexemes.now) c.args.levels (just T.RawBracket) (just T.RawBracketEnd) SpecialInside c.args.at _ _ (omega arith) (sym c.if-not-is_at.ensures.test) c.in_ok-list.ensures (sym c.if-not-is_at-2.ensures.test)
+    group_got (forms c.args.source.now) (text_of c.args.source.now) (length c.args.source.now.lexemes.now) c.args.levels (just T.RawBracket) (just T.RawBracketEnd) SpecialItems c.args.at _ _ (omega arith) (sym c.if-not-is_at.ensures.test) c.in_ok-list.ensures (sym c.if-not-is_at-2.ensures.test)
 
 pub special_item_at-returns-then-is_special_text : goal.special_item_at-returns-then-is_special_text
 special_item_at-returns-then-is_special_text g t c =

@@ -6,19 +6,16 @@ use Rattle.sw_parse_expr_nodes.specs.Views.{insert_of}
 use Rattle.sw_parse_expr_operands.proofs.special.+special.Given as goal
 
 abbrev pub decreases-special_parens_at : goal.decreases-special_parens_at
-decreases-special_parens_at g l = 4 * l.levels
+decreases-special_parens_at g l = 3 * l.levels
 
 abbrev pub decreases-special_brackets_at : goal.decreases-special_brackets_at
-decreases-special_brackets_at g l = 4 * l.levels
+decreases-special_brackets_at g l = 3 * l.levels
 
 abbrev pub decreases-special_item_at : goal.decreases-special_item_at
-decreases-special_item_at g l = 4 * l.levels + 1
+decreases-special_item_at g l = 3 * l.levels + 1
 
 abbrev pub decreases-special_items_at : goal.decreases-special_items_at
-decreases-special_items_at g l = 4 * l.levels + 2
-
-abbrev pub decreases-special_inside_at : goal.decreases-special_inside_at
-decreases-special_inside_at g l = 4 * l.levels + 3
+decreases-special_items_at g l = 3 * l.levels + 2
 
 abbrev pub invariant-special_items_at-items : goal.invariant-special_items_at-items
 invariant-special_items_at-items g l =

@@ -1,8 +1,0 @@
-use Rattle.std.proofs.Common.{sym, ◌∙◌}
-use Rattle.sw_parse_table.proofs.Gaps.{said_past}
-use Rattle.sw_parse_table.proofs.gap.has_comments.Goals as goal
-
-pub places-preserved : goal.places-preserved
-places-preserved c to from =
-    c.places.invariant to from
-    ∙ said_past c.args.source.now to from c.places.at c.args.end c.places-test.true (sym c.is_commented.ensures ∙ c.if-is_commented.false)
