@@ -1,10 +1,11 @@
 -- Built-in functions and variables (the Sass specification on built-in modules; the places of faults are this project's
 -- own).
-use Rattle.std.specs.Prelude.{ℕ, ℤ, List, [], ◌∷◌, ◌++◌, length, map, Option, Some, None, Result, Ok, Err}
+use Rattle.std.specs.Prelude.{ℕ, ℤ, false, List, [], ◌∷◌, ◌++◌, length, map, Option, Some, None, Result, Ok, Err}
 use Rattle.sw_text.specs.declared.fault.FaultCode.{FaultCode}
 use Rattle.sw_text.specs.declared.fault.FaultCode.TheVariants as C
 use Rattle.sw_text.specs.declared.place.Span.{Span}
 use Rattle.sw_tree.specs.declared.callable.Param.{Param}
+use Rattle.sw_tree.specs.declared.expr.Argument.{Argument}
 use Rattle.sw_tree.specs.declared.expr.Expr.{Expr}
 use Rattle.sw_tree.specs.declared.expr.ExprKind.{out-ExprKind}
 use Rattle.sw_tree.specs.declared.expr.ExprKind.TheOpen.{ExprKind-F, Parts-F}
@@ -15,6 +16,7 @@ use Rattle.sw_scope.specs.declared.passed.Passed.{Passed}
 use Rattle.sw_scope.specs.declared.slots.Slot.{Slot}
 use Rattle.sw_scope.specs.declared.slots.Slot.TheVariants.{Filled, Default}
 use Rattle.sw_scope.specs.Frames.{Variable}
+use Rattle.sw_scope.specs.Passed.{none_passed}
 use Rattle.sw_fn_call.specs.declared.fault.FnFault.{FnFault}
 use Rattle.sw_fn_call.specs.declared.fault.FnFault.TheVariants as F
 use Rattle.sw_builtins.specs.declared.built_in.BuiltIn.{BuiltIn}
@@ -26,6 +28,7 @@ use Rattle.sw_eval_literals.specs.Literals.{number_value, word_value, constant_v
 use Rattle.sw_eval_literals.specs.Quotients.{plain_at}
 use Rattle.sw_eval_calls.specs.Layers.{Kinds, Texts}
 use Rattle.sw_eval_calls.specs.Passing.{Slots, plain_passed, bound_by, default_at}
+use Rattle.sw_eval_calls.specs.Placing.{all_passed, at_argument}
 
 -- the faults of functions; none of their meanings is want of memory
 abbrev pub code_of : FnFault → FaultCode
@@ -89,6 +92,11 @@ built_in_arguments f p span = with (plain_passed p span) (λ plain. arguments_by
 unfoldable pub built_in_value : BuiltIn → Passed → Span → Answer Plain
 built_in_value f p span =
     with (built_in_arguments f p span) (λ vs. with (of_fn span (answer f vs)) (λ v. plain_at v span))
+
+-- the same of a call with these arguments, which have these values; what can't be written in CSS is a fault at its
+-- argument
+unfoldable pub built_in_call : BuiltIn → List Argument → List Plain → Span → Answer Plain
+built_in_call f args vs span = at_argument false args vs (built_in_value f (all_passed none_passed args vs) span)
 
 abbrev pub variable_by : FaultCode → Option ℤ → Span → Answer Plain
 variable_by unknown (Some v) span = number_value (record { value = Some v; unit = [] }) span

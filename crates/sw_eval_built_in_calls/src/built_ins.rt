@@ -6,20 +6,20 @@ ghost use Rattle.sw_fn_call.specs.declared.fault.FnFault.{FnFault};
 ghost use Rattle.sw_values.specs.declared.plain.Plain.{Plain};
 ghost use Rattle.std.specs.Prelude.{Result};
 ghost use Rattle.sw_eval_literals.specs.Answers.{Returns};
-ghost use Rattle.sw_eval_built_in_calls.specs.BuiltIns.{of_fn, word_by, constant_by, constant_of, filled_with, filled, names_of, built_in_arguments, built_in_value, built_in_variable};
+ghost use Rattle.sw_eval_built_in_calls.specs.BuiltIns.{of_fn, word_by, constant_by, constant_of, filled_with, filled, names_of, built_in_arguments, built_in_value, built_in_call, built_in_variable};
 ghost use Rattle.sw_tree.specs.declared.expr.ExprKind.{out-ExprKind};
 ghost use Rattle.sw_tree.specs.declared.text.Parts.{out-Parts};
 
 use std::alloc::Global;
 use sw_builtins::{BuiltIn, call, params, variable};
-use sw_eval_calls::{bound_by, default_at, plain_passed};
+use sw_eval_calls::{all_passed, at_argument, bound_by, default_at, plain_passed};
 use sw_eval_literals::{
     Refused, constant_value, fails as refuses, into_plain_at, number_value, word_value,
 };
 use sw_fn_call::FnFault;
 use sw_scope::{Passed, Slot};
 use sw_text::{FaultCode, List, Memory, Name, Span};
-use sw_tree::{Expr, ExprKind, Number, Param, Parts};
+use sw_tree::{Argument, Expr, ExprKind, Number, Param, Parts};
 use sw_values::Value;
 
 // What a function answered, here.
@@ -139,6 +139,22 @@ pub fn built_in_value(
     let arguments = built_in_arguments(alloc, function, passed, span)?;
     let value = of_fn(call(alloc, function, arguments.as_slice()), span)?;
     into_plain_at(value, span)
+}
+
+/// The same of a call with these arguments, which have these values. What can't be written in CSS is a fault at its
+/// argument.
+pub fn built_in_call(
+    alloc: Global,
+    function: BuiltIn,
+    arguments: &[Argument],
+    values: &[Value],
+    span: &Span,
+) -> Result<Value, Refused>
+    ensures { Returns result (built_in_call function arguments.now values.now span.now) }
+{
+    let passed = all_passed(alloc, arguments, values)?;
+    let value = built_in_value(alloc, function, &passed, span);
+    at_argument(alloc, false, arguments, values, value)
 }
 
 /// The value of a variable of a built-in module, which stands here; without one, this fault.

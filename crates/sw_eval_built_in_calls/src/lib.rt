@@ -4,4 +4,4 @@
 
 mod built_ins;
 
-pub use built_ins::{built_in_arguments, built_in_value, built_in_variable};
+pub use built_ins::{built_in_arguments, built_in_call, built_in_value, built_in_variable};

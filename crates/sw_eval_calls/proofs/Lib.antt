@@ -4,3 +4,4 @@ pub mod Tests
 pub mod Unrolled
 pub mod Arguments
 pub mod Written
+pub mod Placed

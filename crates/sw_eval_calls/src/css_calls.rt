@@ -1,12 +1,14 @@
 // Calls that are written out as functions of CSS.
 ghost use Rattle.std.specs.Prelude.{◌≡◌, [], ◌++◌, IfOk, OnOk};
 ghost use Rattle.sw_eval_literals.specs.Answers.{Returns};
-ghost use Rattle.sw_eval_calls.specs.CssCalls.{names_any, comma_behind, argument_texts, whole_call, css_call};
+ghost use Rattle.sw_eval_calls.specs.CssCalls.{names_any, comma_behind, argument_texts, whole_call, written_call, css_call};
 
+use crate::placing::{all_passed, at_argument};
 use std::alloc::Global;
 use sw_eval_literals::{Refused, css_text, joined, string_value};
 use sw_scope::Passed;
 use sw_text::{List, Memory, Name, Span};
+use sw_tree::Argument;
 use sw_values::Value;
 
 /// Whether an argument was passed by its name, or none takes the arguments.
@@ -55,13 +57,29 @@ fn whole_call(alloc: Global, name: Name, arguments: &[Name]) -> Result<List<Name
     Ok(pieces)
 }
 
-/// The call of a function of CSS with these values, as an unquoted string.
-#[tactic(auto, unfolding(crate::specs::CssCalls::css_call))]
-pub fn css_call(alloc: Global, name: Name, values: &[Value], span: &Span) -> Result<Value, Refused>
-    ensures { Returns result (css_call name values.now span.now) }
+// The call of a function of CSS with these values, as an unquoted string.
+#[tactic(auto, unfolding(crate::specs::CssCalls::written_call))]
+fn written_call(alloc: Global, name: Name, values: &[Value], span: &Span) -> Result<Value, Refused>
+    ensures { Returns result (written_call name values.now span.now) }
 {
     let arguments = argument_texts(alloc, values, span)?;
     let pieces = whole_call(alloc, name, arguments.as_slice())?;
     let text = joined(alloc, pieces.as_slice(), span)?;
     string_value(text, false, span)
+}
+
+/// The call of a function of CSS with these arguments and their values, as an unquoted string. What can't be written is
+/// a fault at its argument.
+pub fn css_call(
+    alloc: Global,
+    name: Name,
+    arguments: &[Argument],
+    values: &[Value],
+    span: &Span,
+) -> Result<Value, Refused>
+    ensures { Returns result (css_call name arguments.now values.now span.now) }
+{
+    let passed = all_passed(alloc, arguments, values)?;
+    let written = written_call(alloc, name, passed.items.as_slice(), span);
+    at_argument(alloc, true, arguments, values, written)
 }

@@ -5,7 +5,9 @@
 mod contents;
 mod css_calls;
 mod passing;
+mod placing;
 
 pub use contents::block_has;
 pub use css_calls::{add_comma, css_call, names_any};
 pub use passing::{bound, bound_by, default_at, pass_on, plain_passed};
+pub use placing::{all_passed, at_argument};

@@ -1,5 +1,5 @@
 -- Calls of functions (the Sass specification on functions; limits and the places of faults are this project's own).
-use Rattle.std.specs.Prelude.{if◌then◌else◌, List, Option}
+use Rattle.std.specs.Prelude.{if◌then◌else◌, List, [], Option}
 use Rattle.sw_text.specs.declared.place.Span.{Span}
 use Rattle.sw_tree.specs.declared.callable.Param.{Param}
 use Rattle.sw_tree.specs.declared.expr.Argument.{Argument}
@@ -23,7 +23,7 @@ use Rattle.sw_eval_state.specs.declared.entries.Entry.{Entry}
 use Rattle.sw_eval_state.specs.declared.entries.Found.{Found}
 use Rattle.sw_eval_expressions.specs.Choosing.{has_spread}
 use Rattle.sw_eval_expressions.specs.Functions.{css_called, if_called}
-use Rattle.sw_eval_walk.specs.Arguments.{arguments}
+use Rattle.sw_eval_walk.specs.Arguments.{arguments, argument_values}
 use Rattle.sw_eval_walk.specs.Callees.{called}
 use Rattle.sw_eval_walk.specs.Existence.{built_in_called}
 
@@ -41,7 +41,7 @@ module _ (value : Parens → Expr → Eval Plain) (enter : Span → Entry → Li
     -- a built-in function, which is given its arguments
     unfoldable pub built_in_call : Parens → BuiltIn → List Argument → Span → Eval Plain
     built_in_call parens f args span s =
-        bind (arguments value (deeper parens) args none_passed s) (λ p. built_in_called f p.0 span p.1)
+        bind (argument_values value (deeper parens) args [] s) (λ vs. built_in_called f args vs.0 span vs.1)
 
     -- of the arguments of `if()` it is given one at most, unless a value is written with `...`
     abbrev pub built_in_by : Parens → BuiltIn → List Argument → Span → Eval Plain

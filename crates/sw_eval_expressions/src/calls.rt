@@ -7,7 +7,7 @@ use crate::functions::{css_called, if_called};
 use sw_builtins::BuiltIn;
 use sw_eval_questions::{Stop, stopped};
 use sw_eval_state::{Called, Found, function_entry, returned};
-use sw_eval_walk::{Below, Body, Level, Walk, arguments_of};
+use sw_eval_walk::{Below, Body, Level, Walk, argument_values, arguments_of};
 use sw_text::Span;
 use sw_tree::{Argument, Callee};
 use sw_values::Value;
@@ -51,8 +51,8 @@ fn built_in_call<W: World, B: Below<W>>(
     ensures { Goes_on W.gives (built_in_call (B.values level.below) (B.bodies level.below) level.parens function
         arguments.now span.now) walk.old world.old result walk.new world.new }
 {
-    let passed = arguments_of(walk, level.deeper(), arguments, world)?;
-    walk.built_in_called(function, &passed, span, world)
+    let values = argument_values(walk, level.deeper(), arguments, world)?;
+    walk.built_in_called(function, arguments, values.as_slice(), span, world)
 }
 
 // Of the arguments of `if()` it is given one at most, unless a value is written with `...`.

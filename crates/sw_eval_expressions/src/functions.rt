@@ -1,18 +1,33 @@
 // Calls of functions of CSS, and `if()`.
+ghost use Rattle.std.specs.Prelude.{◌≡◌, IfOk};
 ghost use Rattle.sw_eval_walk.specs.Going.{Goes_on};
-ghost use Rattle.sw_eval_expressions.specs.Functions.{css_called, one_of, chosen, if_called};
+ghost use Rattle.sw_eval_expressions.specs.Functions.{written_name, css_called, one_of, chosen, if_called};
 ghost use Rattle.sw_eval_expressions.specs.Choosing.{choice_of};
 
 use crate::choosing::{Chosen, choice, one_by};
-use sw_eval_calls::names_any;
-use sw_eval_literals::into_plain_at;
+use std::alloc::Global;
+use sw_eval_calls::{all_passed, css_call, names_any};
+use sw_eval_literals::{into_plain_at, whole_text};
 use sw_eval_questions::{Stop, stopped};
 use sw_eval_state::fails;
-use sw_eval_walk::{Below, Level, TextKind, Walk, arguments_of, text, value_of};
-use sw_text::{FaultCode, Span};
-use sw_tree::{Argument, Callee};
+use sw_eval_walk::{Below, Level, TextKind, Walk, argument_values, text, value_of};
+use sw_text::{FaultCode, Memory, Name, Span};
+use sw_tree::{Argument, Callee, Namespaced};
 use sw_values::Value;
 use sw_world::World;
+
+// The name of a function that is written out: as the sheet writes it, with its namespace.
+fn written_name(alloc: Global, space: &Option<Namespaced>, name: Name) -> Result<Name, Memory>
+    ensures { IfOk result (λ whole. whole ≡ written_name space.now name) }
+{
+    match space {
+        None => Ok(name),
+        Some(space) => {
+            let point = Name::new(alloc, ".")?;
+            whole_text(alloc, &[space.name.share()?, point, name])
+        }
+    }
+}
 
 // The call of a function of CSS, which takes no arguments by name.
 pub(crate) fn css_called<W: World, B: Below<W>>(
@@ -36,11 +51,16 @@ pub(crate) fn css_called<W: World, B: Below<W>>(
         &written.span,
         world,
     )?;
-    let passed = arguments_of(walk, level.deeper(), arguments, world)?;
+    let values = argument_values(walk, level.deeper(), arguments, world)?;
+    let passed = all_passed(walk.alloc, arguments, values.as_slice())?;
     if names_any(&passed) {
         return fails(FaultCode::ArgumentFault, span);
     }
-    walk.css_value(callee, name, passed.items, span, world)
+    if let Some(value) = walk.hosted_value(callee, &name, passed.items, span, world)? {
+        return Ok(value);
+    }
+    let whole = written_name(walk.alloc, &callee.namespace, name)?;
+    stopped(css_call(walk.alloc, whole, arguments, values.as_slice(), span))
 }
 
 // What a condition chooses, which keeps no sides.

@@ -1,12 +1,12 @@
 -- The selectors of keyframes (the Sass specification on `@keyframes`).
-use Rattle.std.specs.Prelude.{ℕ, zero, suc, ◌+◌, ◌-◌, Bool, not, ◌&&◌, ◌||◌, ◌==◌, nat_le, bytes_eq, codes, if◌then◌else◌, List, [], ◌∷◌, ◌++◌, length, Option, Some, None}
+use Rattle.std.specs.Prelude.{ℕ, zero, suc, ◌+◌, ◌-◌, Bool, not, ◌&&◌, ◌||◌, ◌==◌, nat_le, bytes_eq, codes, if◌then◌else◌, List, [], ◌∷◌, ◌++◌, length, Option, Some, None, Ok}
 use Rattle.sw_text.specs.declared.fault.FaultCode.TheVariants as C
 use Rattle.sw_text.specs.declared.place.Span.{Span}
 use Rattle.sw_text_scan.specs.Bytes.{sign, byte}
 use Rattle.sw_text_scan.specs.Words.{begins_number, unit_start}
 use Rattle.sw_scope.specs.Bind.{is_empty}
 use Rattle.sw_eval_literals.specs.Answers.{Answer, refused}
-use Rattle.sw_eval_literals.specs.Texts.{joined}
+use Rattle.sw_eval_literals.specs.Texts.{all_pieces}
 use Rattle.sw_eval_calls.specs.CssCalls.{comma_behind}
 use Rattle.sw_eval_literals.specs.Trimming.{trimmed}
 
@@ -61,7 +61,7 @@ with_commas done (frame ∷ frames) = with_commas ((done ++ comma_behind done) +
 
 abbrev pub text_by : Option (List (List ℕ)) → Span → Answer (List ℕ)
 text_by None span = refused C.BadSelector span
-text_by (Some frames) span = joined (with_commas [] frames) span
+text_by (Some frames) span = Ok (all_pieces (with_commas [] frames))
 
 -- the selectors of a rule in keyframes as they are written, whose text stands here
 unfoldable pub keyframe_text : List ℕ → Span → Answer (List ℕ)

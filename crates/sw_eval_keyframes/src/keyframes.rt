@@ -5,7 +5,7 @@ ghost use Rattle.sw_eval_keyframes.specs.Keyframes.{is_comma, next_comma, pieces
 
 use std::alloc::Global;
 use sw_eval_calls::add_comma;
-use sw_eval_literals::{Refused, add_trimmed, fails as refuses, joined};
+use sw_eval_literals::{Refused, add_trimmed, fails as refuses, whole_text};
 use sw_text::{FaultCode, List, Memory, Name, Span};
 use sw_text_scan::{begins_number, byte_at, signs, unit_start};
 
@@ -110,7 +110,7 @@ pub fn keyframe_text(alloc: Global, text: &Name, span: &Span) -> Result<Name, Re
     match frames_of(alloc, pieces.as_slice())? {
         Some(frames) => {
             let whole = with_commas(alloc, frames.as_slice())?;
-            joined(alloc, whole.as_slice(), span)
+            Ok(whole_text(alloc, whole.as_slice())?)
         }
         None => refuses(FaultCode::BadSelector, span),
     }

@@ -118,8 +118,8 @@ kept left right span = kept_by (number_in left) (number_in right) left right spa
 
 -- the value of both sides where the right one, at the first place, loses the sides of a quotient
 abbrev pub of_quotient : Left → Operator → Plain → Span → Span → Answer Plain
-of_quotient left operator right right_at span =
-    with (plain_at right right_at) (λ value. computed operator left.value value span)
+of_quotient left operator right right_span span =
+    with (plain_at right right_span) (λ value. computed operator left.value value span)
 
 -- the value of both sides: the right one stands at the first place, the chain at the second
 abbrev pub of_both : Left → Operator → Plain → Expr → Span → Answer Plain
@@ -148,4 +148,4 @@ signed (sign ∷ signs) value span = with (signed signs value span) (λ inner. o
 
 -- an operand, which stands at the first place, with the signs before it
 unfoldable pub prefixed : List Sign → Plain → Span → Span → Answer Plain
-prefixed signs value operand_at span = with (plain_at value operand_at) (λ plain. signed signs plain span)
+prefixed signs value operand_span span = with (plain_at value operand_span) (λ plain. signed signs plain span)

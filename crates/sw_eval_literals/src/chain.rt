@@ -215,12 +215,12 @@ impl Left {
         alloc: Global,
         operator: Operator,
         right: &Value,
-        right_at: &Span,
+        right_span: &Span,
         span: &Span,
     ) -> Result<Value, Refused>
-        ensures { Returns result (of_quotient self.now operator right.now right_at.now span.now) }
+        ensures { Returns result (of_quotient self.now operator right.now right_span.now span.now) }
     {
-        match plain_at(right, right_at) {
+        match plain_at(right, right_span) {
             Ok(right) => computed(alloc, operator, &self.value, &right, span),
             Err(refused) => Err(refused),
         }

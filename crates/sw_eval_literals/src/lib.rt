@@ -27,5 +27,5 @@ pub use maps::map_value;
 pub use quotients::{Parens, deeper, into_plain_at, is_literal, of_item, plain_at};
 pub use refused::{Refused, fails};
 pub use signs::prefixed;
-pub use texts::{css_text, declaration_text, inserted, is_written, joined, message};
+pub use texts::{css_text, declaration_text, inserted, is_written, joined, message, whole_text};
 pub use trimming::{add_trimmed, trimmed};

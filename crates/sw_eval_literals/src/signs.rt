@@ -53,12 +53,12 @@ pub fn prefixed(
     alloc: Global,
     signs: &[Sign],
     operand: &Value,
-    operand_at: &Span,
+    operand_span: &Span,
     span: &Span,
 ) -> Result<Value, Refused>
-    ensures { Returns result (prefixed signs.now operand.now operand_at.now span.now) }
+    ensures { Returns result (prefixed signs.now operand.now operand_span.now span.now) }
 {
-    match plain_at(operand, operand_at) {
+    match plain_at(operand, operand_span) {
         Ok(value) => signed(alloc, signs, value, span),
         Err(refused) => Err(refused),
     }

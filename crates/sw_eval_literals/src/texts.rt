@@ -5,11 +5,11 @@ ghost use Rattle.sw_values.specs.Inspected.{said};
 ghost use Rattle.sw_values.specs.Weight.{most};
 ghost use Rattle.sw_values.specs.Shape.{node_of};
 ghost use Rattle.sw_eval_literals.specs.Answers.{Returns};
-ghost use Rattle.sw_eval_literals.specs.Texts.{short, css_text, inserted, message, joined, all_blank, blank_list, void_by, is_written, declaration_text};
+ghost use Rattle.sw_eval_literals.specs.Texts.{short, css_text, inserted, message, all_pieces, joined, all_blank, blank_list, void_by, is_written, declaration_text};
 
 use crate::refused::{Refused, fails};
 use std::alloc::Global;
-use sw_text::{FaultCode, Name, Span};
+use sw_text::{FaultCode, Memory, Name, Span};
 use sw_values::{Node, Value, ValueFault};
 
 // The greatest weight of a value, which a text is always below.
@@ -92,6 +92,17 @@ pub fn joined(alloc: Global, pieces: &[Name], span: &Span) -> Result<Name, Refus
         text.push_str(piece)?;
     }
     Ok(Name::new(alloc, text.as_str())?)
+}
+
+/// The text of these pieces behind one another, however long it is.
+pub fn whole_text(alloc: Global, pieces: &[Name]) -> Result<Name, Memory>
+    ensures { IfOk result (λ text. text ≡ all_pieces pieces.now) }
+{
+    let mut text = String::new(alloc);
+    'pieces: for piece in pieces {
+        text.push_str(piece.as_str())?;
+    }
+    Name::new(alloc, text.as_str())
 }
 
 // Whether all items are left out of the text of a list.

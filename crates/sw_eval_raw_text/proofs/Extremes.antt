@@ -5,16 +5,14 @@ use Rattle.sw_text.specs.declared.fault.Fault.{Fault}
 use Rattle.sw_text.specs.declared.place.Span.{Span}
 use Rattle.sw_tree.specs.declared.text.Piece.{Piece}
 use Rattle.sw_values.specs.declared.plain.Plain.{Plain}
-use Rattle.sw_scope.specs.declared.passed.Passed.{Passed}
 use Rattle.sw_builtins.specs.declared.built_in.BuiltIn.{BuiltIn}
 use Rattle.sw_eval_literals.specs.declared.refused.Refused.{Refused}
-use Rattle.sw_eval_literals.specs.declared.refused.Refused.TheVariants as R
 use Rattle.sw_eval_literals.specs.Answers.{Answer, Returns}
 use Rattle.sw_eval_calls.proofs.Items.{next_item, drop_all}
-use Rattle.sw_eval_built_in_calls.specs.BuiltIns.{built_in_value}
 use Rattle.sw_eval_raw_text.specs.Imports.{is_text}
-use Rattle.sw_eval_raw_text.specs.Special.{fits, lists_values, piece_text, had, written_pieces, written_out, passed_of, or_written, extremum_value}
+use Rattle.sw_eval_raw_text.specs.Special.{fits, lists_values, piece_text, had, written_pieces, written_out, behind_piece, all_compared, computed, is_incomparable, or_written, extremum_value}
 use Rattle.sw_eval_calls.proofs.Answering.{refused_then}
+use Rattle.sw_text_scan.proofs.Bounds.{if_true, if_false}
 
 -- ---- which calls are computed
 
@@ -58,14 +56,32 @@ written_refused done ps vs i next p e r lt is gave q =
 pub written_end : (done : List (List ℕ)) (ps : List Piece) (vs : List Plain) (i next : ℕ) → length ps ≤ i → written_pieces done (drop i ps) vs next ≡ Ok done
 written_end done ps vs i next le = rw (drop_all ps i le) refl
 
-pub as_computed : (f : BuiltIn) (ps : List Piece) (vs : List Plain) (p : Passed) (at : Span) (v : Plain) → p ≡ passed_of vs → built_in_value f p at ≡ Ok v → extremum_value f ps vs at ≡ Ok v
-unfolding extremum_value
-as_computed f ps vs p at v same is =
-    ap (λ (r : Answer Plain). or_written r ps vs at) (ap (λ (q : Passed). built_in_value f q at) (sym same) ∙ is)
+-- what is compared
 
-pub as_written : (f : BuiltIn) (ps : List Piece) (vs : List Plain) (p : Passed) (at : Span) (e : Refused) (fault : Fault) → p ≡ passed_of vs → e ≡ R.Fault fault → Returns {A = Plain} (Err e) (built_in_value f p at)
-    → extremum_value f ps vs at ≡ written_out ps vs at
+pub compared_next : (done more : List Plain) (ps : List Piece) (vs : List Plain) (i next : ℕ) (p : Piece) → i < length ps → p ≡ get_or ps i p → behind_piece done p (slice_get vs next) ≡ Ok more
+    → all_compared done (drop i ps) vs next ≡ all_compared more (drop (i + 1) ps) vs (had p next)
+compared_next done more ps vs i next p lt is e = rw (next_item ps i p lt is, e) refl
+
+pub compared_refused : (done : List Plain) (ps : List Piece) (vs : List Plain) (i next : ℕ) (p : Piece) (e : Refused) (r : Result (List Plain) Refused) → i < length ps → p ≡ get_or ps i p
+    → Returns {A = List Plain} (Err e) (behind_piece done p (slice_get vs next)) → IsErr r × IsErrAnd r (λ x. x ≡ e) → Returns r (all_compared done (drop i ps) vs next)
+compared_refused done ps vs i next p e r lt is gave q =
+    rw (next_item ps i p lt is) (refused_then (behind_piece done p (slice_get vs next)) (λ more. all_compared more (drop (i + 1) ps) vs (had p next)) e r gave q)
+
+pub compared_end : (done : List Plain) (ps : List Piece) (vs : List Plain) (i next : ℕ) → length ps ≤ i → all_compared done (drop i ps) vs next ≡ Ok done
+compared_end done ps vs i next le = rw (drop_all ps i le) refl
+
+pub as_computed : (f : BuiltIn) (ps : List Piece) (vs : List Plain) (span : Span) (v : Plain) → computed f ps vs span ≡ Ok v → extremum_value f ps vs span ≡ Ok v
 unfolding extremum_value
-as_written f ps vs p at (R.Fault fault) other same is gave =
-    ap (λ (r : Answer Plain). or_written r ps vs at) (ap (λ (q : Passed). built_in_value f q at) (sym same) ∙ gave)
-as_written f ps vs p at R.Memory other same is gave = absurd cc
+as_computed f ps vs span v is = ap (λ (r : Answer Plain). or_written r ps vs span) is
+
+pub as_written : (f : BuiltIn) (ps : List Piece) (vs : List Plain) (span : Span) (fault : Fault) → computed f ps vs span ≡ Err fault → is_incomparable fault.code ≡ true
+    → extremum_value f ps vs span ≡ written_out ps vs span
+unfolding extremum_value
+as_written f ps vs span fault is e =
+    ap (λ (r : Answer Plain). or_written r ps vs span) is ∙ if_true (is_incomparable fault.code) (written_out ps vs span) (Err fault) e
+
+pub as_refused : (f : BuiltIn) (ps : List Piece) (vs : List Plain) (span : Span) (fault : Fault) → computed f ps vs span ≡ Err fault → is_incomparable fault.code ≡ false
+    → extremum_value f ps vs span ≡ Err fault
+unfolding extremum_value
+as_refused f ps vs span fault is e =
+    ap (λ (r : Answer Plain). or_written r ps vs span) is ∙ if_false (is_incomparable fault.code) (written_out ps vs span) (Err fault) e

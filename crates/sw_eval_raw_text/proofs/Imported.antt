@@ -1,18 +1,12 @@
 -- What stands behind `@import`, step by step.
-use Rattle.std.proofs.Common.{◌≡◌, ℕ, zero, suc, ◌+◌, ◌-◌, ◌<◌, ◌≤◌, true, false, List, [], ◌∷◌, ◌++◌, length, drop, get_or, Option, Some, None, Result, Ok, Err, refl, sym, ◌∙◌, ap, arith, append_assoc, append-nil}
-use Rattle.std.specs.Prelude.{nat_le, if◌then◌else◌, IsErr, IsErrAnd}
+use Rattle.std.proofs.Common.{◌≡◌, ℕ, zero, suc, ◌+◌, ◌-◌, ◌<◌, ◌≤◌, true, false, List, [], ◌∷◌, ◌++◌, length, drop, get_or, Some, None, refl, sym, ◌∙◌, ap, arith, append_assoc, append-nil}
+use Rattle.std.specs.Prelude.{nat_le, if◌then◌else◌}
 use Rattle.std.proofs.lemmas.Bool.Decides.{nat_tests}
-use Rattle.sw_text.specs.declared.place.Span.{Span}
 use Rattle.sw_tree.specs.declared.text.Piece.{Piece}
 use Rattle.sw_text_scan.proofs.Bounds.{if_true, if_false}
 use Rattle.sw_text_scan.specs.Pieces.{piece}
-use Rattle.sw_eval_literals.specs.declared.refused.Refused.{Refused}
-use Rattle.sw_eval_literals.specs.Answers.{Returns}
 use Rattle.sw_eval_calls.proofs.Items.{next_item, drop_all}
-use Rattle.sw_eval_raw_text.specs.Imports.{piece_template, templates, is_text, inserted_one, inserted_of, is_cut, step_on, on_from, cut_in, next_cut, parts_by, parts_in, is_mark, mark_step, mark_in, place_for, with_first, pieces_by, pieces_in, filled_in, filled_from}
-use Rattle.sw_eval_literals.specs.Trimming.{trimmed}
-use Rattle.sw_eval_raw_text.specs.declared.imports.Step.{Step}
-use Rattle.sw_eval_calls.proofs.Answering.{refused_then}
+use Rattle.sw_eval_raw_text.specs.Imports.{piece_template, templates, is_text, inserted_one, inserted_of, is_mark, mark_step, mark_in, place_for, with_first, pieces_by, pieces_in, filled_in, filled_from}
 
 -- ---- templates
 
@@ -46,7 +40,7 @@ inserted_none done ps texts i le = rw (drop_all texts i le, none_inserted (drop 
 pub inserted_end : (done : List (List ℕ)) (ps : List Piece) (texts : List (List ℕ)) (i : ℕ) → length ps ≤ i → done ++ inserted_of (drop i ps) (drop i texts) ≡ done
 inserted_end done ps texts i le = rw (drop_all ps i le) (append-nil done)
 
--- ---- parts
+-- ---- values
 
 any_default : (xs : List (List ℕ)) (i : ℕ) → i < length xs → (d e : List ℕ) → get_or xs i d ≡ get_or xs i e
 any_default [] i lt d e = absurd (omega arith)
@@ -54,42 +48,6 @@ any_default (x ∷ xs) zero lt d e = refl
 any_default (x ∷ xs) (suc i) lt d e = any_default xs i (omega arith) d e
 
 module _ (bs : List ℕ) where
-  pub cut_found : (n depth at : ℕ) → 0 < n → is_cut bs depth at ≡ true → cut_in n bs depth at ≡ Some at
-  cut_found zero depth at z e = absurd (omega arith)
-  cut_found (suc n) depth at z e = if_true (is_cut bs depth at) (Some at) (on_from (cut_in n bs) (step_on bs depth at)) e
-
-  pub cut_lost : (n depth at : ℕ) → 0 < n → is_cut bs depth at ≡ false → step_on bs depth at ≡ None → cut_in n bs depth at ≡ None
-  cut_lost zero depth at z e f = absurd (omega arith)
-  cut_lost (suc n) depth at z e f =
-      if_false (is_cut bs depth at) (Some at) (on_from (cut_in n bs) (step_on bs depth at)) e ∙ ap (on_from (cut_in n bs)) f
-
-  pub cut_on : (n depth at : ℕ) (step : Step) → 0 < n → is_cut bs depth at ≡ false → step_on bs depth at ≡ Some step
-      → cut_in n bs depth at ≡ cut_in (n - 1) bs step.depth step.to
-  cut_on zero depth at step z e f = absurd (omega arith)
-  cut_on (suc n) depth at step z e f =
-      if_false (is_cut bs depth at) (Some at) (on_from (cut_in n bs) (step_on bs depth at)) e
-      ∙ ap (on_from (cut_in n bs)) f
-      ∙ ap (λ (k : ℕ). cut_in k bs step.depth step.to) less
-    where
-      less : n ≡ suc n - 1
-      less = omega arith
-
-  pub part_last : (n : ℕ) (done : List (List ℕ)) (from : ℕ) → 0 < n → next_cut bs from ≡ None
-      → done ++ trimmed bs from (length bs) ∷ [] ≡ done ++ parts_in n bs from
-  part_last zero done from z e = absurd (omega arith)
-  part_last (suc n) done from z e = ap (λ (cut : Option ℕ). done ++ parts_by (parts_in n bs) bs from cut) (sym e)
-
-  pub part_next : (n : ℕ) (done : List (List ℕ)) (from comma : ℕ) → 0 < n → next_cut bs from ≡ Some comma
-      → (done ++ trimmed bs from comma ∷ []) ++ parts_in (n - 1) bs (comma + 1) ≡ done ++ parts_in n bs from
-  part_next zero done from comma z e = absurd (omega arith)
-  part_next (suc n) done from comma z e =
-      append_assoc done (trimmed bs from comma ∷ []) (parts_in (suc n - 1) bs (comma + 1))
-      ∙ ap (λ (k : ℕ). done ++ trimmed bs from comma ∷ parts_in k bs (comma + 1)) less
-      ∙ ap (λ (cut : Option ℕ). done ++ parts_by (parts_in n bs) bs from cut) (sym e)
-    where
-      less : suc n - 1 ≡ n
-      less = omega arith
-
   -- ---- values in parts
 
   pub mark_past : (n at : ℕ) → length bs ≤ at → mark_in n bs at ≡ None
@@ -143,14 +101,10 @@ module _ (bs : List ℕ) where
         → (pieces_in (n - 1) bs values (taken + 1) (place + 3)).1 ≡ (pieces_in n bs values taken from).1
     taken_next n taken from place value z e is lt = ap (λ (r : List (List ℕ) × ℕ). r.1) (sym (goes_on n taken from place value z e is lt))
 
-pub filled_next : (done parts values : List (List ℕ)) (i taken : ℕ) (at : Span) (part : List ℕ) (text : List ℕ) (next : ℕ) → i < length parts → part ≡ get_or parts i part → filled_in part values taken at ≡ Ok (text, next)
-    → filled_from done (drop i parts) values taken at ≡ filled_from (done ++ text ∷ []) (drop (i + 1) parts) values next at
-filled_next done parts values i taken at part text next lt is e = rw (next_item parts i part lt is, e) refl
+pub filled_next : (done parts values : List (List ℕ)) (i taken : ℕ) (part : List ℕ) (text : List ℕ) (next : ℕ) → i < length parts → part ≡ get_or parts i part → text ≡ (filled_in part values taken).0 → next ≡ (filled_in part values taken).1
+    → (done ++ text ∷ []) ++ filled_from values next (drop (i + 1) parts) ≡ done ++ filled_from values taken (drop i parts)
+filled_next done parts values i taken part text next lt is e f =
+    rw (next_item parts i part lt is, e, f) (append_assoc done ((filled_in part values taken).0 ∷ []) (filled_from values (filled_in part values taken).1 (drop (i + 1) parts)))
 
-pub filled_refused : (done parts values : List (List ℕ)) (i taken : ℕ) (at : Span) (part : List ℕ) (e : Refused) (r : Result (List (List ℕ)) Refused) → i < length parts → part ≡ get_or parts i part
-    → Returns {A = List ℕ × ℕ} (Err e) (filled_in part values taken at) → IsErr r × IsErrAnd r (λ x. x ≡ e) → Returns r (filled_from done (drop i parts) values taken at)
-filled_refused done parts values i taken at part e r lt is gave p =
-    rw (next_item parts i part lt is) (refused_then (filled_in part values taken at) (λ t. filled_from (done ++ t.0 ∷ []) (drop (i + 1) parts) values t.1 at) e r gave p)
-
-pub filled_end : (done parts values : List (List ℕ)) (i taken : ℕ) (at : Span) → length parts ≤ i → filled_from done (drop i parts) values taken at ≡ Ok done
-filled_end done parts values i taken at le = rw (drop_all parts i le) refl
+pub filled_end : (done parts values : List (List ℕ)) (i taken : ℕ) → length parts ≤ i → done ++ filled_from values taken (drop i parts) ≡ done
+filled_end done parts values i taken le = rw (drop_all parts i le) (append-nil done)

@@ -1,24 +1,17 @@
--- What stands behind `@import` (the Sass specification on plain CSS imports; where the text is cut into parts is this
--- project's own).
-use Rattle.std.specs.Prelude.{ℕ, zero, suc, ◌+◌, ◌-◌, Bool, true, false, not, ◌&&◌, ◌||◌, ◌==◌, nat_lt, nat_le, nat_eq, codes, if◌then◌else◌, List, [], ◌∷◌, ◌++◌, length, get_or, Option, Some, None, Ok}
+-- What stands behind `@import`, with the values in it (the Sass specification on plain CSS imports).
+use Rattle.std.specs.Prelude.{ℕ, zero, suc, ◌+◌, ◌-◌, Bool, true, false, not, ◌&&◌, ◌||◌, ◌==◌, nat_lt, nat_le, nat_eq, codes, if◌then◌else◌, List, [], ◌∷◌, ◌++◌, length, get_or, Option, Some, None}
 use Rattle.std.specs.List.{starts_with, ends_with, list_all}
-use Rattle.sw_text.specs.declared.place.Span.{Span}
 use Rattle.sw_tree.specs.declared.expr.ExprKind.TheOpen.{Parts-F, Piece-F}
 use Rattle.sw_tree.specs.declared.text.Parts.{Parts, out-Parts}
 use Rattle.sw_tree.specs.declared.text.Piece.{Piece, out-Piece}
-use Rattle.sw_text_scan.specs.Brackets.{over, string_end}
+use Rattle.sw_text_scan.specs.Brackets.{string_end}
 use Rattle.sw_text_scan.specs.Bytes.{sign, byte, is_quote}
 use Rattle.sw_text_scan.specs.Pieces.{piece}
-use Rattle.sw_text_scan.specs.declared.signs.TheConstants.{END}
-use Rattle.sw_text_scan.specs.declared.runs.Class.TheVariants as classes
-use Rattle.sw_text_scan.specs.Runs.{run_end}
 use Rattle.sw_text_scan.specs.Words.{begins_url}
 use Rattle.sw_scope.specs.Bind.{is_empty}
-use Rattle.sw_eval_literals.specs.Answers.{Answer, with}
-use Rattle.sw_eval_literals.specs.Texts.{joined}
+use Rattle.sw_tokens.specs.Decoded.{decoded}
+use Rattle.sw_eval_literals.specs.Texts.{all_pieces}
 use Rattle.sw_eval_calls.specs.Layers.{Texts, Pieces}
-use Rattle.sw_eval_literals.specs.Trimming.{trimmed}
-use Rattle.sw_eval_raw_text.specs.declared.imports.Step.{Step}
 
 -- ---- templates: `#{}` stands for each value
 
@@ -37,16 +30,16 @@ abbrev pub templates : List Piece → List (List ℕ)
 templates [] = []
 templates (p ∷ ps) = piece_template p ∷ templates ps
 
-abbrev pub template_of : List Piece → Span → Answer (List ℕ)
-template_of ps span = joined (templates ps) span
+abbrev pub template_of : List Piece → List ℕ
+template_of ps = all_pieces (templates ps)
 
-abbrev pub parts_template : Texts → Span → Answer (List ℕ)
-parts_template (Parts-F.Plain text) span = Ok text
-parts_template (Parts-F.Mixed ps) span = template_of ps span
+abbrev pub parts_template : Texts → List ℕ
+parts_template (Parts-F.Plain text) = text
+parts_template (Parts-F.Mixed ps) = template_of ps
 
 -- a text as it was before the values in it were known
-unfoldable pub template : Parts → Span → Answer (List ℕ)
-template parts span = parts_template (out-Parts parts) span
+unfoldable pub template : Parts → List ℕ
+template parts = parts_template (out-Parts parts)
 
 abbrev pub text_by : Pieces → Bool
 text_by (Piece-F.Text text) = true
@@ -65,60 +58,7 @@ inserted_of [] texts = []
 inserted_of (p ∷ ps) [] = []
 inserted_of (p ∷ ps) (text ∷ texts) = inserted_one p text ++ inserted_of ps texts
 
--- ---- parts
-
--- a string or `url(` stands there
-abbrev pub begins_part : List ℕ → ℕ → Bool
-begins_part bs at = nat_lt at (length bs) && (is_quote (byte bs at) || begins_url bs at)
-
-abbrev pub is_opening : ℕ → Bool
-is_opening b = (b == sign "(") || ((b == sign "[") || (b == sign "{"))
-
-abbrev pub is_closing : ℕ → Bool
-is_closing b = (b == sign ")") || ((b == sign "]") || (b == sign "}"))
-
-abbrev pub behind : ℕ → Option ℕ → Option Step
-behind depth None = None
-behind depth (Some to) = Some (record { depth = depth; to = to })
-
--- one step on, where so many brackets are open; none at the end, and where a string isn't closed
-abbrev pub step_on : List ℕ → ℕ → ℕ → Option Step
-step_on bs depth at =
-    if byte bs at == END then None
-    else (if is_opening (byte bs at) then behind (depth + 1) (Some (at + 1))
-    else (if is_closing (byte bs at) then behind (depth - 1) (Some (at + 1))
-    else (if is_quote (byte bs at) then behind depth (string_end bs (byte bs at) at)
-    else behind depth (Some (over bs at)))))
-
-abbrev pub on_from : (ℕ → ℕ → Option ℕ) → Option Step → Option ℕ
-on_from go None = None
-on_from go (Some step) = go step.depth step.to
-
--- a comma outside brackets, behind which a part begins
-abbrev pub is_cut : List ℕ → ℕ → ℕ → Bool
-is_cut bs depth at =
-    (depth == 0) && ((byte bs at == sign ",") && begins_part bs (run_end classes.White bs (at + 1)))
-
--- the next such comma, outside strings; in so many steps
-abbrev pub cut_in : ℕ → List ℕ → ℕ → ℕ → Option ℕ
-cut_in zero bs depth at = None
-cut_in (suc steps) bs depth at =
-    if is_cut bs depth at then Some at else on_from (cut_in steps bs) (step_on bs depth at)
-
-abbrev pub next_cut : List ℕ → ℕ → Option ℕ
-next_cut bs from = cut_in (length bs + 1) bs 0 from
-
-abbrev pub parts_by : (ℕ → List (List ℕ)) → List ℕ → ℕ → Option ℕ → List (List ℕ)
-parts_by go bs from None = trimmed bs from (length bs) ∷ []
-parts_by go bs from (Some comma) = trimmed bs from comma ∷ go (comma + 1)
-
-abbrev pub parts_in : ℕ → List ℕ → ℕ → List (List ℕ)
-parts_in zero bs from = []
-parts_in (suc steps) bs from = parts_by (parts_in steps bs) bs from (next_cut bs from)
-
--- a template is cut at each such comma
-abbrev pub parts_of : List ℕ → List (List ℕ)
-parts_of bs = parts_in (length bs + 1) bs 0
+-- ---- which parts are plain CSS
 
 abbrev pub has_scheme : List ℕ → Bool
 has_scheme url = starts_with nat_eq url (codes "http://") || starts_with nat_eq url (codes "https://")
@@ -131,9 +71,13 @@ is_remote url = has_scheme url || starts_with nat_eq url (codes "//")
 abbrev pub is_web : List ℕ → Bool
 is_web url = is_remote url || ends_with nat_eq url (codes ".css")
 
+-- a string that ends here: more stands behind it, or the text that it stands for is such a URL
+abbrev pub ends_plain : List ℕ → ℕ → Bool
+ends_plain bs end = nat_lt end (length bs) || is_web (decoded (piece bs 1 (end - 1)))
+
 abbrev pub plain_string : List ℕ → Option ℕ → Bool
 plain_string bs None = false
-plain_string bs (Some end) = nat_lt end (length bs) || is_web (piece bs 1 (end - 1))
+plain_string bs (Some end) = ends_plain bs end
 
 -- a part is plain CSS: `url(..)`, a string with such a URL, or one with more behind it
 abbrev pub is_plain : List ℕ → Bool
@@ -188,15 +132,15 @@ abbrev pub part_pieces : List ℕ → List (List ℕ) → ℕ → List (List ℕ
 part_pieces bs values taken = pieces_in (length bs + 1) bs values taken 0
 
 -- a part with the values in it, and how many of them were taken by then
-abbrev pub filled_in : List ℕ → List (List ℕ) → ℕ → Span → Answer (List ℕ × ℕ)
-filled_in bs values taken span =
-    with (joined (part_pieces bs values taken).0 span) (λ text. Ok (text, (part_pieces bs values taken).1))
+abbrev pub filled_in : List ℕ → List (List ℕ) → ℕ → List ℕ × ℕ
+filled_in bs values taken = (all_pieces (part_pieces bs values taken).0, (part_pieces bs values taken).1)
 
-abbrev pub filled_from : List (List ℕ) → List (List ℕ) → List (List ℕ) → ℕ → Span → Answer (List (List ℕ))
-filled_from done [] values taken span = Ok done
-filled_from done (part ∷ parts) values taken span =
-    with (filled_in part values taken span) (λ t. filled_from (done ++ t.0 ∷ []) parts values t.1 span)
+-- the parts with the values from one on in them
+abbrev pub filled_from : List (List ℕ) → ℕ → List (List ℕ) → List (List ℕ)
+filled_from values taken [] = []
+filled_from values taken (part ∷ parts) =
+    (filled_in part values taken).0 ∷ filled_from values (filled_in part values taken).1 parts
 
 -- the parts with the values in them
-abbrev pub filled_all : List (List ℕ) → List (List ℕ) → Span → Answer (List (List ℕ))
-filled_all parts values span = filled_from [] parts values 0 span
+abbrev pub filled_all : List (List ℕ) → List (List ℕ) → List (List ℕ)
+filled_all parts values = filled_from values 0 parts

@@ -1,3 +1,5 @@
+pub mod Numerals
 pub mod Imports
 pub mod Spacing
+pub mod Cutting
 pub mod Special

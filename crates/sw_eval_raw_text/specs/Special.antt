@@ -1,10 +1,14 @@
 -- Special text, and `min` and `max` in it (the Sass specification on calculations; when they are computed is this project's
 -- own).
 use Rattle.std.specs.Prelude.{ℕ, ◌+◌, Bool, true, false, not, ◌&&◌, ◌||◌, ◌==◌, bytes_eq, codes, if◌then◌else◌, List, [], ◌∷◌, ◌++◌, length, slice_get, Option, Some, None, Ok, Err}
+use Rattle.sw_text.specs.declared.fault.FaultCode.{FaultCode}
+use Rattle.sw_text.specs.declared.fault.FaultCode.TheVariants as C
 use Rattle.sw_text.specs.declared.place.Span.{Span}
 use Rattle.sw_tree.specs.declared.callable.Kind.TheVariants as K
 use Rattle.sw_tree.specs.declared.expr.Expr.{Expr}
-use Rattle.sw_tree.specs.declared.expr.ExprKind.TheOpen.{Piece-F}
+use Rattle.sw_tree.specs.declared.expr.ExprKind.{out-ExprKind}
+use Rattle.sw_tree.specs.declared.expr.ExprKind.TheOpen.{ExprKind-F, Parts-F, Piece-F}
+use Rattle.sw_tree.specs.declared.text.Parts.{out-Parts}
 use Rattle.sw_tree.specs.declared.text.Piece.{Piece, out-Piece}
 use Rattle.sw_values.specs.declared.plain.Plain.{Plain}
 use Rattle.sw_text_scan.specs.Bytes.{sign, byte}
@@ -14,11 +18,12 @@ use Rattle.sw_builtins.specs.declared.built_in.Found.{Found}
 use Rattle.sw_builtins.specs.declared.built_in.Found.TheVariants as F
 use Rattle.sw_builtins.specs.Tables.{found}
 use Rattle.sw_eval_literals.specs.Answers.{Answer, with}
-use Rattle.sw_eval_literals.specs.Literals.{string_value}
+use Rattle.sw_eval_literals.specs.Literals.{number_value, string_value}
 use Rattle.sw_eval_literals.specs.Texts.{css_text, joined}
 use Rattle.sw_eval_built_in_calls.specs.BuiltIns.{built_in_value}
 use Rattle.sw_eval_raw_text.specs.Imports.{is_text}
-use Rattle.sw_eval_calls.specs.Layers.{Pieces}
+use Rattle.sw_eval_calls.specs.Layers.{Kinds, Pieces, Texts}
+use Rattle.sw_eval_raw_text.specs.Numerals.{numeral}
 use Rattle.sw_eval_raw_text.specs.Spacing.{start, spaced, spaced_texts}
 use Rattle.sw_eval_literals.specs.Trimming.{trimmed}
 
@@ -26,7 +31,7 @@ use Rattle.sw_eval_literals.specs.Trimming.{trimmed}
 
 -- a text without values in it is an unquoted string, but for its white space
 abbrev pub plain_special : List ℕ → Span → Answer Plain
-plain_special text span = string_value (spaced start text) false span
+plain_special text span = string_value (spaced true start text) false span
 
 -- the same of pieces that have these texts
 unfoldable pub special_value : List Piece → List (List ℕ) → Span → Answer Plain
@@ -96,7 +101,7 @@ abbrev pub extremum : List Piece → Option BuiltIn
 extremum [] = None
 extremum (p ∷ ps) = if lists_values false ps then function_in p else None
 
--- ---- what they give
+-- ---- what is written of them
 
 abbrev pub value_text : Expr → Option Plain → Answer (List ℕ)
 value_text e None = Ok []
@@ -124,13 +129,58 @@ written_pieces done (p ∷ ps) vs next =
 abbrev pub written_out : List Piece → List Plain → Span → Answer Plain
 written_out ps vs span = with (written_pieces [] ps vs 0) (λ texts. special_value ps texts span)
 
+-- ---- what is computed
+
+-- a number of the sheet stands there as its text
+abbrev pub number_in : Texts → Plain → Span → Answer Plain
+number_in (Parts-F.Plain text) v span = number_value (numeral text) span
+number_in (Parts-F.Mixed ps) v span = Ok v
+
+abbrev pub compared_by : Kinds → Plain → Span → Answer Plain
+compared_by (ExprKind-F.Special parts) v span = number_in (out-Parts parts) v span
+compared_by _ v span = Ok v
+
+-- what is compared where an argument has this value
+unfoldable pub compared : Expr → Plain → Answer Plain
+compared e v = compared_by (out-ExprKind e.kind) v e.span
+
+abbrev pub behind_value : List Plain → Expr → Option Plain → Answer (List Plain)
+behind_value done e None = Ok done
+behind_value done e (Some v) = with (compared e v) (λ c. Ok (done ++ c ∷ []))
+
+abbrev pub behind_by : List Plain → Pieces → Option Plain → Answer (List Plain)
+behind_by done (Piece-F.Text text) v = Ok done
+behind_by done (Piece-F.Inserted e) v = Ok done
+behind_by done (Piece-F.Value e) v = behind_value done e v
+
+-- what is compared of a piece, behind others
+unfoldable pub behind_piece : List Plain → Piece → Option Plain → Answer (List Plain)
+behind_piece done p v = behind_by done (out-Piece p) v
+
+-- what is compared of pieces, behind what is done, where these are the values from one on
+abbrev pub all_compared : List Plain → List Piece → List Plain → ℕ → Answer (List Plain)
+all_compared done [] vs next = Ok done
+all_compared done (p ∷ ps) vs next =
+    with (behind_piece done p (slice_get vs next)) (λ more. all_compared more ps vs (had p next))
+
 abbrev pub passed_of : List Plain → Passed
 passed_of vs = record { items = vs; named = []; by_name = false; faulty = false }
 
+-- what the function gives
+abbrev pub computed : BuiltIn → List Piece → List Plain → Span → Answer Plain
+computed f ps vs span = with (all_compared [] ps vs 0) (λ cs. built_in_value f (passed_of cs) span)
+
+-- some value is no number, or one that doesn't compare with the others
+abbrev pub is_incomparable : FaultCode → Bool
+is_incomparable C.TypeFault = true
+is_incomparable C.UnitFault = true
+is_incomparable C.NumberRange = true
+is_incomparable _ = false
+
 abbrev pub or_written : Answer Plain → List Piece → List Plain → Span → Answer Plain
 or_written (Ok v) ps vs span = Ok v
-or_written (Err fault) ps vs span = written_out ps vs span
+or_written (Err fault) ps vs span = if is_incomparable fault.code then written_out ps vs span else Err fault
 
--- what the function gives of these values, where all are numbers that compare; else its call is written out
+-- what the function gives of these values; where one of them is no number that compares, its call is written out
 unfoldable pub extremum_value : BuiltIn → List Piece → List Plain → Span → Answer Plain
-extremum_value f ps vs span = or_written (built_in_value f (passed_of vs) span) ps vs span
+extremum_value f ps vs span = or_written (computed f ps vs span) ps vs span

@@ -1,17 +1,14 @@
-// What stands behind `@import`.
-ghost use Rattle.std.specs.Prelude.{◌≡◌, ◌<◌, ◌≤◌, ◌+◌, ◌++◌, ◌∷◌, [], true, nat_eq, length, IfOk, OnOk, IfSome};
+// What stands behind `@import`, with the values in it.
+ghost use Rattle.std.specs.Prelude.{◌≡◌, ◌<◌, ◌++◌, ◌∷◌, [], true, nat_eq, length, IfOk, OnOk, IfSome};
 ghost use Rattle.std.specs.List.{ends_with};
-ghost use Rattle.sw_text_scan.specs.Brackets.{over};
 ghost use Rattle.sw_text_scan.specs.Pieces.{piece};
-ghost use Rattle.sw_eval_raw_text.specs.Imports.{piece_template, templates, template_of, template, is_text, inserted_one, inserted_of, begins_part, is_cut, is_opening, is_closing, behind, step_on, next_cut, parts_of, has_scheme, is_remote, is_web, is_plain, all_plain, is_mark, mark_step, next_mark, place_for, part_pieces, filled_in, filled_all};
-ghost use Rattle.sw_eval_literals.specs.Answers.{Returns};
+ghost use Rattle.sw_eval_raw_text.specs.Imports.{piece_template, templates, template_of, template, is_text, inserted_one, inserted_of, has_scheme, is_remote, is_web, ends_plain, is_plain, all_plain, is_mark, mark_step, next_mark, place_for, part_pieces, filled_in, filled_all};
 
 use std::alloc::Global;
-use sw_eval_literals::{Refused, add_trimmed, joined};
-use sw_text::{List, Memory, Name, Span};
-use sw_text_scan::{
-    Class, begins_url, byte_at, escape_end, is_quote, piece, run_end, signs, string_end,
-};
+use sw_eval_literals::whole_text;
+use sw_text::{List, Memory, Name};
+use sw_text_scan::{begins_url, byte_at, is_quote, piece, signs, string_end};
+use sw_tokens::decoded;
 use sw_tree::{Parts, Piece};
 
 // ---- templates
@@ -39,20 +36,20 @@ fn templates(alloc: Global, all: &[Piece]) -> Result<List<Name>, Memory>
     Ok(done)
 }
 
-fn template_of(alloc: Global, all: &[Piece], span: &Span) -> Result<Name, Refused>
-    ensures { Returns result (template_of all.now span.now) }
+fn template_of(alloc: Global, all: &[Piece]) -> Result<Name, Memory>
+    ensures { IfOk result (λ text. text ≡ template_of all.now) }
 {
     let texts = templates(alloc, all)?;
-    joined(alloc, texts.as_slice(), span)
+    whole_text(alloc, texts.as_slice())
 }
 
 /// A text as it was before the values in it were known, with `#{}` for each.
-pub fn template(alloc: Global, parts: &Parts, span: &Span) -> Result<Name, Refused>
-    ensures { Returns result (template parts.now span.now) }
+pub fn template(alloc: Global, parts: &Parts) -> Result<Name, Memory>
+    ensures { IfOk result (λ text. text ≡ template parts.now) }
 {
     match parts {
-        Parts::Plain(text) => Ok(text.share()?),
-        Parts::Mixed(all) => template_of(alloc, all.as_slice(), span),
+        Parts::Plain(text) => text.share(),
+        Parts::Mixed(all) => template_of(alloc, all.as_slice()),
     }
 }
 
@@ -93,136 +90,7 @@ pub fn inserted_of(alloc: Global, all: &[Piece], texts: &[Name]) -> Result<List<
     Ok(values)
 }
 
-// ---- parts
-
-// A place in a text, and how many brackets are open there.
-#[derive(Clone, Copy, Debug)]
-pub(crate) struct Step {
-    pub depth: usize,
-    pub to: usize,
-}
-
-// Whether a string or `url(` stands at a place.
-fn begins_part(bytes: &[u8], at: usize) -> bool
-    ensures { result ≡ begins_part bytes.now at }
-{
-    at < bytes.len() && (is_quote(byte_at(bytes, at)) || begins_url(bytes, at))
-}
-
-/// Whether a byte is an opening bracket.
-pub(crate) fn is_opening(byte: u16) -> bool
-    ensures { result ≡ is_opening byte }
-{
-    byte == signs::OPEN_PAREN || byte == signs::OPEN_BRACKET || byte == signs::OPEN_BRACE
-}
-
-/// Whether a byte is a closing bracket.
-pub(crate) fn is_closing(byte: u16) -> bool
-    ensures { result ≡ is_closing byte }
-{
-    byte == signs::CLOSE_PAREN || byte == signs::CLOSE_BRACKET || byte == signs::CLOSE_BRACE
-}
-
-// The place behind one escape, or one byte.
-#[tactic(auto, unfolding(sw_text_scan::specs::Brackets::over))]
-fn over(bytes: &[u8], at: usize) -> usize
-    requires { at < length bytes.now }
-    ensures { result ≡ over bytes.now at }
-{
-    let end = escape_end(bytes, at);
-    if at < end { end } else { at + 1 }
-}
-
-fn behind(depth: usize, to: Option<usize>) -> Option<Step>
-    ensures step { result ≡ behind depth to }
-    ensures depth { IfSome result (λ step. step.depth ≡ depth) }
-{
-    match to {
-        None => None,
-        Some(to) => Some(Step { depth, to }),
-    }
-}
-
-// One step on, where so many brackets are open; none where a string isn't closed.
-fn step_on(bytes: &[u8], depth: usize, at: usize) -> Option<Step>
-    requires { depth ≤ length bytes.now }
-    ensures step { result ≡ step_on bytes.now depth at }
-    ensures deeper { IfSome result (λ step. step.depth ≤ depth + 1) }
-{
-    let byte = byte_at(bytes, at);
-    if byte == signs::END {
-        return None;
-    }
-    if is_opening(byte) {
-        return behind(depth + 1, Some(at + 1));
-    }
-    if is_closing(byte) {
-        return behind(depth.saturating_sub(1), Some(at + 1));
-    }
-    if is_quote(byte) {
-        return behind(depth, string_end(bytes, byte as u8, at));
-    }
-    behind(depth, Some(over(bytes, at)))
-}
-
-// Whether a comma stands at a place, outside brackets, behind which a part begins.
-fn is_cut(bytes: &[u8], depth: usize, at: usize) -> bool
-    ensures test { result ≡ is_cut bytes.now depth at }
-    ensures within { result ≡ true → at < length bytes.now }
-{
-    depth == 0
-        && byte_at(bytes, at) == signs::COMMA
-        && begins_part(bytes, run_end(bytes, Class::White, at + 1))
-}
-
-// The next such comma from a place on, outside strings.
-#[tactic(auto, using(crate::proofs::Imported::cut_found, crate::proofs::Imported::cut_lost))]
-fn next_cut(bytes: &[u8], from: usize) -> Option<usize>
-    ensures place { result ≡ next_cut bytes.now from }
-    ensures within { IfSome result (λ at. at < length bytes.now) }
-{
-    let mut depth = 0;
-    let mut at = from;
-    // each step takes at least one byte
-    'steps: for _step in 0..bytes.len() + 1 {
-        if is_cut(bytes, depth, at) {
-            return Some(at);
-        }
-        match step_on(bytes, depth, at) {
-            None => return None,
-            Some(step) => {
-                depth = step.depth;
-                at = step.to;
-            }
-        }
-    }
-    None
-}
-
-/// The parts of a template: it is cut at each comma, outside strings and brackets, behind which a string or `url(`
-/// stands.
-#[tactic(auto, using(crate::proofs::Imported::part_last, crate::proofs::Imported::part_next))]
-pub fn parts_of(alloc: Global, text: &str) -> Result<List<Name>, Memory>
-    ensures { IfOk result (λ parts. parts ≡ parts_of text.now) }
-{
-    let bytes = text.as_bytes();
-    let mut parts = List::new(alloc);
-    let mut from = 0;
-    // each part but the last ends with a comma
-    'parts: for _part in 0..bytes.len() + 1 {
-        match next_cut(bytes, from) {
-            None => {
-                add_trimmed(alloc, &mut parts, text, from, bytes.len())?;
-                return Ok(parts);
-            }
-            Some(comma) => {
-                add_trimmed(alloc, &mut parts, text, from, comma)?;
-                from = comma + 1;
-            }
-        }
-    }
-    Ok(parts)
-}
+// ---- which parts are plain CSS
 
 fn has_scheme(url: &str) -> bool
     ensures { result ≡ has_scheme url.now }
@@ -250,37 +118,48 @@ fn is_web(url: &str) -> bool
     is_remote(url) || ends_with(url, ".css")
 }
 
+// Whether a string that ends here has more behind it, or the text that it stands for is such a URL.
+fn ends_plain(alloc: Global, part: &str, end: usize) -> Result<bool, Memory>
+    ensures { IfOk result (λ plain. plain ≡ ends_plain part.now end) }
+{
+    if end < part.len() {
+        return Ok(true);
+    }
+    let url = decoded(alloc, piece(part, 1, end.saturating_sub(1)))?;
+    Ok(is_web(url.as_str()))
+}
+
 /// Whether a part is plain CSS: `url(..)`, a string with such a URL, or one with more behind it.
-pub fn is_plain(part: &str) -> bool
-    ensures { result ≡ is_plain part.now }
+pub fn is_plain(alloc: Global, part: &str) -> Result<bool, Memory>
+    ensures { IfOk result (λ plain. plain ≡ is_plain part.now) }
 {
     let bytes = part.as_bytes();
     if bytes.is_empty() {
-        return false;
+        return Ok(false);
     }
     if begins_url(bytes, 0) {
-        return true;
+        return Ok(true);
     }
     let quote = byte_at(bytes, 0);
     if !is_quote(quote) {
-        return false;
+        return Ok(false);
     }
     match string_end(bytes, quote as u8, 0) {
-        None => false,
-        Some(end) => end < bytes.len() || is_web(piece(part, 1, end.saturating_sub(1))),
+        None => Ok(false),
+        Some(end) => ends_plain(alloc, part, end),
     }
 }
 
 /// Whether all parts are plain CSS.
-pub fn all_plain(parts: &[Name]) -> bool
-    ensures { result ≡ all_plain parts.now }
+pub fn all_plain(alloc: Global, parts: &[Name]) -> Result<bool, Memory>
+    ensures { IfOk result (λ plain. plain ≡ all_plain parts.now) }
 {
     'parts: for part in parts {
-        if !is_plain(part.as_str()) {
-            return false;
+        if !is_plain(alloc, part.as_str())? {
+            return Ok(false);
         }
     }
-    true
+    Ok(true)
 }
 
 // ---- values in parts
@@ -388,28 +267,24 @@ fn filled_in(
     part: &str,
     values: &[Name],
     taken: usize,
-    span: &Span,
-) -> Result<(Name, usize), Refused>
-    ensures { Returns result (filled_in part.now values.now taken span.now) }
+) -> Result<(Name, usize), Memory>
+    ensures text { IfOk result (λ r. r.0 ≡ (filled_in part.now values.now taken).0) }
+    ensures taken { IfOk result (λ r. r.1 ≡ (filled_in part.now values.now taken).1) }
 {
     let (pieces, next) = part_pieces(alloc, part, values, taken)?;
-    let text = joined(alloc, pieces.as_slice(), span)?;
+    let text = whole_text(alloc, pieces.as_slice())?;
     Ok((text, next))
 }
 
 /// The parts with the values in them.
-pub fn filled_all(
-    alloc: Global,
-    parts: &[Name],
-    values: &[Name],
-    span: &Span,
-) -> Result<List<Name>, Refused>
-    ensures { Returns result (filled_all parts.now values.now span.now) }
+#[tactic(auto, using(crate::proofs::Imported::filled_next, crate::proofs::Imported::filled_end))]
+pub fn filled_all(alloc: Global, parts: &[Name], values: &[Name]) -> Result<List<Name>, Memory>
+    ensures { IfOk result (λ texts. texts ≡ filled_all parts.now values.now) }
 {
     let mut done = List::new(alloc);
     let mut taken = 0;
     'parts: for part in parts {
-        let (text, next) = filled_in(alloc, part.as_str(), values, taken, span)?;
+        let (text, next) = filled_in(alloc, part.as_str(), values, taken)?;
         done.push(text)?;
         taken = next;
     }

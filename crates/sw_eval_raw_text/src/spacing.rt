@@ -1,8 +1,9 @@
 // White space in special text.
-ghost use Rattle.std.specs.Prelude.{◌≡◌, ◌<◌, ◌++◌, true, if◌then◌else◌, codes, [], IfOk, OnOk, string_bytes};
-ghost use Rattle.sw_eval_raw_text.specs.Spacing.{turned, stepped, is_blank, shows_space, start, behind_value, behind, spaced, piece_spaced, behind_piece, spaced_texts};
+ghost use Rattle.std.specs.Prelude.{◌≡◌, ◌<◌, ◌≤◌, ◌++◌, drop, length, true, if◌then◌else◌, codes, [], IfOk, OnOk, string_bytes};
+ghost use Rattle.sw_scope.specs.Bind.{is_empty};
+ghost use Rattle.sw_eval_raw_text.specs.Spacing.{turned, is_inside, stepped, is_blank, shows_space, start, behind_value, behind, is_one, is_end, spaced, piece_spaced, behind_piece, spaced_texts};
 
-use crate::imports::{is_closing, is_opening, is_text};
+use crate::imports::is_text;
 use std::alloc::Global;
 use sw_text::{List, Memory, Name};
 use sw_text_scan::{byte_at, is_quote, is_white, signs};
@@ -16,10 +17,12 @@ pub(crate) struct Reading {
     /// The last byte before it that is no white space; the number of the end, where a value stands before it or
     /// nothing.
     pub before: u16,
+    /// Something stands before it behind the first bracket.
+    pub inside: bool,
 }
 
-// The quote that is open behind a byte.
-fn turned(quote: Option<u16>, byte: u16) -> Option<u16>
+/// The quote that is open behind a byte.
+pub(crate) fn turned(quote: Option<u16>, byte: u16) -> Option<u16>
     ensures { result ≡ turned quote byte }
 {
     match quote {
@@ -36,6 +39,7 @@ impl Reading {
         Reading {
             quote: None,
             before: signs::END,
+            inside: false,
         }
     }
 
@@ -46,7 +50,14 @@ impl Reading {
         Reading {
             quote: self.quote,
             before: signs::END,
+            inside: true,
         }
+    }
+
+    fn is_inside(self) -> bool
+        ensures { result ≡ is_inside self }
+    {
+        self.inside || self.before == signs::OPEN_PAREN
     }
 
     /// Behind a byte that stays as it is.
@@ -54,11 +65,16 @@ impl Reading {
         ensures { result ≡ stepped self byte }
     {
         if self.before == signs::BACKSLASH {
-            return self.behind_value();
+            return Reading {
+                quote: self.quote,
+                before: signs::END,
+                inside: self.inside,
+            };
         }
         Reading {
             quote: turned(self.quote, byte),
             before: byte,
+            inside: self.is_inside(),
         }
     }
 
@@ -70,11 +86,11 @@ impl Reading {
         is_white(byte) && self.quote.is_none() && self.before != signs::BACKSLASH
     }
 
-    // Whether white space before a byte is a space.
-    fn shows_space(self, next: u16) -> bool
-        ensures { result ≡ shows_space self next }
+    // Whether white space before a byte, which is the last bracket or not, is a space.
+    fn shows_space(self, is_end: bool, next: u16) -> bool
+        ensures { result ≡ shows_space self is_end next }
     {
-        !is_white(next) && !is_opening(self.before) && !is_closing(next)
+        self.inside && !is_end && !is_white(next)
     }
 }
 
@@ -102,11 +118,34 @@ fn add_space(text: &mut String, is_shown: bool) -> Result<(), Memory>
     Ok(())
 }
 
-/// A text in which white space outside of strings is one space each time, and none behind an opening bracket or before
-/// a closing one.
+fn is_one(bytes: &[u8]) -> bool
+    ensures { result ≡ is_one bytes.now }
+{
+    match bytes {
+        [] => false,
+        [_] => true,
+        [_, _, ..] => false,
+    }
+}
+
+// Whether the last bracket alone is left from a place on, in the last text or another one.
+fn is_end(is_last: bool, bytes: &[u8], from: usize) -> bool
+    requires { from ≤ length bytes.now }
+    ensures { result ≡ is_end is_last (drop from bytes.now) }
+{
+    is_last && is_one(&bytes[from..])
+}
+
+/// A text, the last one or not, in which white space outside of strings is one space each time, and none behind the
+/// first bracket or before the last one.
 #[tactic(auto, using(crate::proofs::Spaced::kept, crate::proofs::Spaced::spaced_end))]
-pub(crate) fn spaced(alloc: Global, reading: Reading, text: &str) -> Result<Name, Memory>
-    ensures { IfOk result (λ name. name ≡ spaced reading text.now) }
+pub(crate) fn spaced(
+    alloc: Global,
+    is_last: bool,
+    reading: Reading,
+    text: &str,
+) -> Result<Name, Memory>
+    ensures { IfOk result (λ name. name ≡ spaced is_last reading text.now) }
 {
     let mut name = String::new(alloc);
     let mut now = reading;
@@ -117,19 +156,29 @@ pub(crate) fn spaced(alloc: Global, reading: Reading, text: &str) -> Result<Name
             continue;
         }
         name.push_str(&text[from..at])?;
-        add_space(&mut name, now.shows_space(byte_at(text.as_bytes(), at + 1)))?;
+        let is_end = is_end(is_last, text.as_bytes(), at + 1);
+        add_space(
+            &mut name,
+            now.shows_space(is_end, byte_at(text.as_bytes(), at + 1)),
+        )?;
         from = at + 1;
     }
     name.push_str(&text[from..])?;
     Name::new(alloc, name.as_str())
 }
 
-// The text of a piece: that of a value is as it is.
-fn piece_spaced(alloc: Global, reading: Reading, one: &Piece, text: &Name) -> Result<Name, Memory>
-    ensures { IfOk result (λ name. name ≡ piece_spaced reading one.now text.now) }
+// The text of a piece, the last one or not: that of a value is as it is.
+fn piece_spaced(
+    alloc: Global,
+    is_last: bool,
+    reading: Reading,
+    one: &Piece,
+    text: &Name,
+) -> Result<Name, Memory>
+    ensures { IfOk result (λ name. name ≡ piece_spaced is_last reading one.now text.now) }
 {
     if is_text(one) {
-        spaced(alloc, reading, text.as_str())
+        spaced(alloc, is_last, reading, text.as_str())
     } else {
         text.share()
     }
@@ -142,6 +191,15 @@ fn behind_piece(reading: Reading, one: &Piece, text: &Name) -> Reading
         behind(reading, text.as_str())
     } else {
         reading.behind_value()
+    }
+}
+
+fn is_none(pieces: &[Piece]) -> bool
+    ensures { result ≡ is_empty pieces.now }
+{
+    match pieces {
+        [] => true,
+        [_, ..] => false,
     }
 }
 
@@ -160,7 +218,8 @@ pub(crate) fn spaced_texts(
         if place >= texts.len() {
             return Ok(done);
         }
-        let text = piece_spaced(alloc, reading, &all[place], &texts[place])?;
+        let is_last = is_none(&all[place + 1..]);
+        let text = piece_spaced(alloc, is_last, reading, &all[place], &texts[place])?;
         done.push(text)?;
         reading = behind_piece(reading, &all[place], &texts[place]);
     }

@@ -1,25 +1,28 @@
 // Special text, and `min` and `max` in it.
-ghost use Rattle.std.specs.Prelude.{◌≡◌, ◌<◌, ◌^◌, [], false, IfOk, option_copied, slice_get};
+ghost use Rattle.std.specs.Prelude.{◌≡◌, ◌<◌, ◌^◌, [], Ok, false, IfOk, option_copied, slice_get};
 ghost use Rattle.sw_eval_literals.specs.Answers.{Returns};
-ghost use Rattle.sw_eval_raw_text.specs.Special.{plain_special, special_value, bare, closes, goes_on, fits_text, fits_value, fits, lists_values, known, function_of, function_in, extremum, value_text, piece_text, had, written_pieces, written_out, passed_of, extremum_value};
+ghost use Rattle.sw_eval_raw_text.specs.Special.{plain_special, special_value, bare, closes, goes_on, fits_text, fits_value, fits, lists_values, known, function_of, function_in, extremum, value_text, piece_text, had, written_pieces, written_out, number_in, compared_by, compared, behind_value, behind_piece, all_compared, passed_of, computed, is_incomparable, extremum_value};
+ghost use Rattle.sw_tree.specs.declared.expr.ExprKind.{out-ExprKind};
+ghost use Rattle.sw_tree.specs.declared.text.Parts.{out-Parts};
 
 use crate::imports::is_text;
+use crate::numerals::numeral;
 use crate::spacing::{Reading, spaced, spaced_texts};
 use std::alloc::Global;
 use sw_builtins::{BuiltIn, Found, find};
 use sw_eval_built_in_calls::built_in_value;
-use sw_eval_literals::{Refused, css_text, joined, string_value, trimmed};
+use sw_eval_literals::{Refused, css_text, joined, number_value, string_value, trimmed};
 use sw_scope::Passed;
-use sw_text::{List, Memory, Name, Span};
+use sw_text::{FaultCode, List, Memory, Name, Span};
 use sw_text_scan::{byte_at, signs};
-use sw_tree::{Expr, Kind, Piece};
+use sw_tree::{Expr, ExprKind, Kind, Parts, Piece};
 use sw_values::Value;
 
 /// A special text without values in it is an unquoted string, but for its white space.
 pub fn plain_special(alloc: Global, text: &Name, span: &Span) -> Result<Value, Refused>
     ensures { Returns result (plain_special text.now span.now) }
 {
-    let text = spaced(alloc, Reading::start(), text.as_str())?;
+    let text = spaced(alloc, true, Reading::start(), text.as_str())?;
     string_value(text, false, span)
 }
 
@@ -215,6 +218,92 @@ fn written_out(
     special_value(alloc, all, texts.as_slice(), span)
 }
 
+// ---- what is computed
+
+// A number of the sheet stands there as its text.
+fn number_in(alloc: Global, parts: &Parts, value: &Value, span: &Span) -> Result<Value, Refused>
+    ensures { Returns result (number_in (out-Parts parts.now) value.now span.now) }
+{
+    match parts {
+        Parts::Plain(text) => {
+            let number = numeral(alloc, text.as_str())?;
+            number_value(&number, span)
+        }
+        Parts::Mixed(_) => itself(value),
+    }
+}
+
+fn itself(value: &Value) -> Result<Value, Refused>
+    ensures { Returns result (Ok value.now) }
+{
+    Ok(value.share()?)
+}
+
+fn compared_by(alloc: Global, kind: &ExprKind, value: &Value, span: &Span) -> Result<Value, Refused>
+    ensures { Returns result (compared_by (out-ExprKind kind.now) value.now span.now) }
+{
+    match kind {
+        ExprKind::Special(parts) => number_in(alloc, parts, value, span),
+        _ => itself(value),
+    }
+}
+
+// What is compared where an argument has this value.
+#[tactic(auto, unfolding(crate::specs::Special::compared))]
+fn compared(alloc: Global, e: &Expr, value: &Value) -> Result<Value, Refused>
+    ensures { Returns result (compared e.now value.now) }
+{
+    compared_by(alloc, &e.kind, value, &e.span)
+}
+
+fn behind_value(
+    alloc: Global,
+    done: List<Value>,
+    e: &Expr,
+    value: Option<&Value>,
+) -> Result<List<Value>, Refused>
+    ensures { Returns result (behind_value done e.now (option_copied value.entry)) }
+{
+    match value {
+        None => Ok(done),
+        Some(value) => {
+            let compared = compared(alloc, e, value)?;
+            let mut values = done;
+            values.push(compared)?;
+            Ok(values)
+        }
+    }
+}
+
+// What is compared of a piece, behind others.
+fn behind_piece(
+    alloc: Global,
+    done: List<Value>,
+    one: &Piece,
+    value: Option<&Value>,
+) -> Result<List<Value>, Refused>
+    ensures { Returns result (behind_piece done one.now (option_copied value.entry)) }
+{
+    match one {
+        Piece::Text(_) => Ok(done),
+        Piece::Inserted(_) => Ok(done),
+        Piece::Value(e) => behind_value(alloc, done, e, value),
+    }
+}
+
+// What is compared of pieces that have these values.
+fn all_compared(alloc: Global, all: &[Piece], values: &[Value]) -> Result<List<Value>, Refused>
+    ensures { Returns result (all_compared [] all.now values.now 0) }
+{
+    let mut done = List::new(alloc);
+    let mut next = 0;
+    'all: for one in all {
+        done = behind_piece(alloc, done, one, value_at(values, next))?;
+        next = had(one, next);
+    }
+    Ok(done)
+}
+
 fn passed_of(alloc: Global, values: &[Value]) -> Result<Passed, Memory>
     ensures { IfOk result (λ passed. passed ≡ passed_of values.now) }
 {
@@ -225,7 +314,29 @@ fn passed_of(alloc: Global, values: &[Value]) -> Result<Passed, Memory>
     Ok(passed)
 }
 
-/// What the function gives of these values, where all are numbers that compare; else its call is written out.
+// What the function gives.
+fn computed(
+    alloc: Global,
+    function: BuiltIn,
+    all: &[Piece],
+    values: &[Value],
+    span: &Span,
+) -> Result<Value, Refused>
+    ensures { Returns result (computed function all.now values.now span.now) }
+{
+    let compared = all_compared(alloc, all, values)?;
+    let passed = passed_of(alloc, compared.as_slice())?;
+    built_in_value(alloc, function, &passed, span)
+}
+
+// Whether some value is no number, or one that doesn't compare with the others.
+fn is_incomparable(code: FaultCode) -> bool
+    ensures { result ≡ is_incomparable code }
+{
+    code == FaultCode::TypeFault || code == FaultCode::UnitFault || code == FaultCode::NumberRange
+}
+
+/// What the function gives of these values. Where one of them is no number that compares, its call is written out.
 pub fn extremum_value(
     alloc: Global,
     function: BuiltIn,
@@ -235,10 +346,14 @@ pub fn extremum_value(
 ) -> Result<Value, Refused>
     ensures { Returns result (extremum_value function all.now values.now span.now) }
 {
-    let passed = passed_of(alloc, values)?;
-    match built_in_value(alloc, function, &passed, span) {
+    match computed(alloc, function, all, values, span) {
         Ok(value) => Ok(value),
-        Err(Refused::Fault(_)) => written_out(alloc, all, values, span),
+        Err(Refused::Fault(fault)) => {
+            if is_incomparable(fault.code) {
+                return written_out(alloc, all, values, span);
+            }
+            Err(Refused::Fault(fault))
+        }
         Err(Refused::Memory) => Err(Refused::Memory),
     }
 }

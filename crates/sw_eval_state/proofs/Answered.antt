@@ -7,16 +7,16 @@ use Rattle.sw_world.specs.declared.answer.Answer.TheVariants.{Loaded, Refused, O
 use Rattle.sw_eval_state.specs.Owners.{owner, target}
 use Rattle.sw_eval_state.specs.declared.state.State.{State}
 
-pub not_built_in : (at name_at space_at : Span) (n : ℕ) (a : Answer) (s : State) → ((h m : List ℕ) → a ≡ BuiltIn h m → ⊥) → owner C.UnknownMember name_at space_at n a s ≡ target at name_at space_at n a s
-not_built_in at name_at space_at n (BuiltIn h m) s not = absurd (not h m refl)
-not_built_in at name_at space_at n (Loaded p taken) s not = refl
-not_built_in at name_at space_at n (Refused fault) s not = refl
-not_built_in at name_at space_at n (Owner p m) s not = refl
-not_built_in at name_at space_at n (Callable p b) s not = refl
-not_built_in at name_at space_at n NoNamespace s not = refl
-not_built_in at name_at space_at n NoMember s not = refl
-not_built_in at name_at space_at n LeftOut s not = refl
-not_built_in at name_at space_at n Conflict s not = refl
-not_built_in at name_at space_at n (Value v) s not = refl
-not_built_in at name_at space_at n Done s not = refl
-not_built_in at name_at space_at n (Hosted v) s not = refl
+pub not_built_in : (at name_span space_span : Span) (n : ℕ) (a : Answer) (s : State) → ((h m : List ℕ) → a ≡ BuiltIn h m → ⊥) → owner C.UnknownMember name_span space_span n a s ≡ target at name_span space_span n a s
+not_built_in at name_span space_span n (BuiltIn h m) s not = absurd (not h m refl)
+not_built_in at name_span space_span n (Loaded p taken) s not = refl
+not_built_in at name_span space_span n (Refused fault) s not = refl
+not_built_in at name_span space_span n (Owner p m) s not = refl
+not_built_in at name_span space_span n (Callable p b) s not = refl
+not_built_in at name_span space_span n NoNamespace s not = refl
+not_built_in at name_span space_span n NoMember s not = refl
+not_built_in at name_span space_span n LeftOut s not = refl
+not_built_in at name_span space_span n Conflict s not = refl
+not_built_in at name_span space_span n (Value v) s not = refl
+not_built_in at name_span space_span n Done s not = refl
+not_built_in at name_span space_span n (Hosted v) s not = refl

@@ -76,8 +76,8 @@ media_opened queries span s =
 -- one whose queries have this text, which stands at the first place; the statement stands at the second. It isn't open
 -- where no query is left of it and those around it
 unfoldable pub media_entered : List ℕ → Span → Span → Eval Bool
-media_entered text text_at span s =
-    bind (media_queries text text_at s)
+media_entered text text_span span s =
+    bind (media_queries text text_span s)
     (λ q. if is_empty q.0 then Gives (false, q.1) else bind (media_opened q.0 span q.1) (λ u. Gives (true, u.1)))
 
 -- ---- others

@@ -29,34 +29,34 @@ global_by M.NoSuch span s = Gives (call.Css, s)
 
 -- what the name of a member of a built-in module means
 abbrev pub built_in_by : Meant → Span → Span → Eval Called
-built_in_by (M.Known f) span name_at s = Gives (call.BuiltIn f, s)
-built_in_by M.LeftOut span name_at s = Fails (fault C.LeftOut span)
-built_in_by M.NoSuch span name_at s = Fails (fault C.UnknownMember name_at)
+built_in_by (M.Known f) span name_span s = Gives (call.BuiltIn f, s)
+built_in_by M.LeftOut span name_span s = Fails (fault C.LeftOut span)
+built_in_by M.NoSuch span name_span s = Fails (fault C.UnknownMember name_span)
 
 -- what a call without a namespace means
 abbrev pub function_by : List ℕ → Span → Span → ℕ → Answer → Eval Called
-function_by name span name_at n (A.Callable site body) s = Gives (call.Sheet (found n body), s)
-function_by name span name_at n (A.BuiltIn home member) s =
-    built_in_by (meaning (Some home) K.Function member) span name_at s
-function_by name span name_at n A.NoMember s = global_by (meaning None K.Function name) span s
-function_by name span name_at n A.LeftOut s = Fails (fault C.LeftOut span)
-function_by name span name_at n A.Conflict s = Fails (fault C.MemberConflict name_at)
-function_by name span name_at n _ s = Fails (fault C.UnknownMember name_at)
+function_by name span name_span n (A.Callable site body) s = Gives (call.Sheet (found n body), s)
+function_by name span name_span n (A.BuiltIn home member) s =
+    built_in_by (meaning (Some home) K.Function member) span name_span s
+function_by name span name_span n A.NoMember s = global_by (meaning None K.Function name) span s
+function_by name span name_span n A.LeftOut s = Fails (fault C.LeftOut span)
+function_by name span name_span n A.Conflict s = Fails (fault C.MemberConflict name_span)
+function_by name span name_span n _ s = Fails (fault C.UnknownMember name_span)
 
 -- what a call behind a namespace means
 abbrev pub member_by : Span → Span → Span → ℕ → Answer → Eval Called
-member_by span name_at space_at n (A.Callable site body) s = Gives (call.Sheet (found n body), s)
-member_by span name_at space_at n (A.BuiltIn home member) s =
-    built_in_by (meaning (Some home) K.Function member) span name_at s
-member_by span name_at space_at n A.NoNamespace s = Fails (fault C.UnknownNamespace space_at)
-member_by span name_at space_at n A.LeftOut s = Fails (fault C.LeftOut span)
-member_by span name_at space_at n A.Conflict s = Fails (fault C.MemberConflict name_at)
-member_by span name_at space_at n _ s = Fails (fault C.UnknownMember name_at)
+member_by span name_span space_span n (A.Callable site body) s = Gives (call.Sheet (found n body), s)
+member_by span name_span space_span n (A.BuiltIn home member) s =
+    built_in_by (meaning (Some home) K.Function member) span name_span s
+member_by span name_span space_span n A.NoNamespace s = Fails (fault C.UnknownNamespace space_span)
+member_by span name_span space_span n A.LeftOut s = Fails (fault C.LeftOut span)
+member_by span name_span space_span n A.Conflict s = Fails (fault C.MemberConflict name_span)
+member_by span name_span space_span n _ s = Fails (fault C.UnknownMember name_span)
 
 -- which mixin is included
 abbrev pub mixin_by : Span → Span → Span → ℕ → Answer → Eval Found
-mixin_by span name_at space_at n (A.Callable site body) s = Gives (found n body, s)
-mixin_by span name_at space_at n A.NoNamespace s = Fails (fault C.UnknownNamespace space_at)
-mixin_by span name_at space_at n A.LeftOut s = Fails (fault C.LeftOut span)
-mixin_by span name_at space_at n A.Conflict s = Fails (fault C.MemberConflict name_at)
-mixin_by span name_at space_at n _ s = Fails (fault C.UnknownMember name_at)
+mixin_by span name_span space_span n (A.Callable site body) s = Gives (found n body, s)
+mixin_by span name_span space_span n A.NoNamespace s = Fails (fault C.UnknownNamespace space_span)
+mixin_by span name_span space_span n A.LeftOut s = Fails (fault C.LeftOut span)
+mixin_by span name_span space_span n A.Conflict s = Fails (fault C.MemberConflict name_span)
+mixin_by span name_span space_span n _ s = Fails (fault C.UnknownMember name_span)

@@ -38,7 +38,7 @@ declaring_by property None span s = Gives (tt, s)
 
 -- a declaration of this value, whose expression stands at the first place and whose statement at the second
 unfoldable pub written : List ℕ → Plain → Span → Span → Eval (Unit {0})
-written property v value_at span s = bind (answer (declaration_text v value_at) s) (λ t. declaring_by property t.0 span t.1)
+written property v value_span span s = bind (answer (declaration_text v value_span) s) (λ t. declaring_by property t.0 span t.1)
 
 -- a comment is a line where it stands
 unfoldable pub commented : List ℕ → Span → Eval (Unit {0})

@@ -15,16 +15,23 @@ use Rattle.sw_eval_state.specs.Eval.{Eval}
 
 -- the number of the owner that was answered, or what the name and its namespace are refused with
 abbrev pub owner : FaultCode → Span → Span → ℕ → Answer → Eval ℕ
-owner unknown span space_at n (Owner path name) s = Gives (n, s)
-owner unknown span space_at n NoNamespace s = Fails (fault C.UnknownNamespace space_at)
-owner unknown span space_at n LeftOut s = Fails (fault C.LeftOut span)
-owner unknown span space_at n Conflict s = Fails (fault C.MemberConflict span)
-owner unknown span space_at n _ s = Fails (fault unknown span)
+owner unknown span space_span n (Owner path name) s = Gives (n, s)
+owner unknown span space_span n NoNamespace s = Fails (fault C.UnknownNamespace space_span)
+owner unknown span space_span n LeftOut s = Fails (fault C.LeftOut span)
+owner unknown span space_span n Conflict s = Fails (fault C.MemberConflict span)
+owner unknown span space_span n _ s = Fails (fault unknown span)
 
 -- the owner of a variable that is assigned; one of a built-in module can't be
 abbrev pub target : Span → Span → Span → ℕ → Answer → Eval ℕ
-target span name_at space_at n (BuiltIn home name) s = Fails (fault C.NotConfigurable span)
-target span name_at space_at n answer s = owner C.UnknownMember name_at space_at n answer s
+target span name_span space_span n (BuiltIn home name) s = Fails (fault C.NotConfigurable span)
+target span name_span space_span n answer s = owner C.UnknownMember name_span space_span n answer s
+
+-- the owner of a variable without a namespace that is given a value; what is wrong with its name stands at it
+abbrev pub named_owner : Span → Span → ℕ → Answer → Eval ℕ
+named_owner name_span span n (Owner path name) s = Gives (n, s)
+named_owner name_span span n LeftOut s = Fails (fault C.LeftOut name_span)
+named_owner name_span span n Conflict s = Fails (fault C.MemberConflict name_span)
+named_owner name_span span n _ s = Fails (fault C.UnknownVariable span)
 
 abbrev pub got : Span → Answer → Eval Plain
 got span (Value v) s = Gives (v, s)

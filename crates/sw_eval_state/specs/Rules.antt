@@ -1,11 +1,10 @@
 -- Rules, and properties nested in each other (the Sass specification on style rules and declarations; limits and places
 -- of faults are this project's own).
-use Rattle.std.specs.Prelude.{ℕ, ◌-◌, Bool, true, if◌then◌else◌, List, [], ◌∷◌, ◌++◌, codes, length, take, Option, Some, None, Ok}
+use Rattle.std.specs.Prelude.{ℕ, ◌-◌, Bool, true, if◌then◌else◌, List, [], ◌∷◌, ◌++◌, codes, length, take, Option, Some, None}
 use Rattle.sw_text.specs.declared.place.Span.{Span}
 use Rattle.sw_selector.specs.Writing.{text_of}
 use Rattle.sw_css_tree.specs.Output.{closed, last}
-use Rattle.sw_eval_literals.specs.Answers.{Answer}
-use Rattle.sw_eval_literals.specs.Texts.{joined}
+use Rattle.sw_eval_literals.specs.Texts.{all_pieces}
 use Rattle.sw_eval_questions.specs.Talk.{Gives, bind}
 use Rattle.sw_eval_questions.specs.Refusals.{answer}
 use Rattle.sw_eval_state.specs.Output.{opened}
@@ -44,22 +43,25 @@ unfoldable pub rule_opening : Selectors → Span → Eval (Unit {0})
 rule_opening selectors span s =
     bind (opened (text_of selectors) span s) (λ u. Gives (tt, nested (in_rule selectors u.1.nesting) u.1))
 
+-- a rule is open whose selectors are written as this text, and in which there is no `&`; it stands here
+unfoldable pub plain_entered : List ℕ → Span → Eval (Unit {0})
+plain_entered text span s = bind (opened text span s) (λ u. Gives (tt, nested (in_frame u.1.nesting) u.1))
+
 -- one of keyframes, which don't nest
 unfoldable pub frame_entered : List ℕ → Span → Span → Eval (Unit {0})
-frame_entered text text_at span s =
-    bind (answer (keyframe_text text text_at) s)
-    (λ t. bind (opened t.0 span t.1) (λ u. Gives (tt, nested (in_frame u.1.nesting) u.1)))
+frame_entered text text_span span s =
+    bind (answer (keyframe_text text text_span) s) (λ t. plain_entered t.0 span t.1)
 
 unfoldable pub style_entered : Bool → List ℕ → Span → Span → Eval (Unit {0})
-style_entered at_root text text_at span s =
-    bind (selected at_root text text_at s) (λ q. rule_opening q.0 span q.1)
+style_entered at_root text text_span span s =
+    bind (selected at_root text text_span s) (λ q. rule_opening q.0 span q.1)
 
 -- a rule is open, in `@at-root` or not, whose selectors have this text, which stands at the first place; the rule stands
 -- at the second
 unfoldable pub rule_entered : Bool → List ℕ → Span → Span → Eval (Unit {0})
-rule_entered at_root text text_at span s =
-    if are_keyframes s.nesting.rules then frame_entered text text_at span s
-    else style_entered at_root text text_at span s
+rule_entered at_root text text_span span s =
+    if are_keyframes s.nesting.rules then frame_entered text text_span span s
+    else style_entered at_root text text_span span s
 
 -- it is closed
 unfoldable pub rule_left : State → State
@@ -68,13 +70,13 @@ rule_left s = unnested (record s { css = closed s.css })
 -- ---- nested properties
 
 -- the name of a property among those of another one
-abbrev pub named_by : Option (List ℕ) → List ℕ → Span → Answer (List ℕ)
-named_by None name span = Ok name
-named_by (Some prefix) name span = joined (prefix ∷ codes "-" ∷ name ∷ []) span
+abbrev pub named_by : Option (List ℕ) → List ℕ → List ℕ
+named_by None name = name
+named_by (Some prefix) name = all_pieces (prefix ∷ codes "-" ∷ name ∷ [])
 
--- the whole name of a property, which is written here
-unfoldable pub full_name : List ℕ → Span → Eval (List ℕ)
-full_name name span s = answer (named_by s.nesting.prefix name span) s
+-- the whole name of a property
+abbrev pub full_name : List ℕ → State → List ℕ
+full_name name s = named_by s.nesting.prefix name
 
 abbrev pub with_prefix : List ℕ → Nesting → Nesting
 with_prefix name n = record n { prefix = Some name }

@@ -114,12 +114,12 @@ impl State {
         &mut self,
         alloc: Global,
         text: &Name,
-        text_at: &Span,
+        text_span: &Span,
         span: &Span,
     ) -> Result<bool, Stop>
-        ensures { IsReturn result self.new (media_entered text.now text_at.now span.now self.old) }
+        ensures { IsReturn result self.new (media_entered text.now text_span.now span.now self.old) }
     {
-        let queries = self.media_queries(alloc, text, text_at)?;
+        let queries = self.media_queries(alloc, text, text_span)?;
         if queries.is_empty() {
             return Ok(false);
         }
@@ -160,9 +160,9 @@ impl State {
         }
     }
 
-    // A plain CSS import.
+    /// A plain CSS import.
     #[tactic(auto, unfolding(crate::specs::AtRules::imported_one))]
-    fn import_one(&mut self, text: Name, span: &Span) -> Result<(), Stop>
+    pub fn import_one(&mut self, text: Name, span: &Span) -> Result<(), Stop>
         ensures { IsReturn result self.new (imported_one text span.now self.old) }
     {
         match self.css.import(text) {

@@ -36,14 +36,14 @@ fn global_by(name: &Name, span: &Span) -> Result<Called, Stop>
 }
 
 // What the name of a member of a built-in module means.
-fn built_in_by(module: &Name, name: &Name, span: &Span, name_at: &Span) -> Result<Called, Stop>
+fn built_in_by(module: &Name, name: &Name, span: &Span, name_span: &Span) -> Result<Called, Stop>
     ensures { (s : State) → IsReturn result s
-        (built_in_by (found (Some module.now) K.Function name.now) span.now name_at.now s) }
+        (built_in_by (found (Some module.now) K.Function name.now) span.now name_span.now s) }
 {
     match find(Some(module.as_str()), Kind::Function, name.as_str()) {
         Meant::Known(function) => Ok(Called::BuiltIn(function)),
         Meant::LeftOut => fails(FaultCode::LeftOut, span),
-        Meant::NoSuch => fails(FaultCode::UnknownMember, name_at),
+        Meant::NoSuch => fails(FaultCode::UnknownMember, name_span),
     }
 }
 
@@ -51,69 +51,69 @@ fn built_in_by(module: &Name, name: &Name, span: &Span, name_at: &Span) -> Resul
 pub fn function_by(
     name: &Name,
     span: &Span,
-    name_at: &Span,
+    name_span: &Span,
     number: usize,
     answer: Answer,
 ) -> Result<Called, Stop>
     requires { number < 1000000 }
-    ensures { (s : State) → IsReturn result s (function_by name.now span.now name_at.now number answer s) }
+    ensures { (s : State) → IsReturn result s (function_by name.now span.now name_span.now number answer s) }
 {
     match answer {
         Answer::Callable { body, .. } => Ok(Called::Sheet(Found {
             site: number + 1,
             callable: body,
         })),
-        Answer::BuiltIn { module, name } => built_in_by(&module, &name, span, name_at),
+        Answer::BuiltIn { module, name } => built_in_by(&module, &name, span, name_span),
         Answer::NoMember => global_by(name, span),
         Answer::LeftOut => fails(FaultCode::LeftOut, span),
-        Answer::Conflict => fails(FaultCode::MemberConflict, name_at),
-        _ => fails(FaultCode::UnknownMember, name_at),
+        Answer::Conflict => fails(FaultCode::MemberConflict, name_span),
+        _ => fails(FaultCode::UnknownMember, name_span),
     }
 }
 
 /// What a call behind a namespace means.
 pub fn member_by(
     span: &Span,
-    name_at: &Span,
-    space_at: &Span,
+    name_span: &Span,
+    space_span: &Span,
     number: usize,
     answer: Answer,
 ) -> Result<Called, Stop>
     requires { number < 1000000 }
-    ensures { (s : State) → IsReturn result s (member_by span.now name_at.now space_at.now number answer s) }
+    ensures { (s : State) → IsReturn result s (member_by span.now name_span.now space_span.now number answer s) }
 {
     match answer {
         Answer::Callable { body, .. } => Ok(Called::Sheet(Found {
             site: number + 1,
             callable: body,
         })),
-        Answer::BuiltIn { module, name } => built_in_by(&module, &name, span, name_at),
-        Answer::NoNamespace => fails(FaultCode::UnknownNamespace, space_at),
+        Answer::BuiltIn { module, name } => built_in_by(&module, &name, span, name_span),
+        Answer::NoNamespace => fails(FaultCode::UnknownNamespace, space_span),
         Answer::LeftOut => fails(FaultCode::LeftOut, span),
-        Answer::Conflict => fails(FaultCode::MemberConflict, name_at),
-        _ => fails(FaultCode::UnknownMember, name_at),
+        Answer::Conflict => fails(FaultCode::MemberConflict, name_span),
+        _ => fails(FaultCode::UnknownMember, name_span),
     }
 }
 
 /// Which mixin is included.
 pub fn mixin_by(
     span: &Span,
-    name_at: &Span,
-    space_at: &Span,
+    name_span: &Span,
+    space_span: &Span,
     number: usize,
     answer: Answer,
 ) -> Result<Found, Stop>
     requires { number < 1000000 }
-    ensures { (s : State) → IsReturn result s (mixin_by span.now name_at.now space_at.now number answer s) }
+    ensures { (s : State) → IsReturn result s (mixin_by span.now name_span.now space_span.now number answer s) }
 {
     match answer {
         Answer::Callable { body, .. } => Ok(Found {
             site: number + 1,
             callable: body,
         }),
-        Answer::NoNamespace => fails(FaultCode::UnknownNamespace, space_at),
+        Answer::NoNamespace => fails(FaultCode::UnknownNamespace, space_span),
         Answer::LeftOut => fails(FaultCode::LeftOut, span),
-        Answer::Conflict => fails(FaultCode::MemberConflict, name_at),
-        _ => fails(FaultCode::UnknownMember, name_at),
+        Answer::Conflict => fails(FaultCode::MemberConflict, name_span),
+        _ => fails(FaultCode::UnknownMember, name_span),
     }
 }

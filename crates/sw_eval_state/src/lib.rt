@@ -30,6 +30,6 @@ pub use here::{Block, Here, Inside};
 pub use left::{callable_of, finish, or_null};
 pub use nesting::{Nesting, Rules};
 pub use output::numbered;
-pub use owners::{got, is_absent, is_null, owner, target};
+pub use owners::{got, is_absent, is_null, named_owner, owner, target};
 pub use placing::{is_function, misplaced};
 pub use state::State;

@@ -87,12 +87,12 @@ impl State {
         alloc: Global,
         property: Name,
         value: &Value,
-        value_at: &Span,
+        value_span: &Span,
         span: &Span,
     ) -> Result<(), Stop>
-        ensures { IsReturn result self.new (written property value.now value_at.now span.now self.old) }
+        ensures { IsReturn result self.new (written property value.now value_span.now span.now self.old) }
     {
-        let text = declaration_text(alloc, value, value_at)?;
+        let text = declaration_text(alloc, value, value_span)?;
         self.declaring_by(property, text, span)
     }
 

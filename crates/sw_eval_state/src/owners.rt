@@ -1,7 +1,7 @@
 // What answers about variables say.
 ghost use Rattle.std.specs.Prelude.{◌≡◌};
 ghost use Rattle.sw_eval_questions.specs.Did.{IsReturn};
-ghost use Rattle.sw_eval_state.specs.Owners.{owner, target, got, null_by, is_null, is_absent};
+ghost use Rattle.sw_eval_state.specs.Owners.{owner, target, named_owner, got, null_by, is_null, is_absent};
 ghost use Rattle.sw_eval_state.specs.declared.state.State.{State};
 
 use crate::faults::fails;
@@ -14,15 +14,15 @@ use sw_world::Answer;
 pub fn owner(
     unknown: FaultCode,
     span: &Span,
-    space_at: &Span,
+    space_span: &Span,
     number: usize,
     answer: &Answer,
 ) -> Result<usize, Stop>
-    ensures { (s : State) → IsReturn result s (owner unknown span.now space_at.now number answer.now s) }
+    ensures { (s : State) → IsReturn result s (owner unknown span.now space_span.now number answer.now s) }
 {
     match answer {
         Answer::Owner { .. } => Ok(number),
-        Answer::NoNamespace => fails(FaultCode::UnknownNamespace, space_at),
+        Answer::NoNamespace => fails(FaultCode::UnknownNamespace, space_span),
         Answer::LeftOut => fails(FaultCode::LeftOut, span),
         Answer::Conflict => fails(FaultCode::MemberConflict, span),
         _ => fails(unknown, span),
@@ -32,16 +32,39 @@ pub fn owner(
 /// The owner of a variable that is assigned.
 pub fn target(
     span: &Span,
-    name_at: &Span,
-    space_at: &Span,
+    name_span: &Span,
+    space_span: &Span,
     number: usize,
     answer: &Answer,
 ) -> Result<usize, Stop>
-    ensures { (s : State) → IsReturn result s (target span.now name_at.now space_at.now number answer.now s) }
+    ensures { (s : State) → IsReturn result s (target span.now name_span.now space_span.now number answer.now s) }
 {
     match answer {
         Answer::BuiltIn { .. } => fails(FaultCode::NotConfigurable, span),
-        _ => owner(FaultCode::UnknownMember, name_at, space_at, number, answer),
+        _ => owner(
+            FaultCode::UnknownMember,
+            name_span,
+            space_span,
+            number,
+            answer,
+        ),
+    }
+}
+
+/// The owner of a variable without a namespace that is given a value: what is wrong with its name stands at it.
+pub fn named_owner(
+    name_span: &Span,
+    span: &Span,
+    number: usize,
+    answer: &Answer,
+) -> Result<usize, Stop>
+    ensures { (s : State) → IsReturn result s (named_owner name_span.now span.now number answer.now s) }
+{
+    match answer {
+        Answer::Owner { .. } => Ok(number),
+        Answer::LeftOut => fails(FaultCode::LeftOut, name_span),
+        Answer::Conflict => fails(FaultCode::MemberConflict, name_span),
+        _ => fails(FaultCode::UnknownVariable, span),
     }
 }
 

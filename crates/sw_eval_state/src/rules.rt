@@ -1,8 +1,7 @@
 // Rules, and properties nested in each other.
-ghost use Rattle.std.specs.Prelude.{◌≡◌};
-ghost use Rattle.sw_eval_literals.specs.Answers.{Returns};
+ghost use Rattle.std.specs.Prelude.{◌≡◌, IfOk};
 ghost use Rattle.sw_eval_questions.specs.Did.{IsReturn};
-ghost use Rattle.sw_eval_state.specs.Rules.{nested, unnested, in_rule, in_frame, with_prefix, rule_opening, frame_entered, style_entered, rule_entered, rule_left, named_by, full_name, prefixed};
+ghost use Rattle.sw_eval_state.specs.Rules.{nested, unnested, in_rule, in_frame, with_prefix, rule_opening, plain_entered, frame_entered, style_entered, rule_entered, rule_left, named_by, full_name, prefixed};
 ghost use Rattle.sw_eval_questions.specs.Talk.{Gives};
 
 use crate::nesting::{Nesting, Rules};
@@ -11,20 +10,20 @@ use crate::state::State;
 use std::alloc::Global;
 use std::mem;
 use sw_eval_keyframes::keyframe_text;
-use sw_eval_literals::{Refused, joined};
+use sw_eval_literals::whole_text;
 use sw_eval_questions::{Stop, stopped};
 use sw_selector::Selectors;
-use sw_text::{Name, Shared, Span};
+use sw_text::{Memory, Name, Shared, Span};
 
 // The name of a property among those of another one.
-fn named_by(alloc: Global, prefix: &Option<Name>, name: Name, span: &Span) -> Result<Name, Refused>
-    ensures { Returns result (named_by prefix.now name span.now) }
+fn named_by(alloc: Global, prefix: &Option<Name>, name: Name) -> Result<Name, Memory>
+    ensures { IfOk result (λ whole. whole ≡ named_by prefix.now name) }
 {
     match prefix {
         None => Ok(name),
         Some(prefix) => {
             let hyphen = Name::new(alloc, "-")?;
-            joined(alloc, &[prefix.share()?, hyphen, name], span)
+            whole_text(alloc, &[prefix.share()?, hyphen, name])
         }
     }
 }
@@ -90,20 +89,27 @@ impl State {
         self.nest(in_rule(parents, around))
     }
 
+    /// Opens a rule whose selectors are written as this text, and in which there is no `&`. It stands here.
+    pub fn enter_plain(&mut self, text: Name, span: &Span) -> Result<(), Stop>
+        ensures { IsReturn result self.new (plain_entered text span.now self.old) }
+    {
+        self.opened(text, span)?;
+        let around = self.nesting.share()?;
+        self.nest(in_frame(around))
+    }
+
     // Opens one of keyframes, which don't nest.
     fn enter_frame(
         &mut self,
         alloc: Global,
         text: &Name,
-        text_at: &Span,
+        text_span: &Span,
         span: &Span,
     ) -> Result<(), Stop>
-        ensures { IsReturn result self.new (frame_entered text.now text_at.now span.now self.old) }
+        ensures { IsReturn result self.new (frame_entered text.now text_span.now span.now self.old) }
     {
-        let text = stopped(keyframe_text(alloc, text, text_at))?;
-        self.opened(text, span)?;
-        let around = self.nesting.share()?;
-        self.nest(in_frame(around))
+        let text = stopped(keyframe_text(alloc, text, text_span))?;
+        self.enter_plain(text, span)
     }
 
     fn enter_style(
@@ -111,12 +117,12 @@ impl State {
         alloc: Global,
         at_root: bool,
         text: &Name,
-        text_at: &Span,
+        text_span: &Span,
         span: &Span,
     ) -> Result<(), Stop>
-        ensures { IsReturn result self.new (style_entered at_root text.now text_at.now span.now self.old) }
+        ensures { IsReturn result self.new (style_entered at_root text.now text_span.now span.now self.old) }
     {
-        let selectors = self.selected(alloc, at_root, text, text_at)?;
+        let selectors = self.selected(alloc, at_root, text, text_span)?;
         self.rule_opening(alloc, selectors, span)
     }
 
@@ -127,15 +133,15 @@ impl State {
         alloc: Global,
         at_root: bool,
         text: &Name,
-        text_at: &Span,
+        text_span: &Span,
         span: &Span,
     ) -> Result<(), Stop>
-        ensures { IsReturn result self.new (rule_entered at_root text.now text_at.now span.now self.old) }
+        ensures { IsReturn result self.new (rule_entered at_root text.now text_span.now span.now self.old) }
     {
         if self.nesting.rules.are_keyframes() {
-            return self.enter_frame(alloc, text, text_at, span);
+            return self.enter_frame(alloc, text, text_span, span);
         }
-        self.enter_style(alloc, at_root, text, text_at, span)
+        self.enter_style(alloc, at_root, text, text_span, span)
     }
 
     /// Closes it.
@@ -148,10 +154,10 @@ impl State {
     }
 
     /// The whole name of a property.
-    pub fn full_name(&self, alloc: Global, name: Name, span: &Span) -> Result<Name, Stop>
-        ensures { IsReturn result self.now (full_name name span.now self.now) }
+    pub fn full_name(&self, alloc: Global, name: Name) -> Result<Name, Memory>
+        ensures { IfOk result (λ whole. whole ≡ full_name name self.now) }
     {
-        stopped(named_by(alloc, &self.nesting.prefix, name, span))
+        named_by(alloc, &self.nesting.prefix, name)
     }
 
     /// What follows stands among the properties of this name.

@@ -11,6 +11,7 @@ use Rattle.sw_eval_questions.specs.Talk.{Gives, bind}
 use Rattle.sw_eval_state.specs.Owners.{is_null}
 use Rattle.sw_eval_state.specs.Eval.{Eval}
 use Rattle.sw_eval_statements.specs.Flow.{done}
+use Rattle.sw_eval_statements.specs.Names.{name_span}
 use Rattle.sw_eval_walk.specs.Texts.{plain_value}
 use Rattle.sw_eval_walk.specs.Variables.{getting, kept, putting, stored, targeted}
 
@@ -20,10 +21,10 @@ module _ (value : Parens → Expr → Eval Plain) where
   -- an assignment to a variable without a namespace; nothing where it has its value
   unfoldable pub variable_set : Variable → Eval (Option Plain)
   variable_set x s =
-      bind (kept x.flags x.name x.span s)
+      bind (kept x.flags x.name (name_span x) x.span s)
       (λ k. if k.0 then Gives (None, k.1)
       else bind (plain_value value P.Outside x.value k.1)
-      (λ v. bind (stored x.flags.global x.name v.0 x.span v.1) done))
+      (λ v. bind (stored x.flags.global x.name v.0 (name_span x) x.span v.1) done))
 
   -- an assignment to a variable behind a namespace: its owner is found behind the value
   unfoldable pub assigned_always : Assignment → Eval (Option Plain)

@@ -14,13 +14,15 @@ use Rattle.sw_eval_literals.specs.declared.quotients.Parens.{Parens}
 use Rattle.sw_eval_literals.specs.declared.quotients.Parens.TheVariants as P
 use Rattle.sw_eval_questions.specs.Talk.{Gives, Fails, bind}
 use Rattle.sw_eval_questions.specs.Asking.{fault}
-use Rattle.sw_eval_questions.specs.Refusals.{answer}
-use Rattle.sw_eval_state.specs.AtRules.{imported_all}
+use Rattle.sw_eval_state.specs.AtRules.{imported_all, imported_one}
 use Rattle.sw_eval_state.specs.Eval.{Eval}
-use Rattle.sw_eval_raw_text.specs.Imports.{template, parts_of, all_plain, inserted_of, filled_all}
+use Rattle.sw_eval_raw_text.specs.Imports.{template, all_plain, inserted_of, filled_all}
+use Rattle.sw_eval_raw_text.specs.Cutting.{parts_of}
 use Rattle.sw_eval_calls.specs.Layers.{Texts}
 use Rattle.sw_eval_walk.specs.declared.texts.TextKind.TheVariants as K
 use Rattle.sw_eval_statements.specs.Flow.{done}
+use Rattle.sw_eval_statements.specs.Places.{is_css}
+use Rattle.sw_eval_statements.specs.Texts.{sheet_text}
 use Rattle.sw_eval_walk.specs.Texts.{pieces}
 
 -- ---- `value` is the level below
@@ -42,15 +44,20 @@ module _ (value : Parens → Expr → Eval Plain) where
   unfoldable pub plain_import : List (List ℕ) → Import → Eval (Option Plain)
   plain_import parts x s =
       bind (inserted_texts x.text.parts s)
-      (λ vs. bind (answer (filled_all parts vs.0 x.text.span) vs.1)
-      (λ ts. bind (imported_all ts.0 x.span ts.1) done))
+      (λ vs. bind (imported_all (filled_all parts vs.0) x.span vs.1) done)
 
   -- they may load plain CSS alone
   abbrev pub import_by : List (List ℕ) → Import → Eval (Option Plain)
   import_by parts x s = if all_plain parts then plain_import parts x s else Fails (fault C.Import x.span)
 
-  -- the text is cut into parts before the values in it are known
+  -- in a file of plain CSS it is one, as it is written
+  unfoldable pub css_import : Import → Eval (Option Plain)
+  css_import x s = bind (sheet_text value x.text s) (λ t. bind (imported_one t.0 x.span t.1) done)
+
+  -- elsewhere the text is cut into parts before the values in it are known
+  abbrev pub sheet_import : Import → Eval (Option Plain)
+  sheet_import x s =
+      if is_css x.span then css_import x s else import_by (parts_of (template x.text.parts)) x s
+
   unfoldable pub import : Import → Eval (Option Plain)
-  import x s =
-      if is_some s.nesting.prefix then Fails (fault C.BadPlace x.span)
-      else bind (answer (template x.text.parts x.text.span) s) (λ t. import_by (parts_of t.0) x t.1)
+  import x s = if is_some s.nesting.prefix then Fails (fault C.BadPlace x.span) else sheet_import x s

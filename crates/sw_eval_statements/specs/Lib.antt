@@ -1,4 +1,5 @@
 pub mod Places
+pub mod Names
 pub mod Texts
 pub mod Flow
 pub mod Loops

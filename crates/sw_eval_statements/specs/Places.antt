@@ -1,4 +1,6 @@
 -- Where a statement stands.
+use Rattle.std.specs.Prelude.{Bool, nat_eq, codes}
+use Rattle.std.specs.List.{ends_with}
 use Rattle.sw_text.specs.declared.place.Span.{Span}
 use Rattle.sw_tree.specs.declared.statement.Statement.{Statement, out-Statement}
 use Rattle.sw_tree.specs.declared.statement.Statement.TheOpen.{Statement-F}
@@ -33,3 +35,7 @@ place_by (Statement-F.Comment text) = text.span
 
 unfoldable pub place_of : Statement → Span
 place_of x = place_by (out-Statement x)
+
+-- what stands in a file of plain CSS, which is read by the extension of its path
+abbrev pub is_css : Span → Bool
+is_css span = ends_with nat_eq span.file (codes ".css")

@@ -19,17 +19,23 @@ use Rattle.sw_eval_questions.specs.Talk.{Gives, Fails, bind}
 use Rattle.sw_eval_questions.specs.Asking.{fault}
 use Rattle.sw_eval_state.specs.Nestings.{takes_lines}
 use Rattle.sw_eval_state.specs.Output.{declaring, written}
-use Rattle.sw_eval_state.specs.Rules.{full_name, rule_entered, rule_left, prefixed, unnested}
+use Rattle.sw_eval_state.specs.Rules.{full_name, plain_entered, rule_entered, rule_left, prefixed, unnested}
 use Rattle.sw_eval_state.specs.Eval.{Eval}
 use Rattle.sw_eval_statements.specs.Flow.{done, framed}
+use Rattle.sw_eval_statements.specs.Places.{is_css}
 use Rattle.sw_eval_statements.specs.Texts.{raw_text, sheet_text}
+
+-- a rule is open whose selectors have this text; in a file of plain CSS they are written as they stand
+unfoldable pub rule_opened : Rule → List ℕ → Eval (Unit {0})
+rule_opened x text s =
+    if is_css x.span then plain_entered text x.span s else rule_entered false text x.selector.span x.span s
 
 -- ---- one level: `value` and `does` are the levels below
 
 module _ (value : Parens → Expr → Eval Plain) where
   -- the whole name of a property
   unfoldable pub property : Text → Eval (List ℕ)
-  property x s = bind (sheet_text value x s) (λ p. full_name p.0 x.span p.1)
+  property x s = bind (sheet_text value x s) (λ p. Gives (full_name p.0 p.1, p.1))
 
   -- a value that is written as this property; the statement stands here
   unfoldable pub valued : List ℕ → Expr → Span → Eval (Unit {0})
@@ -65,7 +71,7 @@ module _ (value : Parens → Expr → Eval Plain) (does : Statement → Eval (Op
   rule x s =
       if is_some s.nesting.prefix then Fails (fault C.BadPlace x.span)
       else bind (sheet_text value x.selector s)
-      (λ t. bind (rule_entered false t.0 x.selector.span x.span t.1) (λ q. nested_block does x.block q.1))
+      (λ t. bind (rule_opened x t.0 t.1) (λ q. nested_block does x.block q.1))
 
   -- nested properties: the value, and then those in the block
   unfoldable pub properties : Properties → Eval (Option Plain)

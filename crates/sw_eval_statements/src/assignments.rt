@@ -2,6 +2,7 @@
 ghost use Rattle.sw_eval_walk.specs.Going.{Goes_on};
 ghost use Rattle.sw_eval_statements.specs.Assignments.{variable_set, assigned, assigned_always, assigned_default};
 
+use crate::names::name_span;
 use sw_eval_questions::Stop;
 use sw_eval_state::is_null;
 use sw_eval_walk::{Below, Level, Walk, plain_value};
@@ -20,7 +21,14 @@ pub(crate) fn variable_set<W: World, B: Below<W>>(
     ensures { Goes_on W.gives (variable_set (B.values below) statement.now) walk.old world.old result
         walk.new world.new }
 {
-    let kept = walk.kept(statement.flags, &statement.name, &statement.span, world)?;
+    let name_span = name_span(statement)?;
+    let kept = walk.kept(
+        statement.flags,
+        &statement.name,
+        &name_span,
+        &statement.span,
+        world,
+    )?;
     if kept {
         return Ok(None);
     }
@@ -29,6 +37,7 @@ pub(crate) fn variable_set<W: World, B: Below<W>>(
         statement.flags.global,
         &statement.name,
         value,
+        &name_span,
         &statement.span,
         world,
     )?;

@@ -1,8 +1,10 @@
 // Imports of plain CSS.
 ghost use Rattle.sw_eval_walk.specs.Going.{Goes_on};
-ghost use Rattle.sw_eval_statements.specs.Imports.{inserted_pieces, inserted_texts, plain_import, import_by, import};
+ghost use Rattle.sw_eval_statements.specs.Imports.{inserted_pieces, inserted_texts, plain_import, import_by, css_import, sheet_import, import};
 
-use sw_eval_questions::{Stop, stopped};
+use crate::places::is_css;
+use crate::texts::statement_text;
+use sw_eval_questions::Stop;
 use sw_eval_raw_text::{all_plain, filled_all, inserted_of, parts_of, template};
 use sw_eval_state::fails;
 use sw_eval_walk::{Below, Level, TextKind, Walk, pieces};
@@ -56,9 +58,8 @@ fn plain_import<W: World, B: Below<W>>(
     ensures { Goes_on W.gives (plain_import (B.values below) parts.now statement.now) walk.old world.old result
         walk.new world.new }
 {
-    let text = &statement.text;
-    let values = inserted_texts(walk, below, &text.parts, world)?;
-    let texts = stopped(filled_all(walk.alloc, parts, values.as_slice(), &text.span))?;
+    let values = inserted_texts(walk, below, &statement.text.parts, world)?;
+    let texts = filled_all(walk.alloc, parts, values.as_slice())?;
     walk.state.import_all(texts.as_slice(), &statement.span)?;
     Ok(None)
 }
@@ -75,13 +76,49 @@ fn import_by<W: World, B: Below<W>>(
     ensures { Goes_on W.gives (import_by (B.values below) parts.now statement.now) walk.old world.old result
         walk.new world.new }
 {
-    if !all_plain(parts) {
+    let are_plain = all_plain(walk.alloc, parts)?;
+    if !are_plain {
         return fails(FaultCode::Import, &statement.span);
     }
     plain_import(walk, below, parts, statement, world)
 }
 
-// `@import`: the text is cut into parts before the values in it are known.
+// In a file of plain CSS it is one, as it is written.
+fn css_import<W: World, B: Below<W>>(
+    walk: &mut Walk,
+    below: B,
+    statement: &Import,
+    world: &mut W,
+) -> Result<Option<Value>, Stop>
+    requires { B.fits below }
+    ensures { Goes_on W.gives (css_import (B.values below) statement.now) walk.old world.old result walk.new
+        world.new }
+{
+    let text = statement_text(walk, below, &statement.text, world)?;
+    walk.state.import_one(text, &statement.span)?;
+    Ok(None)
+}
+
+// Elsewhere the text is cut into parts before the values in it are known.
+fn sheet_import<W: World, B: Below<W>>(
+    walk: &mut Walk,
+    below: B,
+    statement: &Import,
+    world: &mut W,
+) -> Result<Option<Value>, Stop>
+    requires { B.fits below }
+    ensures { Goes_on W.gives (sheet_import (B.values below) statement.now) walk.old world.old result walk.new
+        world.new }
+{
+    if is_css(&statement.span) {
+        return css_import(walk, below, statement, world);
+    }
+    let template = template(walk.alloc, &statement.text.parts)?;
+    let parts = parts_of(walk.alloc, template.as_str())?;
+    import_by(walk, below, parts.as_slice(), statement, world)
+}
+
+// `@import`
 pub(crate) fn import<W: World, B: Below<W>>(
     walk: &mut Walk,
     below: B,
@@ -94,8 +131,5 @@ pub(crate) fn import<W: World, B: Below<W>>(
     if walk.state.nesting.prefix.is_some() {
         return fails(FaultCode::BadPlace, &statement.span);
     }
-    let text = &statement.text;
-    let template = stopped(template(walk.alloc, &text.parts, &text.span))?;
-    let parts = parts_of(walk.alloc, template.as_str())?;
-    import_by(walk, below, parts.as_slice(), statement, world)
+    sheet_import(walk, below, statement, world)
 }

@@ -9,6 +9,7 @@ mod imports;
 mod includes;
 mod loops;
 mod messages;
+mod names;
 mod places;
 mod styles;
 mod texts;

@@ -1,6 +1,6 @@
 // Where statements stand.
 ghost use Rattle.std.specs.Prelude.{◌≡◌};
-ghost use Rattle.sw_eval_statements.specs.Places.{place_of};
+ghost use Rattle.sw_eval_statements.specs.Places.{place_of, is_css};
 
 use sw_text::Span;
 use sw_tree::Statement;
@@ -37,4 +37,11 @@ pub fn place_of(statement: &Statement) -> &Span
         Statement::AtRule(it) => &it.span,
         Statement::Comment(text) => &text.span,
     }
+}
+
+/// Whether what stands here is in a file of plain CSS, which is read by the extension of its path.
+pub(crate) fn is_css(span: &Span) -> bool
+    ensures { result ≡ is_css span.now }
+{
+    span.file.as_str().ends_with(".css")
 }

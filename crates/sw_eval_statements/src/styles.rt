@@ -1,11 +1,14 @@
 // Rules and declarations.
 ghost use Rattle.sw_eval_walk.specs.Going.{Goes_on};
-ghost use Rattle.sw_eval_statements.specs.Styles.{property, valued, declaration, custom, maybe_valued, nested_block, rule, properties};
+ghost use Rattle.sw_eval_statements.specs.Styles.{property, valued, declaration, custom, maybe_valued, nested_block, rule_opened, rule, properties};
+ghost use Rattle.sw_eval_questions.specs.Did.{IsReturn};
 
 use crate::flow::framed;
+use crate::places::is_css;
 use crate::texts::{raw_text, statement_text};
+use std::alloc::Global;
 use sw_eval_questions::Stop;
-use sw_eval_state::fails;
+use sw_eval_state::{State, fails};
 use sw_eval_walk::{Below, Level, Walk, value_of};
 use sw_scope::FrameKind;
 use sw_text::{FaultCode, Name, Span};
@@ -24,7 +27,7 @@ fn property<W: World, B: Below<W>>(
     ensures { Goes_on W.gives (property (B.values below) it.now) walk.old world.old result walk.new world.new }
 {
     let name = statement_text(walk, below, it, world)?;
-    walk.state.full_name(walk.alloc, name, &it.span)
+    Ok(walk.state.full_name(walk.alloc, name)?)
 }
 
 // A value that is written as a property; the statement stands here.
@@ -118,6 +121,23 @@ pub(crate) fn nested_block<W: World, B: Below<W>>(
     Ok(value)
 }
 
+// Opens a rule whose selectors have this text; in a file of plain CSS they are written as they stand.
+fn open_rule(alloc: Global, state: &mut State, statement: &Rule, text: &Name) -> Result<(), Stop>
+    ensures { IsReturn result state.new (rule_opened statement.now text.now state.old) }
+{
+    if is_css(&statement.span) {
+        let text = text.share()?;
+        return state.enter_plain(text, &statement.span);
+    }
+    state.enter_rule(
+        alloc,
+        false,
+        text,
+        &statement.selector.span,
+        &statement.span,
+    )
+}
+
 // A rule, which doesn't stand among nested properties.
 pub(crate) fn rule<W: World, B: Below<W>>(
     walk: &mut Walk,
@@ -133,13 +153,7 @@ pub(crate) fn rule<W: World, B: Below<W>>(
         return fails(FaultCode::BadPlace, &statement.span);
     }
     let text = statement_text(walk, below, &statement.selector, world)?;
-    walk.state.enter_rule(
-        walk.alloc,
-        false,
-        &text,
-        &statement.selector.span,
-        &statement.span,
-    )?;
+    open_rule(walk.alloc, &mut walk.state, statement, &text)?;
     nested_block(walk, below, statement.block.as_slice(), world)
 }
 

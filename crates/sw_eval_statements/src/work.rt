@@ -101,7 +101,7 @@ fn does_one<W: World, B: Below<W>>(
     }
 }
 
-//// What a statement does, over what evaluates the level below it, if it may stand in the running code's text; a value
+/// What a statement does, over what evaluates the level below it, if it may stand in the running code's text; a value
 /// that it gives ends what is around it. `docs/LANGUAGE.md`, "Evaluation".
 pub fn does_placed<W: World, B: Below<W>>(
     walk: &mut Walk,

@@ -33,29 +33,29 @@ own c = record { site = 0; callable = c }
 -- ---- functions
 
 abbrev pub function_or : Option Callable → List ℕ → Span → Span → Eval Called
-function_or (Some c) name name_at span s = Gives (call.Sheet (own c), s)
-function_or None name name_at span s =
-    bind (finding None K.Function name span s) (λ a. function_by name span name_at a.0.0 a.0.1 a.1)
+function_or (Some c) name name_span span s = Gives (call.Sheet (own c), s)
+function_or None name name_span span s =
+    bind (finding None K.Function name span s) (λ a. function_by name span name_span a.0.0 a.0.1 a.1)
 
 -- a name without a namespace, which stands at the first place; the call stands at the second
 unfoldable pub function_called : List ℕ → Span → Span → Eval Called
-function_called name name_at span s = function_or (own_function (dashed name) s) (dashed name) name_at span s
+function_called name name_span span s = function_or (own_function (dashed name) s) (dashed name) name_span span s
 
 -- a name behind a namespace
 unfoldable pub member_called : Namespaced → List ℕ → Span → Span → Eval Called
-member_called space name name_at span s =
-    if is_private name then Fails (fault C.Private name_at)
+member_called space name name_span span s =
+    if is_private name then Fails (fault C.Private name_span)
     else bind (finding (Some space.name) K.Function (dashed name) span s)
-    (λ a. member_by span name_at space.span a.0.0 a.0.1 a.1)
+    (λ a. member_by span name_span space.span a.0.0 a.0.1 a.1)
 
 abbrev pub plain_called : Option Namespaced → List ℕ → Span → Span → Eval Called
-plain_called None name name_at span s = function_called name name_at span s
-plain_called (Some space) name name_at span s = member_called space name (from_to space.span name_at) span s
+plain_called None name name_span span s = function_called name name_span span s
+plain_called (Some space) name name_span span s = member_called space name (from_to space.span name_span) span s
 
 -- a name in which a value stands is that of a function of CSS
 abbrev pub called_by : Texts → Option Namespaced → Span → Span → Eval Called
-called_by (Parts-F.Plain name) space name_at span s = plain_called space name name_at span s
-called_by (Parts-F.Mixed ps) space name_at span s = Gives (call.Css, s)
+called_by (Parts-F.Plain name) space name_span span s = plain_called space name name_span span s
+called_by (Parts-F.Mixed ps) space name_span span s = Gives (call.Css, s)
 
 -- what a call means that stands here
 unfoldable pub called : Callee → Span → Eval Called

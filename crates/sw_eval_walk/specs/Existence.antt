@@ -6,9 +6,11 @@ use Rattle.sw_text.specs.Names.{is_private}
 use Rattle.sw_text.specs.declared.place.Span.{Span}
 use Rattle.sw_tree.specs.declared.callable.Kind.{Kind}
 use Rattle.sw_tree.specs.declared.callable.Kind.TheVariants as K
+use Rattle.sw_tree.specs.declared.expr.Argument.{Argument}
 use Rattle.sw_values.specs.declared.plain.Plain.{Plain}
 use Rattle.sw_scope.specs.declared.passed.Passed.{Passed}
 use Rattle.sw_scope.specs.Frames.{Variable}
+use Rattle.sw_scope.specs.Passed.{none_passed}
 use Rattle.sw_scope.specs.Scopes.{look_top}
 use Rattle.sw_builtins.specs.declared.built_in.Asked.{Asked}
 use Rattle.sw_builtins.specs.declared.built_in.Asked.TheVariants as A
@@ -16,7 +18,8 @@ use Rattle.sw_builtins.specs.declared.built_in.BuiltIn.{BuiltIn}
 use Rattle.sw_builtins.specs.declared.built_in.BuiltIn.TheVariants as B
 use Rattle.sw_eval_questions.specs.Talk.{Gives, bind}
 use Rattle.sw_eval_questions.specs.Refusals.{answer}
-use Rattle.sw_eval_built_in_calls.specs.BuiltIns.{built_in_arguments, built_in_value}
+use Rattle.sw_eval_calls.specs.Placing.{all_passed}
+use Rattle.sw_eval_built_in_calls.specs.BuiltIns.{built_in_arguments, built_in_call}
 use Rattle.sw_eval_state.specs.Callables.{own_function, own_mixin}
 use Rattle.sw_eval_state.specs.Eval.{Eval}
 use Rattle.sw_eval_state.specs.Existing.{truth, name_in, module_in, exists_by, is_built_in, content_exists}
@@ -78,7 +81,7 @@ asking_call a f p span s =
     bind (answer (built_in_arguments f p span) s)
     (λ vs. bind (asked a vs.0 span vs.1) (λ h. Gives (truth h.0, h.1)))
 
--- what a built-in function gives for the arguments of a call that stands here
-abbrev pub built_in_called : BuiltIn → Passed → Span → Eval Plain
-built_in_called (B.Asked a) p span s = asking_call a (B.Asked a) p span s
-built_in_called f p span s = answer (built_in_value f p span) s
+-- what a built-in function gives for the arguments of a call that stands here, which have these values
+abbrev pub built_in_called : BuiltIn → List Argument → List Plain → Span → Eval Plain
+built_in_called (B.Asked a) args vs span s = asking_call a (B.Asked a) (all_passed none_passed args vs) span s
+built_in_called f args vs span s = answer (built_in_call f args vs span) s

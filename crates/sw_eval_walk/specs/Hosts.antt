@@ -1,6 +1,5 @@
--- Functions of the host, and calls that are written out (the Sass specification on plain CSS functions; that a host is
--- asked is this project's own).
-use Rattle.std.specs.Prelude.{ℕ, List, Option, Some, None}
+-- Functions of the host (that a host is asked is this project's own).
+use Rattle.std.specs.Prelude.{ℕ, List, Option, None}
 use Rattle.sw_text.specs.Names.{dashed}
 use Rattle.sw_text.specs.declared.place.Span.{Span}
 use Rattle.sw_tree.specs.declared.expr.Callee.{Callee}
@@ -11,8 +10,6 @@ use Rattle.sw_world.specs.declared.answer.Answer.{Answer}
 use Rattle.sw_world.specs.declared.answer.Answer.TheVariants.{Hosted}
 use Rattle.sw_eval_questions.specs.Talk.{Calls, Gives, bind}
 use Rattle.sw_eval_questions.specs.Asking.{asking}
-use Rattle.sw_eval_questions.specs.Refusals.{answer}
-use Rattle.sw_eval_calls.specs.CssCalls.{css_call}
 use Rattle.sw_eval_state.specs.Eval.{Eval}
 use Rattle.sw_eval_calls.specs.Layers.{Texts}
 
@@ -29,11 +26,6 @@ abbrev pub hosted_by : Texts → List ℕ → List Plain → Span → Eval (Opti
 hosted_by (Parts-F.Plain text) name vs span s = hosted name vs span s
 hosted_by (Parts-F.Mixed ps) name vs span s = Gives (None, s)
 
-abbrev pub or_written : Option Plain → List ℕ → List Plain → Span → Eval Plain
-or_written (Some v) name vs span s = Gives (v, s)
-or_written None name vs span s = answer (css_call name vs span) s
-
--- the host's function of a name is asked, and without one the call is written out
-unfoldable pub css_value : Callee → List ℕ → List Plain → Span → Eval Plain
-css_value c name vs span s =
-    bind (hosted_by (out-Parts c.name.parts) name vs span s) (λ h. or_written h.0 name vs span h.1)
+-- what the host's function of a call's name gives for these values, where there is one
+unfoldable pub hosted_value : Callee → List ℕ → List Plain → Span → Eval (Option Plain)
+hosted_value c name vs span s = hosted_by (out-Parts c.name.parts) name vs span s

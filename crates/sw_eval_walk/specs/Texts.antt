@@ -1,5 +1,5 @@
 -- Texts of a sheet in which values stand (the Sass specification on interpolation).
-use Rattle.std.specs.Prelude.{true, ℕ, false, List, [], ◌∷◌, ◌++◌}
+use Rattle.std.specs.Prelude.{true, ℕ, false, List, [], ◌∷◌, ◌++◌, Ok}
 use Rattle.sw_text.specs.declared.place.Span.{Span}
 use Rattle.sw_tree.specs.declared.expr.Expr.{Expr}
 use Rattle.sw_tree.specs.declared.text.Parts.{Parts, out-Parts}
@@ -9,7 +9,7 @@ use Rattle.sw_values.specs.declared.plain.Plain.{Plain}
 use Rattle.sw_eval_literals.specs.declared.quotients.Parens.{Parens}
 use Rattle.sw_eval_literals.specs.Answers.{Answer}
 use Rattle.sw_eval_literals.specs.Quotients.{deeper, plain_at}
-use Rattle.sw_eval_literals.specs.Texts.{inserted, css_text, joined}
+use Rattle.sw_eval_literals.specs.Texts.{inserted, css_text, all_pieces, joined}
 use Rattle.sw_eval_calls.specs.Layers.{Texts, Pieces}
 use Rattle.sw_eval_questions.specs.Talk.{Gives, bind}
 use Rattle.sw_eval_questions.specs.Refusals.{answer}
@@ -22,6 +22,11 @@ use Rattle.sw_eval_walk.specs.declared.texts.TextKind.TheVariants as K
 abbrev pub spelled : TextKind → Plain → Span → Answer (List ℕ)
 spelled K.Expression v span = inserted v span
 spelled K.Sheet v span = css_text false v span
+
+-- the pieces behind one another; a text of an expression is a value, which has a limit
+abbrev pub assembled : TextKind → List (List ℕ) → Span → Answer (List ℕ)
+assembled K.Expression texts span = joined texts span
+assembled K.Sheet texts span = Ok (all_pieces texts)
 
 -- `value` is the level below
 module _ (value : Parens → Expr → Eval Plain) where
@@ -48,7 +53,7 @@ module _ (value : Parens → Expr → Eval Plain) where
 
   -- a text that is made of pieces, and stands here
   unfoldable pub mixed : TextKind → Parens → List Piece → Span → Eval (List ℕ)
-  mixed kind parens ps span s = bind (pieces kind parens ps [] s) (λ ts. answer (joined ts.0 span) ts.1)
+  mixed kind parens ps span s = bind (pieces kind parens ps [] s) (λ ts. answer (assembled kind ts.0 span) ts.1)
 
   abbrev pub text_by : TextKind → Parens → Texts → Span → Eval (List ℕ)
   text_by kind parens (Parts-F.Plain text) span s = Gives (text, s)

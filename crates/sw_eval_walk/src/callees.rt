@@ -26,11 +26,11 @@ impl Walk {
     fn function_called<W: World>(
         &mut self,
         name: &Name,
-        name_at: &Span,
+        name_span: &Span,
         span: &Span,
         world: &mut W,
     ) -> Result<Called, Stop>
-        ensures { Goes_on W.gives (function_called name.now name_at.now span.now) self.old world.old result self.new
+        ensures { Goes_on W.gives (function_called name.now name_span.now span.now) self.old world.old result self.new
             world.new }
     {
         let name = Name::dashed(self.alloc, name.as_str())?;
@@ -39,7 +39,7 @@ impl Walk {
             return Ok(Called::Sheet(Found { site: 0, callable }));
         }
         let a = self.find(None, Kind::Function, &name, span, world)?;
-        function_by(&name, span, name_at, a.0, a.1)
+        function_by(&name, span, name_span, a.0, a.1)
     }
 
     // A name behind a namespace.
@@ -47,37 +47,37 @@ impl Walk {
         &mut self,
         space: &Namespaced,
         name: &Name,
-        name_at: &Span,
+        name_span: &Span,
         span: &Span,
         world: &mut W,
     ) -> Result<Called, Stop>
-        ensures { Goes_on W.gives (member_called space.now name.now name_at.now span.now) self.old world.old result
+        ensures { Goes_on W.gives (member_called space.now name.now name_span.now span.now) self.old world.old result
             self.new world.new }
     {
         if name.is_private() {
-            return fails(FaultCode::Private, name_at);
+            return fails(FaultCode::Private, name_span);
         }
         let name = Name::dashed(self.alloc, name.as_str())?;
         let space_name = space.name.share()?;
         let a = self.find(Some(space_name), Kind::Function, &name, span, world)?;
-        member_by(span, name_at, &space.span, a.0, a.1)
+        member_by(span, name_span, &space.span, a.0, a.1)
     }
 
     fn plain_called<W: World>(
         &mut self,
         space: &Option<Namespaced>,
         name: &Name,
-        name_at: &Span,
+        name_span: &Span,
         span: &Span,
         world: &mut W,
     ) -> Result<Called, Stop>
-        ensures { Goes_on W.gives (plain_called space.now name.now name_at.now span.now) self.old world.old result
+        ensures { Goes_on W.gives (plain_called space.now name.now name_span.now span.now) self.old world.old result
             self.new world.new }
     {
         match space {
-            None => self.function_called(name, name_at, span, world),
+            None => self.function_called(name, name_span, span, world),
             Some(space) => {
-                let whole = from_to(&space.span, name_at)?;
+                let whole = from_to(&space.span, name_span)?;
                 self.member_called(space, name, &whole, span, world)
             }
         }

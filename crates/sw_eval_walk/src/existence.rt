@@ -2,16 +2,17 @@
 ghost use Rattle.std.specs.Prelude.{◌≡◌, ◌||◌};
 ghost use Rattle.sw_eval_state.specs.Existing.{is_built_in};
 ghost use Rattle.sw_eval_walk.specs.Going.{Goes_on};
-ghost use Rattle.sw_eval_walk.specs.Existence.{exists, member_exists, variable_exists, global_exists, mixin_exists, function_exists, kind_exists, asked_of, asked, built_in_called};
+ghost use Rattle.sw_eval_walk.specs.Existence.{exists, member_exists, variable_exists, global_exists, mixin_exists, function_exists, kind_exists, asked_of, asked, asking_call, built_in_called};
 
 use crate::walk::Walk;
 use sw_builtins::{Asked, BuiltIn};
-use sw_eval_built_in_calls::{built_in_arguments, built_in_value};
+use sw_eval_built_in_calls::{built_in_arguments, built_in_call};
+use sw_eval_calls::all_passed;
 use sw_eval_questions::{Stop, stopped};
 use sw_eval_state::{exists_by, is_built_in, module_in, name_in, truth};
 use sw_scope::Passed;
 use sw_text::{Name, Span};
-use sw_tree::Kind;
+use sw_tree::{Argument, Kind};
 use sw_values::Value;
 use sw_world::World;
 
@@ -168,25 +169,43 @@ impl Walk {
         }
     }
 
-    /// The value, without sides; a function that asks what exists gives a truth. What is wrong in the arguments is a
-    /// fault at `span` (docs/LANGUAGE.md, Functions).
-    pub fn built_in_called<W: World>(
+    // A function that asks what exists gives a truth.
+    fn asking_call<W: World>(
         &mut self,
+        asked: Asked,
         function: BuiltIn,
         passed: &Passed,
         span: &Span,
         world: &mut W,
     ) -> Result<Value, Stop>
-        ensures { Goes_on W.gives (built_in_called function passed.now span.now) self.old world.old result self.new
+        ensures { Goes_on W.gives (asking_call asked function passed.now span.now) self.old world.old result self.new
             world.new }
+    {
+        let arguments = stopped(built_in_arguments(self.alloc, function, passed, span))?;
+        let holds = self.asked(asked, arguments.as_slice(), span, world)?;
+        Ok(truth(holds))
+    }
+
+    /// The value for arguments that have these values, without sides; a function that asks what exists gives a truth.
+    /// What is wrong in the arguments is a fault at `span`, but what can't be written in CSS at its argument
+    /// (docs/LANGUAGE.md, Functions).
+    pub fn built_in_called<W: World>(
+        &mut self,
+        function: BuiltIn,
+        arguments: &[Argument],
+        values: &[Value],
+        span: &Span,
+        world: &mut W,
+    ) -> Result<Value, Stop>
+        ensures { Goes_on W.gives (built_in_called function arguments.now values.now span.now) self.old world.old
+            result self.new world.new }
     {
         match function {
             BuiltIn::Asked(asked) => {
-                let arguments = stopped(built_in_arguments(self.alloc, function, passed, span))?;
-                let holds = self.asked(asked, arguments.as_slice(), span, world)?;
-                Ok(truth(holds))
+                let passed = all_passed(self.alloc, arguments, values)?;
+                self.asking_call(asked, function, &passed, span, world)
             }
-            _ => stopped(built_in_value(self.alloc, function, passed, span)),
+            _ => stopped(built_in_call(self.alloc, function, arguments, values, span)),
         }
     }
 }

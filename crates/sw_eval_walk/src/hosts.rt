@@ -1,11 +1,10 @@
-// Functions of the host, and calls that are written out.
+// Functions of the host.
 ghost use Rattle.sw_tree.specs.declared.text.Parts.{out-Parts};
 ghost use Rattle.sw_eval_walk.specs.Going.{Goes_on};
-ghost use Rattle.sw_eval_walk.specs.Hosts.{hosted, hosted_by, css_value};
+ghost use Rattle.sw_eval_walk.specs.Hosts.{hosted, hosted_by, hosted_value};
 
 use crate::walk::Walk;
-use sw_eval_calls::css_call;
-use sw_eval_questions::{Stop, stopped};
+use sw_eval_questions::Stop;
 use sw_text::{List, Name, Shared, Span};
 use sw_tree::{Callee, Parts};
 use sw_values::Value;
@@ -48,23 +47,20 @@ impl Walk {
         }
     }
 
-    /// What the host's function gives for the values, or without one the call as an unquoted string. A name with `#{}`
-    /// is no host's, and isn't asked for.
-    pub fn css_value<W: World>(
+    /// What the host's function gives for the values, where there is one. A name with `#{}` is no host's, and isn't asked
+    /// for.
+    pub fn hosted_value<W: World>(
         &mut self,
         callee: &Callee,
-        name: Name,
+        name: &Name,
         values: List<Value>,
         span: &Span,
         world: &mut W,
-    ) -> Result<Value, Stop>
-        ensures { Goes_on W.gives (css_value callee.now name values span.now) self.old world.old result self.new
+    ) -> Result<Option<Value>, Stop>
+        ensures { Goes_on W.gives (hosted_value callee.now name.now values span.now) self.old world.old result self.new
             world.new }
     {
         let values = Shared::new(self.alloc, values)?;
-        if let Some(value) = self.hosted_by(&callee.name.parts, &name, &values, span, world)? {
-            return Ok(value);
-        }
-        stopped(css_call(self.alloc, name, values.get().as_slice(), span))
+        self.hosted_by(&callee.name.parts, name, &values, span, world)
     }
 }

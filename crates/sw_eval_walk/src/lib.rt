@@ -13,7 +13,7 @@ mod look;
 mod texts;
 mod walk;
 
-pub use arguments::arguments_of;
+pub use arguments::{argument_values, arguments_of};
 pub use below::{Below, Body};
 pub use level::{Level, value_of};
 pub use texts::{TextKind, mixed, pieces, plain_value, text};

@@ -2,13 +2,13 @@
 ghost use Rattle.std.specs.Prelude.{[]};
 ghost use Rattle.sw_eval_literals.specs.Answers.{Returns};
 ghost use Rattle.sw_eval_walk.specs.Going.{Goes_on};
-ghost use Rattle.sw_eval_walk.specs.Texts.{spelled, spelled_value, plain_spelled, piece, pieces, mixed, text, plain_value};
+ghost use Rattle.sw_eval_walk.specs.Texts.{spelled, spelled_value, plain_spelled, piece, pieces, assembled, mixed, text, plain_value};
 
 use crate::below::Below;
 use crate::level::{Level, value_of};
 use crate::walk::Walk;
 use std::alloc::Global;
-use sw_eval_literals::{Refused, css_text, inserted, into_plain_at, joined};
+use sw_eval_literals::{Refused, css_text, inserted, into_plain_at, joined, whole_text};
 use sw_eval_questions::{Stop, stopped};
 use sw_text::{List, Name, Span};
 use sw_tree::{Expr, Parts, Piece};
@@ -20,7 +20,7 @@ use sw_world::World;
 pub enum TextKind {
     /// A string, a word or a url of an expression.
     Expression,
-    /// A selector, a name, or a text that is kept as it is.
+    /// A selector, a name, or a text that is kept as it is: it is no value, and may be of any length.
     Sheet,
 }
 
@@ -102,6 +102,16 @@ pub fn pieces<W: World, B: Below<W>>(
     Ok(done)
 }
 
+// The pieces behind one another; a text of an expression is a value, which has a limit.
+fn assembled(alloc: Global, kind: TextKind, texts: &[Name], span: &Span) -> Result<Name, Refused>
+    ensures { Returns result (assembled kind texts.now span.now) }
+{
+    match kind {
+        TextKind::Expression => joined(alloc, texts, span),
+        TextKind::Sheet => Ok(whole_text(alloc, texts)?),
+    }
+}
+
 /// A text that is made of pieces.
 pub fn mixed<W: World, B: Below<W>>(
     walk: &mut Walk,
@@ -116,7 +126,7 @@ pub fn mixed<W: World, B: Below<W>>(
         result walk.new world.new }
 {
     let texts = pieces(walk, level, kind, all, world)?;
-    stopped(joined(walk.alloc, texts.as_slice(), span))
+    stopped(assembled(walk.alloc, kind, texts.as_slice(), span))
 }
 
 /// A text, with the values in it.

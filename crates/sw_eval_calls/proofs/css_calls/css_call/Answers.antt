@@ -1,20 +1,10 @@
 use Rattle.sw_eval_calls.specs.CssCalls.{css_call}
-use Rattle.sw_eval_calls.proofs.Answering.{refused_then, without_memory}
+use Rattle.sw_eval_calls.proofs.Answering.{without_memory}
 use Rattle.sw_eval_calls.proofs.css_calls.css_call.Goals as goal
 
-pub returns-in_err-arguments : goal.returns-in_err-arguments
-unfolding css_call
-returns-in_err-arguments c = refused_then _ _ _ _ c.in_err-arguments.ensures c.from_residual.ensures
-
-pub returns-in_err-pieces : goal.returns-in_err-pieces
-returns-in_err-pieces c = without_memory _ _ c.from_residual-in_err-pieces.ensures
-
-pub returns-in_err-text : goal.returns-in_err-text
-unfolding css_call
-returns-in_err-text c =
-    rw (c.in_ok-arguments.ensures, ← c.as_slice.ensures, ← c.in_ok-pieces.ensures, ← c.as_slice-2.ensures) (refused_then _ _ _ _ c.in_err-text.ensures c.from_residual-in_err-text.ensures)
+pub returns-in_err-passed : goal.returns-in_err-passed
+returns-in_err-passed c = without_memory _ _ c.from_residual.ensures
 
 pub returns : goal.returns
 unfolding css_call
-returns c =
-    rw (c.in_ok-arguments.ensures, ← c.as_slice.ensures, ← c.in_ok-pieces.ensures, ← c.as_slice-2.ensures, c.in_ok-text.ensures) c.string_value.ensures
+returns c = c.at_argument.ensures _ (rw (c.as_slice.ensures, c.in_ok-passed.ensures) at c.written_call-written.ensures)

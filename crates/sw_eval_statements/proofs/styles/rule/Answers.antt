@@ -12,12 +12,12 @@ unfolding rule
 returns-in_err-text g c =
     rw (← c.is_some.ensures, c.if-is_some.false) (did_err _ c.in_err-text.ensures c.from_residual.ensures)
 
-pub returns-in_err-enter_rule : goal.returns-in_err-enter_rule
+pub returns-in_err-open_rule : goal.returns-in_err-open_rule
 unfolding rule
-returns-in_err-enter_rule g c =
-    rw (← c.is_some.ensures, c.if-is_some.false) (did_then _ c.in_ok-text.ensures (did_err _ (did_plain _ _ _ _ _ c.in_err-enter_rule.ensures) c.from_residual-in_err-enter_rule.ensures))
+returns-in_err-open_rule g c =
+    rw (← c.is_some.ensures, c.if-is_some.false) (did_then _ c.in_ok-text.ensures (did_err _ (did_plain _ _ _ _ _ c.in_err-open_rule.ensures) c.from_residual-in_err-open_rule.ensures))
 
 pub returns : goal.returns
 unfolding rule
 returns g c =
-    rw (← c.is_some.ensures, c.if-is_some.false) (did_then _ c.in_ok-text.ensures (did_then _ (did_plain _ _ _ _ _ c.in_ok-enter_rule.ensures) (rw c.as_slice.ensures at c.nested_block.ensures)))
+    rw (← c.is_some.ensures, c.if-is_some.false) (did_then _ c.in_ok-text.ensures (did_then _ (did_plain _ _ _ _ _ c.in_ok-open_rule.ensures) (rw c.as_slice.ensures at c.nested_block.ensures)))

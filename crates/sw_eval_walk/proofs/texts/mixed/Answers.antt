@@ -11,4 +11,4 @@ returns-in_err-texts g c =
 pub returns : goal.returns
 unfolding mixed
 returns g c =
-    did_then _ c.in_ok-texts.ensures (did_stopped _ _ _ c.pieces.new.walk.state _ _ (rw c.as_slice.ensures at c.joined.ensures) c.stopped.ensures)
+    did_then _ c.in_ok-texts.ensures (did_stopped _ _ _ c.pieces.new.walk.state _ _ (rw c.as_slice.ensures at c.assembled.ensures) c.stopped.ensures)

@@ -10,4 +10,4 @@ returns-in_err-a g c =
 pub returns : goal.returns
 unfolding owner_of
 returns g c =
-    did_then _ c.in_ok-a.ensures.did (did_plain _ c.find.new.self.state _ _ _ (c.owner.ensures c.find.new.self.state))
+    did_then _ c.in_ok-a.ensures.did (did_plain _ c.find.new.self.state _ _ _ (c.named_owner.ensures c.find.new.self.state))
