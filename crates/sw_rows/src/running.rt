@@ -1,16 +1,15 @@
 // One run of a row.
 ghost use Rattle.std.specs.Prelude.{◌≤◌};
 
+use crate::hosts::hosts_of;
 use std::alloc::{AllocError, Global};
 use sw_cmd_protocol::Output;
 use sw_cmd_run::{Surroundings, run};
 use sw_eval::Evaluator;
-use sw_hosts::{Counter, First, HostFn, HostTable};
 use sw_hub::{Hub, MemReporter};
 use sw_io::{MemDisk, MemSink, MemSource};
 use sw_rows_sessions::{
-    Ending, Failing, Heard, HostKind, Object, Row, disk_of, failing_calls, heard_by, hub_with,
-    looked_at,
+    Ending, Failing, Heard, Object, Row, disk_of, failing_calls, heard_by, hub_with, looked_at,
 };
 use sw_text::List;
 
@@ -33,17 +32,7 @@ pub fn ended(
 ) -> Result<Run, AllocError>
     requires { 1 ≤ most }
 {
-    let mut hosts: HostTable<Box<dyn HostFn>> = HostTable::new(alloc);
-    for host in row.hosts.iter() {
-        let name = host.name.as_str();
-        let attached = match host.kind {
-            HostKind::Counter => hosts.attach(alloc, name, Box::new(alloc, Counter::new())?),
-            HostKind::First => hosts.attach(alloc, name, Box::new(alloc, First)?),
-        };
-        if attached.is_err() {
-            return Err(AllocError);
-        }
-    }
+    let hosts = hosts_of(alloc, row)?;
     let mut around = around_row(alloc, row, most, failing, hosts)?;
     let mut engine = Evaluator::new(alloc);
     let status = run(alloc, &row.words, &mut around, &mut engine);

@@ -8,6 +8,8 @@ pub enum HostKind {
     Counter,
     /// It answers its first argument.
     First,
+    /// It never finds memory.
+    Failing,
 }
 
 /// A function of the host: the name under which it is attached, and what it does.
@@ -18,13 +20,13 @@ pub struct RowHost {
 }
 
 impl RowHost {
-    /// A text `NAME first`, or `NAME` and any other word for a counter.
+    /// A text `NAME first` or `NAME failing`, or `NAME` and any other word for a counter.
     pub fn read(alloc: Global, text: &str) -> Result<RowHost, AllocError> {
         let (name, word) = text.split_once(' ').unwrap_or((text, ""));
-        let kind = if word == "first" {
-            HostKind::First
-        } else {
-            HostKind::Counter
+        let kind = match word {
+            "first" => HostKind::First,
+            "failing" => HostKind::Failing,
+            _ => HostKind::Counter,
         };
         Ok(RowHost {
             name: String::from_str(alloc, name)?,

@@ -24,6 +24,13 @@ struct Mark {
     replied: usize,
 }
 
+/// A function of the host that is detached, and behind how many requests.
+#[derive(Drop)]
+pub struct Detached {
+    pub behind: usize,
+    pub name: String,
+}
+
 /// A file of a folder on a disk.
 #[derive(Drop)]
 pub struct File {
@@ -50,6 +57,8 @@ pub struct Row {
     pub sink_fails: Vec<u32>,
     /// The functions of the host, in order of attaching.
     pub hosts: Vec<RowHost>,
+    /// Those of them that are detached between requests.
+    pub detached: Vec<Detached>,
     /// Those who are told of the replies.
     pub listeners: Vec<Listener>,
     /// Whether each call of each object fails in turn.
@@ -77,6 +86,7 @@ impl Row {
             disk_fails: Vec::new(alloc),
             sink_fails: Vec::new(alloc),
             hosts: Vec::new(alloc),
+            detached: Vec::new(alloc),
             listeners: Vec::new(alloc),
             breaks: false,
             is_wrong: false,
@@ -110,6 +120,34 @@ impl Row {
             replied: self.wanted.len(),
         })?;
         Ok(())
+    }
+
+    /// Detaches a function of the host behind the requests that were sent so far.
+    pub fn detach(&mut self, alloc: Global, name: &str) -> Result<(), AllocError> {
+        self.detached.push(Detached {
+            behind: self.marks.len(),
+            name: String::from_str(alloc, name)?,
+        })?;
+        Ok(())
+    }
+
+    /// How many requests have their reply.
+    pub fn requests(&self) -> usize {
+        self.marks.len()
+    }
+
+    /// What is sent of a request that has its reply, by its number from 0.
+    pub fn request(&self, number: usize) -> &[u8] {
+        let start = match number.checked_sub(1) {
+            Some(before) => self.sent_with(before),
+            None => 0,
+        };
+        self.sent.get(start..self.sent_with(number)).unwrap_or(&[])
+    }
+
+    // How much is sent when the request with this number has been.
+    fn sent_with(&self, number: usize) -> usize {
+        self.marks.get(number).map_or(0, |mark| mark.sent)
     }
 
     /// The replies to the requests that stand whole in so many bytes of the script.

@@ -40,6 +40,7 @@ fn add_step(alloc: Global, row: &mut Row, head: &str, body: &str) -> Result<(), 
             row.hosts.push(RowHost::read(alloc, rest)?)?;
             Ok(())
         }
+        "detach" => row.detach(alloc, rest),
         "reporter" => {
             row.listeners.push(Listener::read(alloc, rest)?)?;
             Ok(())
