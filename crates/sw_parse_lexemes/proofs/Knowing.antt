@@ -91,7 +91,7 @@ opened_known state terminal None o = closing (is terminal terminals.InsertEnd) r
     }
     closing false a false c = record { start = refl; from_word = λ e. word_ends terminal e; in_word = λ e. e }
 
-after_known : (state : State) (terminal : Terminal) → Known (after state terminal)
+pub after_known : (state : State) (terminal : Terminal) → Known (after state terminal)
 unfolding after
 after_known state terminal = opened_known state terminal (opened_by terminal) refl
 
@@ -108,15 +108,15 @@ opened_before state terminal None = closing (is terminal terminals.InsertEnd) (c
     closing false true = refl
     closing false false = refl
 
-after_before : (state : State) (terminal : Terminal) → (after state terminal).before ≡ terminal
+pub after_before : (state : State) (terminal : Terminal) → (after state terminal).before ≡ terminal
 unfolding after
 after_before state terminal = opened_before state terminal (opened_by terminal)
 
-white_known : (state : State) (sort : Sort) → Known state → Known (past_white state sort)
+pub white_known : (state : State) (sort : Sort) → Known state → Known (past_white state sort)
 unfolding past_white
 white_known state sort known = record { start = known.start; from_word = known.from_word; in_word = known.in_word }
 
-is_placed : (plains : List Plain) (at : ℕ) (state : State) → Known state → Placed plains at state (placed state plains at)
+pub is_placed : (plains : List Plain) (at : ℕ) (state : State) → Known state → Placed plains at state (placed state plains at)
 unfolding placed
 is_placed plains at state known = starting state.start refl
   where

@@ -7,6 +7,7 @@ mod Examples
 pub mod Firsts
 pub mod Passing
 mod Turns
+mod Around
 pub mod Knowing
 mod Laws
 pub mod NameLaws

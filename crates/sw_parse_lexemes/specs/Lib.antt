@@ -12,4 +12,5 @@ pub mod Terminals
 pub mod Steps
 pub mod Lexemes
 pub mod Turns
+pub mod Around
 pub mod Laws

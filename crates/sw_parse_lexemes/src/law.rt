@@ -2,6 +2,7 @@
 ghost use Rattle.std.specs.Prelude.{ℕ, List};
 ghost use Rattle.sw_tokens.specs.declared.token.Token.{Token};
 ghost use Rattle.sw_parse_lexemes.specs.Laws.{SignsAreByNeighbours, StatementsAreByColon, WordsAreByNeighbours};
+ghost use Rattle.sw_parse_lexemes.specs.Around.{TextIsByWhatIsAround};
 ghost use Rattle.sw_parse_lexemes.specs.Turns.{SeenInTurn};
 
 /// A law: the grammar sees each token once, and in their order, but for comments that are white space: what is left out
@@ -29,4 +30,12 @@ pub fn statements_are_told_by_their_colon()
 /// says ("The grammar").
 pub fn words_are_told_by_their_neighbours()
     ensures { (bytes : List ℕ) (tokens : List Token) → WordsAreByNeighbours bytes tokens }
+{}
+
+/// A law: a sign is text by what is open around it and by how its statement is read, as docs/LANGUAGE.md says ("Raw text",
+/// "Special text"): in the parentheses of a text it is, in all other brackets of values and in `#{}` it isn't, in the other
+/// brackets of a text it is as around them, and outside brackets as the form of its statement says, in a custom property
+/// behind the `:`. A `$` that isn't text begins a name with a value exactly where a `:` stands behind the name.
+pub fn text_is_told_by_what_is_around()
+    ensures { (bytes : List ℕ) (tokens : List Token) → TextIsByWhatIsAround bytes tokens }
 {}

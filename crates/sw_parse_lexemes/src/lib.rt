@@ -22,7 +22,7 @@ mod words;
 
 pub use law::{
     signs_are_told_by_their_neighbours, statements_are_told_by_their_colon,
-    tokens_are_seen_in_turn, words_are_told_by_their_neighbours,
+    text_is_told_by_what_is_around, tokens_are_seen_in_turn, words_are_told_by_their_neighbours,
 };
 pub use lexemes::{lexemes_of, value_lexemes_of};
 pub use plain::Plain;
