@@ -58,14 +58,14 @@ kept_begins : (at end : ℕ) (o : Option TokenKind) → at < end → Renames o
 kept_begins at end None l r = elim r [ ]
 kept_begins at end (Some kind) l (to e) = record { first = (refl, long_own kind at end l); plain = e }
 
-none_open : (os : List Opened) → (length os == 0) ≡ true → os ≡ []
+pub none_open : (os : List Opened) → (length os == 0) ≡ true → os ≡ []
 none_open [] e = refl
 none_open (o ∷ os) e = absurd (some (length os) e)
   where
     some : (n : ℕ) → (suc n == 0) ≡ true → ⊥
     some n e = grind (arith, nat_tests)
 
-top_ground : top syntaxes.Scss [] ≡ insides.Sheet
+pub top_ground : top syntaxes.Scss [] ≡ insides.Sheet
 unfolding top
 top_ground = refl
 

@@ -45,7 +45,7 @@ use Rattle.sw_parse_layout.proofs.Endings.{start_stands}
 use Rattle.sw_parse_layout.proofs.Gaps.{comment_text, gap_both, fills_both, fills_on, one_white, broken, blanks, break_gap, trimmed_gap, piece_gap}
 
 -- what a kind is renamed to
-data Renamed : Option TokenKind → Option TokenKind → Type 0 where
+pub data Renamed : Option TokenKind → Option TokenKind → Type 0 where
   none : Renamed None None
   some : {kind : TokenKind} {o : Option TokenKind} → IsKind kind o → Renamed (Some kind) o
 
@@ -59,7 +59,7 @@ fresh (Some kinds.Equals) = some (mixin refl)
 fresh (Some kinds.Plus) = some (included refl)
 fresh (Some _) = some same
 
-renames : (sort : Sort) (o : Option TokenKind) → Renamed (renamed sort o) o
+pub renames : (sort : Sort) (o : Option TokenKind) → Renamed (renamed sort o) o
 renames sorts.Fresh o = fresh o
 renames sorts.Minus o = keeps o
 renames sorts.Named o = keeps o

@@ -12,6 +12,7 @@ use Rattle.sw_tokens.specs.declared.skips.Inside.TheVariants as insides
 use Rattle.sw_tokens.specs.declared.token.TokenKind.{TokenKind}
 use Rattle.sw_tokens.specs.declared.token.Token.{Token}
 use Rattle.sw_tokens.specs.declared.pieces.Before.{Before}
+use Rattle.sw_tokens.specs.declared.pieces.Change.TheVariants as changes
 use Rattle.sw_tokens.specs.declared.pieces.Piece.{Piece}
 use Rattle.sw_tokens.specs.Pieces.{text_piece, url_piece, comment_piece, loud_piece, in_interpolation, code_piece, css_quote, css_loud, css_piece, piece}
 use Rattle.sw_text_scan.proofs.Bounds.{and_right}
@@ -162,7 +163,7 @@ module _ (bs : List ℕ) where
   pub data Quiet (at : ℕ) : Option Piece → Type 0 where
     loud : {o : Option Piece} → Tells o → Quiet at o
     kind : {p : Piece} (k : TokenKind) → p.token ≡ Some k → Quiet at (Some p)
-    gap : {p : Piece} → Gap bs at p.to → Quiet at (Some p)
+    gap : {p : Piece} → Gap bs at p.to → p.change ≡ changes.Keep → Quiet at (Some p)
     none : Quiet at None
 
   module _ (at : ℕ) where
@@ -179,7 +180,7 @@ module _ (bs : List ℕ) where
         either (Quiet at) (byte bs at == sign ")") _ _ (λ _. kind _ refl)
         (λ _. either (Quiet at) (opens_at bs at) _ _ (λ _. kind _ refl)
         (λ _. either (Quiet at) (nat_lt at (run_end class bs at)) _ _ (λ _. kind _ refl)
-        (λ _. either (Quiet at) (is_white (byte bs at)) _ _ (λ _. gap (whites at)) (λ _. none))))
+        (λ _. either (Quiet at) (is_white (byte bs at)) _ _ (λ _. gap (whites at) refl) (λ _. none))))
 
     comments : Quiet at (comment_piece bs at)
     unfolding comment_piece
@@ -196,11 +197,11 @@ module _ (bs : List ℕ) where
     codes : (top : Inside) (before : Before) → Quiet at (code_piece bs top before at)
     unfolding code_piece
     codes top before =
-        either (Quiet at) (is_white (byte bs at)) _ _ (λ _. gap (whites at))
+        either (Quiet at) (is_white (byte bs at)) _ _ (λ _. gap (whites at) refl)
         (λ _. either (Quiet at) (is_quote (byte bs at)) _ _ (λ _. loud (quotes bs at (byte bs at)))
         (λ _. either (Quiet at) (opens_at bs at) _ _ (λ _. kind _ refl)
         (λ _. either (Quiet at) ((byte bs at == sign "}") && in_interpolation top) _ _ (λ _. kind _ refl)
-        (λ _. either (Quiet at) (begins_silent bs at) _ _ (λ m. gap (comment (silent m) nothing))
+        (λ _. either (Quiet at) (begins_silent bs at) _ _ (λ m. gap (comment (silent m) nothing) refl)
         (λ _. either (Quiet at) (begins_loud bs at) _ _ (λ _. louds) (λ _. loud (word_tells bs at top before)))))))
 
     css_quotes : (q : ℕ) → Quiet at (css_quote bs q at)
@@ -216,7 +217,7 @@ module _ (bs : List ℕ) where
     plain_codes : (before : Before) → Quiet at (css_piece bs before at)
     unfolding css_piece
     plain_codes before =
-        either (Quiet at) (is_white (byte bs at)) _ _ (λ _. gap (whites at))
+        either (Quiet at) (is_white (byte bs at)) _ _ (λ _. gap (whites at) refl)
         (λ _. either (Quiet at) (is_quote (byte bs at)) _ _ (λ _. css_quotes (byte bs at))
         (λ _. either (Quiet at) (opens_at bs at) _ _ (λ _. kind _ refl)
         (λ _. either (Quiet at) (begins_silent bs at) _ _ (λ _. kind _ refl)
@@ -239,8 +240,17 @@ module _ (bs : List ℕ) where
   quiet_gap : (at : ℕ) (p : Piece) → Quiet at (Some p) → p.token ≡ None → Gap bs at p.to
   quiet_gap at p (loud (telling k e dark)) n = absurd (told_none p.token k n e)
   quiet_gap at p (kind k e) n = absurd (told_none p.token k n e)
-  quiet_gap at p (gap g) n = g
+  quiet_gap at p (gap g k) n = g
 
   pub piece_gap : (at : ℕ) (top : Inside) (before : Before) (p : Piece) → piece bs top before at ≡ Some p
       → p.token ≡ None → Gap bs at p.to
   piece_gap at top before p e n = quiet_gap at p (subst (Quiet at) e (quiet at top before)) n
+
+  quiet_keeps : (at : ℕ) (p : Piece) → Quiet at (Some p) → p.token ≡ None → p.change ≡ changes.Keep
+  quiet_keeps at p (loud (telling k e dark)) n = absurd (told_none p.token k n e)
+  quiet_keeps at p (kind k e) n = absurd (told_none p.token k n e)
+  quiet_keeps at p (gap g k) n = k
+
+  pub piece_keeps : (at : ℕ) (top : Inside) (before : Before) (p : Piece) → piece bs top before at ≡ Some p
+      → p.token ≡ None → p.change ≡ changes.Keep
+  piece_keeps at top before p e n = quiet_keeps at p (subst (Quiet at) e (quiet at top before)) n

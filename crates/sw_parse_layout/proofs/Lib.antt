@@ -17,3 +17,5 @@ pub mod Alike
 pub mod Gaps
 pub mod Filling
 pub mod Filled
+pub mod Spanning
+pub mod Spanned

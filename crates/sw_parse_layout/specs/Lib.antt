@@ -9,3 +9,4 @@ pub mod Layout
 pub mod Faults
 pub mod Laws
 pub mod LawsOfText
+pub mod LawsOfLines

@@ -14,4 +14,4 @@ mod steps;
 mod walk;
 
 pub use reader::tokens_of;
-pub use walk::{LayoutEnd, Place, layout, walks_come_to_an_end};
+pub use walk::{LayoutEnd, Place, layout, statements_end_with_their_lines, walks_come_to_an_end};

@@ -7,6 +7,7 @@ ghost use Rattle.sw_parse_layout.specs.Layout.{walk, comment_end_sign, last_toke
 ghost use Rattle.sw_tokens.specs.Order.{InOrder};
 ghost use Rattle.sw_parse_layout.specs.Laws.{Statements};
 ghost use Rattle.sw_parse_layout.specs.LawsOfText.{Fills};
+ghost use Rattle.sw_parse_layout.specs.LawsOfLines.{Lines, between};
 
 use crate::blocks::{Blocks, due_sign, shut_blocks};
 use crate::laid::{Laid, both, joined, nothing, told_token};
@@ -205,6 +206,15 @@ fn place_of(end: StepEnd) -> LayoutEnd
 pub fn walks_come_to_an_end(text: &str)
     ensures { (steps : ℕ) → 2 * length text.now ≤ steps
         → walk text.now steps (start_at (mark_length text.now)) ≡ laid_of text.now }
+{
+    let _end = text.len();
+}
+
+/// A law: over the end of a line a statement goes on in strings, urls, brackets and `#{}`, and behind a comma of a
+/// selector, and nowhere else, as docs/LANGUAGE.md says ("Over lines"). So each line that isn't blank is a statement of
+/// its own, but for those that go on and the lines of comments.
+pub fn statements_end_with_their_lines(text: &str)
+    ensures { IfOk (layout text.now) (λ tokens. Lines text.now between tokens) }
 {
     let _end = text.len();
 }
