@@ -1,8 +1,6 @@
 // A session over a keeper at hand, between whose requests functions of the host are detached: no request does so.
-use crate::hosts::hosts_of;
 use std::alloc::{AllocError, Global};
 use sw_cmd_session::SheetReader;
-use sw_eval::Evaluator;
 use sw_hosts::{HostFn, HostTable};
 use sw_keeper::Keeper;
 use sw_rows_sessions::{Ending, Row};
@@ -11,23 +9,12 @@ use sw_wire::{Request, edit_reply, memory_reply, read_request, write_reply};
 use sw_world::{Engine, Hosts};
 
 /// What the row's requests come to, each answered over the same folder with its kept runs.
-pub fn ended_over_keeper(alloc: Global, row: &Row) -> Result<Ending, AllocError> {
-    let mut hosts = hosts_of(alloc, row)?;
-    let mut engine = Evaluator::new(alloc);
-    let replies = replies_to(alloc, row, &mut engine, &mut hosts)?;
-    Ok(Ending {
-        status: 0,
-        replies,
-        heard: Vec::new(alloc),
-    })
-}
-
-fn replies_to<E: Engine, F: HostFn>(
+pub fn ended_over_keeper<E: Engine, F: HostFn>(
     alloc: Global,
     row: &Row,
     engine: &mut E,
     hosts: &mut HostTable<F>,
-) -> Result<Vec<u8>, AllocError> {
+) -> Result<Ending, AllocError> {
     let mut compiles = Compiles {
         alloc,
         keeper: Keeper::new(alloc),
@@ -41,7 +28,11 @@ fn replies_to<E: Engine, F: HostFn>(
         }
         compiles.answer(row.request(number), engine, hosts)?;
     }
-    Ok(compiles.replies)
+    Ok(Ending {
+        status: 0,
+        replies: compiles.replies,
+        heard: Vec::new(alloc),
+    })
 }
 
 // What is compiled over, and the replies so far.

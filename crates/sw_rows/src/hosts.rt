@@ -1,18 +1,14 @@
-// The functions of the host that a row has.
-use std::alloc::{AllocError, Global};
-use sw_hosts::{Counter, First, HostFn, HostTable};
-use sw_rows_sessions::{HostKind, Row};
+// The functions of the host that rows have beside those that stand ready.
+use std::alloc::Global;
+use sw_hosts::HostFn;
 use sw_text::{List, Memory};
 use sw_values::Value;
 
-// Functions of the host of any kinds.
-type Boxed = HostTable<Box<dyn HostFn>>;
-
 /// A function that never finds memory, so that a compile which calls it is refused there.
 #[derive(Debug, Drop)]
-struct Failing;
+pub struct Weary;
 
-impl HostFn for Failing {
+impl HostFn for Weary {
     ghost use Rattle.std.specs.Prelude.{[]};
 
     ghost kind = { λ _. 2 };
@@ -22,21 +18,4 @@ impl HostFn for Failing {
     fn call(&mut self, _alloc: Global, _args: &List<Value>) -> Result<Value, Memory> {
         Err(Memory)
     }
-}
-
-/// The table with the row's functions attached. An error exactly where no memory was found, or a name can't be attached.
-pub fn hosts_of(alloc: Global, row: &Row) -> Result<Boxed, AllocError> {
-    let mut hosts: Boxed = HostTable::new(alloc);
-    for host in row.hosts.iter() {
-        let name = host.name.as_str();
-        let attached = match host.kind {
-            HostKind::Counter => hosts.attach(alloc, name, Box::new(alloc, Counter::new())?),
-            HostKind::First => hosts.attach(alloc, name, Box::new(alloc, First)?),
-            HostKind::Failing => hosts.attach(alloc, name, Box::new(alloc, Failing)?),
-        };
-        if attached.is_err() {
-            return Err(AllocError);
-        }
-    }
-    Ok(hosts)
 }

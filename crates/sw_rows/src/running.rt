@@ -1,15 +1,18 @@
 // One run of a row.
 ghost use Rattle.std.specs.Prelude.{◌≤◌};
 
-use crate::hosts::hosts_of;
+use crate::detaching::ended_over_keeper;
+use crate::hosts::Weary;
 use std::alloc::{AllocError, Global};
 use sw_cmd_protocol::Output;
 use sw_cmd_run::{Surroundings, run};
 use sw_eval::Evaluator;
+use sw_hosts::{Counter, First, HostFn, HostTable};
 use sw_hub::{Hub, MemReporter};
 use sw_io::{MemDisk, MemSink, MemSource};
 use sw_rows_sessions::{
-    Ending, Failing, Heard, Object, Row, disk_of, failing_calls, heard_by, hub_with, looked_at,
+    Ending, Failing, Heard, HostKind, Object, Row, disk_of, failing_calls, heard_by, hub_with,
+    looked_at,
 };
 use sw_text::List;
 
@@ -22,8 +25,8 @@ pub struct Run {
 
 type Around<H> = Surroundings<MemSource, MemSink, MemDisk, Hub<MemReporter>, H>;
 
-/// The row with at most so many bytes in a read and in a write, where one call more may fail. An error exactly where no
-/// memory was found.
+/// The row with at most so many bytes in a read and in a write, where one call more may fail; or, where functions of the
+/// host are detached in it, over a keeper at hand. An error exactly where no memory was found.
 pub fn ended(
     alloc: Global,
     row: &Row,
@@ -32,9 +35,24 @@ pub fn ended(
 ) -> Result<Run, AllocError>
     requires { 1 ≤ most }
 {
-    let hosts = hosts_of(alloc, row)?;
-    let mut around = around_row(alloc, row, most, failing, hosts)?;
+    let mut hosts: HostTable<Box<dyn HostFn>> = HostTable::new(alloc);
+    for host in row.hosts.iter() {
+        let name = host.name.as_str();
+        let attached = match host.kind {
+            HostKind::Counter => hosts.attach(alloc, name, Box::new(alloc, Counter::new())?),
+            HostKind::First => hosts.attach(alloc, name, Box::new(alloc, First)?),
+            HostKind::Failing => hosts.attach(alloc, name, Box::new(alloc, Weary)?),
+        };
+        if attached.is_err() {
+            return Err(AllocError);
+        }
+    }
     let mut engine = Evaluator::new(alloc);
+    if !row.detached.is_empty() {
+        let ending = ended_over_keeper(alloc, row, &mut engine, &mut hosts)?;
+        return Ok(Run { ending, faults: 0 });
+    }
+    let mut around = around_row(alloc, row, most, failing, hosts)?;
     let status = run(alloc, &row.words, &mut around, &mut engine);
     run_of(alloc, row, failing, status, &mut around)
 }
