@@ -1,1 +1,2 @@
 pub mod Unrolled
+pub mod Joins

@@ -1,7 +1,6 @@
 -- What the definition of a text says of each kind of expression.
 use Rattle.std.proofs.Common.{◌≡◌, ℕ, List, [], ◌∷◌, ◌++◌, map, Option, Some, None, refl, sym, ◌∙◌, ap}
 use Rattle.std.specs.Prelude.{codes, if◌then◌else◌}
-use Rattle.std.specs.List.{flat_map}
 use Rattle.sw_tree.specs.declared.expr.Argument.{Argument, fold-Argument, fold_out-Argument}
 use Rattle.sw_tree.specs.declared.expr.Around.{Around}
 use Rattle.sw_tree.specs.declared.expr.Callee.{Callee, fold-Callee, fold_out-Callee}
@@ -22,10 +21,11 @@ use Rattle.sw_tree.specs.declared.text.Piece.{Piece, roll-Piece, map-Piece, fold
 use Rattle.sw_tree.specs.declared.text.Piece.TheVariants as pieces
 use Rattle.sw_tree.specs.declared.text.Text.{Text, fold-Text, fold_out-Text}
 use Rattle.sw_convert_written.specs.declared.manner.Manner.TheVariants as manners
+use Rattle.sw_convert_written.specs.declared.sort.Sort.TheVariants as sorts
 use Rattle.sw_convert_written.specs.Names.{name_text, number_text}
 use Rattle.sw_convert_written.specs.Pieces.{Written, Said, Inserted, Value, pieces_text}
-use Rattle.sw_convert_written.specs.Signs.{sign_text, constant_text}
-use Rattle.sw_convert_written.specs.Expressions.{Shown, ShownArgument, ShownCallee, ShownLink, joined, comma, chain_text, list_text, call_text, quoted_text, argument_shown, callee_shown, pair_shown, kind_step, parts_step, piece_step, argument_step, callee_step, expr_step, link_step, pair_step, text_step, kind_shown, parts_written, piece_written, expr_shown, expr_text, link_shown, of_argument, of_callee, pair_text}
+use Rattle.sw_convert_written.specs.Signs.{constant_text}
+use Rattle.sw_convert_written.specs.Expressions.{Shown, ShownArgument, ShownCallee, ShownLink, joined, comma, qualified_text, signs_text, arguments_text, argument_text, chain_text, list_text, call_text, quoted_text, argument_shown, callee_shown, pair_shown, kind_step, parts_step, piece_step, argument_step, callee_step, expr_step, link_step, pair_step, text_step, kind_shown, parts_written, piece_written, expr_shown, expr_text, link_shown, of_argument, of_callee, pair_text}
 
 -- ---- the folds of what has a place of its own
 
@@ -116,7 +116,7 @@ special_is x = ap (λ k. (kind_shown k).text) (sym (exprs.rolls-Special x)) ∙ 
 pub variable_is : (x : List ℕ) → (kind_shown (exprs.Variable x)).text ≡ codes "$" ++ name_text x
 variable_is x = ap (λ k. (kind_shown k).text) (sym (exprs.rolls-Variable x)) ∙ ap (λ (s : Shown). s.text) (rolled (ExprKind-F.Variable x))
 
-pub qualified_is : (x : Qualified) → (kind_shown (exprs.Qualified x)).text ≡ x.namespace.name ++ (codes ".$" ++ name_text x.name)
+pub qualified_is : (x : Qualified) → (kind_shown (exprs.Qualified x)).text ≡ qualified_text x
 qualified_is x = ap (λ k. (kind_shown k).text) (sym (exprs.rolls-Qualified x)) ∙ ap (λ (s : Shown). s.text) (rolled (ExprKind-F.Qualified x))
 
 pub call_is : (x : Callee) (xs : List Argument) → (kind_shown (exprs.Call x xs)).text ≡ call_text (of_callee x) (map of_argument xs)
@@ -125,16 +125,23 @@ call_is x xs =
     ∙ ap (λ (callee : ShownCallee). call_text callee (map by_argument xs)) (callee_is x)
     ∙ ap (λ (arguments : List ShownArgument). call_text (of_callee x) arguments) (maps_are by_argument of_argument argument_is xs)
 
+pub arguments_are : (xs : List Argument) → arguments_text (map of_argument xs) ≡ joined comma (map argument_text xs)
+arguments_are xs = ap (joined comma) (texts_of xs)
+  where
+    texts_of : (ys : List Argument) → map (λ (a : ShownArgument). a.text) (map of_argument ys) ≡ map argument_text ys
+    texts_of [] = refl
+    texts_of (y ∷ ys) = ap (λ (texts : List (List ℕ)). argument_text y ∷ texts) (texts_of ys)
+
 pub parent_is : (kind_shown exprs.Parent).text ≡ codes "&"
 parent_is = ap (λ k. (kind_shown k).text) (sym exprs.rolls-Parent) ∙ ap (λ (s : Shown). s.text) (rolled ExprKind-F.Parent)
 
 pub important_is : (kind_shown exprs.Important).text ≡ codes "!important"
 important_is = ap (λ k. (kind_shown k).text) (sym exprs.rolls-Important) ∙ ap (λ (s : Shown). s.text) (rolled ExprKind-F.Important)
 
-pub prefixed_is : (signs : List Sign) (x : Expr) → (kind_shown (exprs.Prefixed signs x)).text ≡ flat_map sign_text signs ++ expr_text x
+pub prefixed_is : (signs : List Sign) (x : Expr) → (kind_shown (exprs.Prefixed signs x)).text ≡ signs_text signs ++ expr_text x
 prefixed_is signs x =
     ap (λ k. (kind_shown k).text) (sym (exprs.rolls-Prefixed signs x)) ∙ ap (λ (s : Shown). s.text) (rolled (ExprKind-F.Prefixed signs x))
-    ∙ ap (λ (s : Shown). flat_map sign_text signs ++ s.text) (expr_is x)
+    ∙ ap (λ (s : Shown). signs_text signs ++ s.text) (expr_is x)
 
 pub chain_is : (x : Expr) (xs : List Link) → (kind_shown (exprs.Chain x xs)).text ≡ chain_text (expr_shown x) (map link_shown xs)
 chain_is x xs =
@@ -198,3 +205,56 @@ inserted_is x =
 pub value_is : (x : Expr) → piece_written (pieces.Value x) ≡ Value (expr_text x)
 value_is x =
     ap piece_written (sym (pieces.rolls-Value x)) ∙ rolled_piece (Piece-F.Value x) ∙ ap (λ (s : Shown). Value s.text) (expr_is x)
+
+-- ---- what each kind is
+
+pub number_sort : (x : Number) → (kind_shown (exprs.Number x)).sort ≡ sorts.Number
+number_sort x = ap (λ k. (kind_shown k).sort) (sym (exprs.rolls-Number x)) ∙ ap (λ (s : Shown). s.sort) (rolled (ExprKind-F.Number x))
+
+pub quoted_sort : (x : Parts) → (kind_shown (exprs.Quoted x)).sort ≡ sorts.Opaque
+quoted_sort x = ap (λ k. (kind_shown k).sort) (sym (exprs.rolls-Quoted x)) ∙ ap (λ (s : Shown). s.sort) (rolled (ExprKind-F.Quoted x))
+
+pub word_sort : (x : Parts) → (kind_shown (exprs.Word x)).sort ≡ sorts.Other
+word_sort x = ap (λ k. (kind_shown k).sort) (sym (exprs.rolls-Word x)) ∙ ap (λ (s : Shown). s.sort) (rolled (ExprKind-F.Word x))
+
+pub hash_sort : (x : List ℕ) → (kind_shown (exprs.Hash x)).sort ≡ sorts.Other
+hash_sort x = ap (λ k. (kind_shown k).sort) (sym (exprs.rolls-Hash x)) ∙ ap (λ (s : Shown). s.sort) (rolled (ExprKind-F.Hash x))
+
+pub constant_sort : (x : Constant) → (kind_shown (exprs.Constant x)).sort ≡ sorts.Other
+constant_sort x = ap (λ k. (kind_shown k).sort) (sym (exprs.rolls-Constant x)) ∙ ap (λ (s : Shown). s.sort) (rolled (ExprKind-F.Constant x))
+
+pub url_sort : (x : Parts) → (kind_shown (exprs.Url x)).sort ≡ sorts.Other
+url_sort x = ap (λ k. (kind_shown k).sort) (sym (exprs.rolls-Url x)) ∙ ap (λ (s : Shown). s.sort) (rolled (ExprKind-F.Url x))
+
+pub special_sort : (x : Parts) → (kind_shown (exprs.Special x)).sort ≡ sorts.Other
+special_sort x = ap (λ k. (kind_shown k).sort) (sym (exprs.rolls-Special x)) ∙ ap (λ (s : Shown). s.sort) (rolled (ExprKind-F.Special x))
+
+pub variable_sort : (x : List ℕ) → (kind_shown (exprs.Variable x)).sort ≡ sorts.Opaque
+variable_sort x = ap (λ k. (kind_shown k).sort) (sym (exprs.rolls-Variable x)) ∙ ap (λ (s : Shown). s.sort) (rolled (ExprKind-F.Variable x))
+
+pub qualified_sort : (x : Qualified) → (kind_shown (exprs.Qualified x)).sort ≡ sorts.Other
+qualified_sort x = ap (λ k. (kind_shown k).sort) (sym (exprs.rolls-Qualified x)) ∙ ap (λ (s : Shown). s.sort) (rolled (ExprKind-F.Qualified x))
+
+pub call_sort : (x : Callee) (xs : List Argument) → (kind_shown (exprs.Call x xs)).sort ≡ sorts.Other
+call_sort x xs = ap (λ k. (kind_shown k).sort) (sym (exprs.rolls-Call x xs)) ∙ ap (λ (s : Shown). s.sort) (rolled (ExprKind-F.Call x xs))
+
+pub parent_sort : (kind_shown exprs.Parent).sort ≡ sorts.Other
+parent_sort = ap (λ k. (kind_shown k).sort) (sym exprs.rolls-Parent) ∙ ap (λ (s : Shown). s.sort) (rolled ExprKind-F.Parent)
+
+pub important_sort : (kind_shown exprs.Important).sort ≡ sorts.Other
+important_sort = ap (λ k. (kind_shown k).sort) (sym exprs.rolls-Important) ∙ ap (λ (s : Shown). s.sort) (rolled ExprKind-F.Important)
+
+pub prefixed_sort : (signs : List Sign) (x : Expr) → (kind_shown (exprs.Prefixed signs x)).sort ≡ sorts.Other
+prefixed_sort signs x = ap (λ k. (kind_shown k).sort) (sym (exprs.rolls-Prefixed signs x)) ∙ ap (λ (s : Shown). s.sort) (rolled (ExprKind-F.Prefixed signs x))
+
+pub chain_sort : (x : Expr) (xs : List Link) → (kind_shown (exprs.Chain x xs)).sort ≡ sorts.Other
+chain_sort x xs = ap (λ k. (kind_shown k).sort) (sym (exprs.rolls-Chain x xs)) ∙ ap (λ (s : Shown). s.sort) (rolled (ExprKind-F.Chain x xs))
+
+pub list_sort : (xs : List Expr) (separator : Separator) (around : Around) → (kind_shown (exprs.List xs separator around)).sort ≡ sorts.Other
+list_sort xs separator around = ap (λ k. (kind_shown k).sort) (sym (exprs.rolls-List xs separator around)) ∙ ap (λ (s : Shown). s.sort) (rolled (ExprKind-F.List xs separator around))
+
+pub paren_sort : (x : Expr) → (kind_shown (exprs.Paren x)).sort ≡ sorts.Other
+paren_sort x = ap (λ k. (kind_shown k).sort) (sym (exprs.rolls-Paren x)) ∙ ap (λ (s : Shown). s.sort) (rolled (ExprKind-F.Paren x))
+
+pub map_sort : (xs : List Pair) → (kind_shown (exprs.Map xs)).sort ≡ sorts.Other
+map_sort xs = ap (λ k. (kind_shown k).sort) (sym (exprs.rolls-Map xs)) ∙ ap (λ (s : Shown). s.sort) (rolled (ExprKind-F.Map xs))

@@ -2,7 +2,8 @@
 -- list, `, ` behind each item of a comma list, and no space around the `/` of a quotient of numbers. No parentheses are
 -- added.
 use Rattle.std.specs.Prelude.{ℕ, Bool, true, false, ◌&&◌, ◌||◌, not, ◌==◌, bytes_eq, if◌then◌else◌, List, [], ◌∷◌, ◌++◌, map, Option, Some, None, is_some, codes}
-use Rattle.std.specs.List.{list_all, flat_map}
+use Rattle.std.specs.List.{list_all}
+use Rattle.sw_text_scan.specs.Words.{is_u, is_r, is_l}
 use Rattle.sw_tree.specs.declared.expr.Argument.{Argument}
 use Rattle.sw_tree.specs.declared.expr.Around.{Around}
 use Rattle.sw_tree.specs.declared.expr.Callee.{Callee}
@@ -14,24 +15,20 @@ use Rattle.sw_tree.specs.declared.expr.Namespaced.{Namespaced}
 use Rattle.sw_tree.specs.declared.expr.Operator.{Operator}
 use Rattle.sw_tree.specs.declared.expr.Operator.TheVariants as operators
 use Rattle.sw_tree.specs.declared.expr.Pair.{Pair}
+use Rattle.sw_tree.specs.declared.expr.Qualified.{Qualified}
 use Rattle.sw_tree.specs.declared.expr.Separator.{Separator}
 use Rattle.sw_tree.specs.declared.expr.Separator.TheVariants as separators
+use Rattle.sw_tree.specs.declared.expr.Sign.{Sign}
 use Rattle.sw_tree.specs.declared.text.Parts.{Parts, fold-Parts}
 use Rattle.sw_tree.specs.declared.text.Piece.{Piece, fold-Piece}
 use Rattle.sw_tree.specs.declared.text.Text.{Text}
 use Rattle.sw_convert_written.specs.declared.manner.Manner.TheVariants as manners
+use Rattle.sw_convert_written.specs.declared.sort.Sort.{Sort}
+use Rattle.sw_convert_written.specs.declared.sort.Sort.TheVariants.{Number, Opaque, Other}
 use Rattle.sw_convert_written.specs.Escapes.{space_behind}
 use Rattle.sw_convert_written.specs.Names.{name_text, number_text}
 use Rattle.sw_convert_written.specs.Pieces.{Written, Said, Inserted, Value, pieces_text}
 use Rattle.sw_convert_written.specs.Signs.{sign_text, operator_text, constant_text, opening, closing}
-
--- what matters of an expression to what stands around it
-pub data Sort : Type 0 where
-  -- a number
-  Number : Sort
-  -- a string or a variable, with which no raw text of a url begins
-  Opaque : Sort
-  Other : Sort
 
 -- the text of an expression, and what it is
 pub record Shown : Type 0 where
@@ -84,7 +81,8 @@ is_quotient first links =
     is_number first.sort && list_all (λ link. is_divide link.operator && is_number link.operand.sort) links
 
 abbrev pub divided : List ShownLink → List ℕ
-divided links = flat_map (λ link. codes "/" ++ link.operand.text) links
+divided [] = []
+divided (link ∷ links) = codes "/" ++ (link.operand.text ++ divided links)
 
 -- an operator and what stands behind it
 abbrev pub link_text : ShownLink → List ℕ
@@ -97,14 +95,18 @@ chain_text first links =
 
 -- ---- lists
 
+-- behind an item
+abbrev pub gap : Separator → List ℕ → List ℕ
+gap separators.Comma item = comma item
+gap _ item = space_behind item
+
 -- one item keeps the comma behind it
-abbrev pub comma_items : List (List ℕ) → List ℕ
-comma_items (item ∷ []) = item ++ codes ","
-comma_items items = joined comma items
+abbrev pub trailing : Separator → List (List ℕ) → List ℕ
+trailing separators.Comma (item ∷ []) = codes ","
+trailing _ _ = []
 
 abbrev pub items_text : Separator → List (List ℕ) → List ℕ
-items_text separators.Comma items = comma_items items
-items_text _ items = joined space_behind items
+items_text separator items = joined (gap separator) items ++ trailing separator items
 
 abbrev pub list_text : List (List ℕ) → Separator → Around → List ℕ
 list_text items separator around = opening around ++ (items_text separator items ++ closing around)
@@ -115,15 +117,13 @@ abbrev pub space_text : Option Namespaced → List ℕ
 space_text None = []
 space_text (Some namespace) = namespace.name ++ codes "."
 
+abbrev pub qualified_text : Qualified → List ℕ
+qualified_text qualified = qualified.namespace.name ++ (codes ".$" ++ name_text qualified.name)
+
 -- `url` in any case
 abbrev pub is_url : List ℕ → Bool
-is_url (u ∷ r ∷ l ∷ []) =
-    ((u == 117) || (u == 85)) && (((r == 114) || (r == 82)) && ((l == 108) || (l == 76)))
+is_url (u ∷ r ∷ l ∷ []) = is_u u && (is_r r && is_l l)
 is_url _ = false
-
-abbrev pub is_url_name : List Written → Bool
-is_url_name (Said name ∷ []) = is_url name
-is_url_name _ = false
 
 -- a comment, so that these arguments are no raw text of a url
 abbrev pub guard : List ShownArgument → List ℕ
@@ -142,6 +142,10 @@ abbrev pub label : Option (List ℕ) → List ℕ
 label None = []
 label (Some name) = codes "$" ++ (name_text name ++ codes ": ")
 
+abbrev pub signs_text : List Sign → List ℕ
+signs_text [] = []
+signs_text (sign ∷ signs) = sign_text sign ++ signs_text signs
+
 abbrev pub dots : Bool → List ℕ
 dots true = codes "..."
 dots false = []
@@ -152,7 +156,7 @@ abbrev pub quoted_text : List Written → List ℕ
 quoted_text parts = codes "\"" ++ (pieces_text manners.Quoted parts ++ codes "\"")
 
 abbrev pub kind_step :
-  ExprKind-F Shown (List Written) Written ShownArgument ShownCallee Shown ShownLink (List ℕ) (List Written) → Shown
+    ExprKind-F Shown (List Written) Written ShownArgument ShownCallee Shown ShownLink (List ℕ) (List Written) → Shown
 kind_step (ExprKind-F.Number number) = record { text = number_text number; sort = Number }
 kind_step (ExprKind-F.Quoted parts) = record { text = quoted_text parts; sort = Opaque }
 kind_step (ExprKind-F.Word parts) = other (pieces_text manners.Joined parts)
@@ -161,12 +165,11 @@ kind_step (ExprKind-F.Constant constant) = other (constant_text constant)
 kind_step (ExprKind-F.Url parts) = other (pieces_text manners.Joined parts)
 kind_step (ExprKind-F.Special parts) = other (pieces_text manners.Seamed parts)
 kind_step (ExprKind-F.Variable name) = record { text = codes "$" ++ name_text name; sort = Opaque }
-kind_step (ExprKind-F.Qualified qualified) =
-    other (qualified.namespace.name ++ (codes ".$" ++ name_text qualified.name))
+kind_step (ExprKind-F.Qualified qualified) = other (qualified_text qualified)
 kind_step (ExprKind-F.Call callee arguments) = other (call_text callee arguments)
 kind_step ExprKind-F.Parent = other (codes "&")
 kind_step ExprKind-F.Important = other (codes "!important")
-kind_step (ExprKind-F.Prefixed signs operand) = other (flat_map sign_text signs ++ operand.text)
+kind_step (ExprKind-F.Prefixed signs operand) = other (signs_text signs ++ operand.text)
 kind_step (ExprKind-F.Chain first links) = other (chain_text first links)
 kind_step (ExprKind-F.List items separator around) =
     other (list_text (map (λ item. item.text) items) separator around)
@@ -174,12 +177,12 @@ kind_step (ExprKind-F.Paren value) = other (codes "(" ++ (value.text ++ codes ")
 kind_step (ExprKind-F.Map pairs) = other (codes "(" ++ (joined comma pairs ++ codes ")"))
 
 abbrev pub parts_step :
-  Parts-F Shown (List Written) Written ShownArgument ShownCallee Shown ShownLink (List ℕ) (List Written) → List Written
+    Parts-F Shown (List Written) Written ShownArgument ShownCallee Shown ShownLink (List ℕ) (List Written) → List Written
 parts_step (Parts-F.Plain text) = Said text ∷ []
 parts_step (Parts-F.Mixed pieces) = pieces
 
 abbrev pub piece_step :
-  Piece-F Shown (List Written) Written ShownArgument ShownCallee Shown ShownLink (List ℕ) (List Written) → Written
+    Piece-F Shown (List Written) Written ShownArgument ShownCallee Shown ShownLink (List ℕ) (List Written) → Written
 piece_step (Piece-F.Text text) = Said text
 piece_step (Piece-F.Inserted value) = Inserted value.text
 piece_step (Piece-F.Value value) = Value value.text
@@ -190,34 +193,34 @@ argument_shown name value spread =
 
 abbrev pub callee_shown : Option Namespaced → List Written → ShownCallee
 callee_shown namespace name =
-    record { text = space_text namespace ++ pieces_text manners.Joined name; url = is_url_name name }
+    record { text = space_text namespace ++ pieces_text manners.Joined name; url = is_url (pieces_text manners.Joined name) }
 
 abbrev pub pair_shown : Shown → Shown → List ℕ
 pair_shown key value = key.text ++ (codes ": " ++ value.text)
 
 abbrev pub argument_step :
-  Argument-F Shown (List Written) Written ShownArgument ShownCallee Shown ShownLink (List ℕ) (List Written)
-  → ShownArgument
+    Argument-F Shown (List Written) Written ShownArgument ShownCallee Shown ShownLink (List ℕ) (List Written)
+    → ShownArgument
 argument_step argument = argument_shown argument.name argument.value argument.spread
 
 abbrev pub callee_step :
-  Callee-F Shown (List Written) Written ShownArgument ShownCallee Shown ShownLink (List ℕ) (List Written) → ShownCallee
+    Callee-F Shown (List Written) Written ShownArgument ShownCallee Shown ShownLink (List ℕ) (List Written) → ShownCallee
 callee_step callee = callee_shown callee.namespace callee.name
 
 abbrev pub expr_step :
-  Expr-F Shown (List Written) Written ShownArgument ShownCallee Shown ShownLink (List ℕ) (List Written) → Shown
+    Expr-F Shown (List Written) Written ShownArgument ShownCallee Shown ShownLink (List ℕ) (List Written) → Shown
 expr_step value = value.kind
 
 abbrev pub link_step :
-  Link-F Shown (List Written) Written ShownArgument ShownCallee Shown ShownLink (List ℕ) (List Written) → ShownLink
+    Link-F Shown (List Written) Written ShownArgument ShownCallee Shown ShownLink (List ℕ) (List Written) → ShownLink
 link_step link = record { operator = link.operator; operand = link.operand }
 
 abbrev pub pair_step :
-  Pair-F Shown (List Written) Written ShownArgument ShownCallee Shown ShownLink (List ℕ) (List Written) → List ℕ
+    Pair-F Shown (List Written) Written ShownArgument ShownCallee Shown ShownLink (List ℕ) (List Written) → List ℕ
 pair_step pair = pair_shown pair.key pair.value
 
 abbrev pub text_step :
-  Text-F Shown (List Written) Written ShownArgument ShownCallee Shown ShownLink (List ℕ) (List Written) → List Written
+    Text-F Shown (List Written) Written ShownArgument ShownCallee Shown ShownLink (List ℕ) (List Written) → List Written
 text_step text = text.parts
 
 -- ---- whole expressions and texts
@@ -247,8 +250,15 @@ expr_text value = (kind_shown value.kind).text
 abbrev pub link_shown : Link → ShownLink
 link_shown link = record { operator = link.operator; operand = expr_shown link.operand }
 
+-- the text of an operator and what stands behind it
+abbrev pub of_link : Link → List ℕ
+of_link link = link_text (link_shown link)
+
 abbrev pub of_argument : Argument → ShownArgument
 of_argument argument = argument_shown argument.name (expr_shown argument.value) argument.spread
+
+abbrev pub argument_text : Argument → List ℕ
+argument_text argument = (of_argument argument).text
 
 abbrev pub of_callee : Callee → ShownCallee
 of_callee callee = callee_shown callee.namespace (parts_written callee.name.parts)

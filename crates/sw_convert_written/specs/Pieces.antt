@@ -1,5 +1,5 @@
 -- Texts in which values stand, as they are written.
-use Rattle.std.specs.Prelude.{ℕ, Bool, true, false, not, ◌&&◌, ◌||◌, ◌==◌, List, [], ◌∷◌, ◌++◌, codes}
+use Rattle.std.specs.Prelude.{ℕ, Bool, true, false, not, ◌&&◌, ◌||◌, ◌==◌, if◌then◌else◌, List, [], ◌∷◌, ◌++◌, codes}
 use Rattle.sw_text_scan.specs.Bytes.{sign, is_white}
 use Rattle.sw_convert_written.specs.declared.manner.Manner.{Manner}
 use Rattle.sw_convert_written.specs.declared.manner.Manner.TheVariants as manners
@@ -41,43 +41,41 @@ is_loose_start b =
     is_white b
     || ((b == sign ",") || ((b == sign ")") || ((b == sign "]") || ((b == sign "/") || (b == sign "*")))))
 
+-- the last byte is such a byte, where the one before the text is or not
+abbrev pub ends_loose_from : Bool → List ℕ → Bool
+ends_loose_from loose [] = loose
+ends_loose_from loose (b ∷ bytes) = ends_loose_from (is_loose_end b) bytes
+
 abbrev pub ends_loose : List ℕ → Bool
-ends_loose [] = false
-ends_loose (b ∷ []) = is_loose_end b
-ends_loose (b ∷ c ∷ bytes) = ends_loose (c ∷ bytes)
+ends_loose = ends_loose_from false
 
 abbrev pub begins_loose : List ℕ → Bool
 begins_loose [] = false
 begins_loose (b ∷ bytes) = is_loose_start b
 
-abbrev pub unless : Bool → List ℕ
-unless true = []
-unless false = apart
+-- between two pieces of a raw or special text an empty comment stands where one was dropped between two texts, and where
+-- a value would join what stands beside it
+abbrev pub is_seam : Written → Written → Bool
+is_seam (Said text) (Said other) = true
+is_seam (Said text) (Value value) = not (ends_loose text)
+is_seam (Inserted insert) (Value value) = true
+is_seam (Value value) (Value other) = true
+is_seam (Value value) (Said text) = not (begins_loose text) || (begins_white text && ends_unclosed value)
+is_seam _ _ = false
 
-abbrev pub when : Bool → List ℕ
-when true = apart
-when false = []
+-- between two pieces of queries one stands where the first would take the space of the other
+abbrev pub is_parting : Written → Written → Bool
+is_parting (Said text) (Said other) = begins_white other && ends_unclosed text
+is_parting (Value value) (Said text) = begins_white text && ends_unclosed value
+is_parting _ _ = false
 
--- between two pieces of a raw or special text: an empty comment where one was dropped between two texts, and where a
--- value would join what stands beside it
-abbrev pub seam : Written → Written → List ℕ
-seam (Said text) (Said other) = apart
-seam (Said text) (Value value) = unless (ends_loose text)
-seam (Inserted insert) (Value value) = apart
-seam (Value value) (Value other) = apart
-seam (Value value) (Said text) = when (not (begins_loose text) || (begins_white text && ends_unclosed value))
-seam _ _ = []
-
--- between two pieces of queries: an empty comment where the first would take the space of the other
-abbrev pub parting : Written → Written → List ℕ
-parting (Said text) (Said other) = when (begins_white other && ends_unclosed text)
-parting (Value value) (Said text) = when (begins_white text && ends_unclosed value)
-parting _ _ = []
+abbrev pub is_parted : Manner → Written → Written → Bool
+is_parted manners.Seamed piece next = is_seam piece next
+is_parted manners.Queried piece next = is_parting piece next
+is_parted _ piece next = false
 
 abbrev pub between : Manner → Written → Written → List ℕ
-between manners.Seamed piece next = seam piece next
-between manners.Queried piece next = parting piece next
-between _ piece next = []
+between manner piece next = if is_parted manner piece next then apart else []
 
 -- pieces behind one another
 abbrev pub pieces_text : Manner → List Written → List ℕ

@@ -1,6 +1,6 @@
 -- Strings in quotes as they are written (CSS Syntax on strings; the Sass specification on `#{`): a `\` before a `\`, a `"`
 -- and the `#` of a `#{`, and a hexadecimal escape for each control character but tab and U+0000.
-use Rattle.std.specs.Prelude.{ℕ, ◌+◌, ◌/◌, ◌%◌, Bool, false, not, ◌&&◌, ◌||◌, ◌==◌, nat_lt, if◌then◌else◌, List, [], ◌∷◌, ◌++◌, codes}
+use Rattle.std.specs.Prelude.{ℕ, ◌+◌, ◌-◌, ◌/◌, ◌%◌, Bool, false, not, ◌&&◌, ◌||◌, ◌==◌, nat_lt, if◌then◌else◌, List, [], ◌∷◌, ◌++◌, codes}
 use Rattle.sw_text_scan.specs.Bytes.{sign, is_hex_digit}
 use Rattle.sw_text_scan.specs.declared.signs.TheConstants.{TAB}
 
@@ -25,7 +25,7 @@ escape_end [] = []
 escape_end (b ∷ bytes) = if joins_escape b then codes " " else []
 
 abbrev pub hex_digit : ℕ → ℕ
-hex_digit n = if nat_lt n 10 then sign "0" + n else 87 + n
+hex_digit n = if nat_lt n 10 then sign "0" + n else sign "a" + (n - 10)
 
 -- the lower hexadecimal digits of a byte
 abbrev pub hex_of : ℕ → List ℕ
