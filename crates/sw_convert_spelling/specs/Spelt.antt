@@ -1,102 +1,103 @@
--- Tokens as they are written: each with the white space before it.
-use Rattle.std.specs.Prelude.{◌≡◌, ℕ, ◌+◌, List, [], ◌∷◌, ◌++◌, length, Bool, true, false, not, ◌&&◌, ◌||◌, ◌==◌, Ok}
+-- Tokens as they are written one behind the other, each with the white space before it.
+use Rattle.std.specs.Prelude.{◌≡◌, ◌<◌, ℕ, ◌+◌, List, [], ◌∷◌, ◌++◌, length, Bool, true, false, not, ◌&&◌, Some, Ok}
 use Rattle.std.specs.List.{list_all}
-use Rattle.sw_text_scan.specs.Bytes.{sign, is_white, is_digit, is_letter}
-use Rattle.sw_text_scan.specs.Runs.{is_word_byte}
-use Rattle.sw_text_scan.specs.Words.{is_u}
-use Rattle.sw_tokens.specs.declared.token.Syntax.TheVariants as syntaxes
+use Rattle.sw_text.specs.Places.{mark_length}
+use Rattle.sw_text_scan.specs.Bytes.{byte, is_white}
+use Rattle.sw_tokens.specs.declared.pieces.Before.{Before}
+use Rattle.sw_tokens.specs.declared.pieces.Before.TheVariants as befores
+use Rattle.sw_tokens.specs.declared.pieces.Change.{Change}
+use Rattle.sw_tokens.specs.declared.pieces.Change.TheVariants as changes
+use Rattle.sw_tokens.specs.declared.skips.Inside.{Inside}
+use Rattle.sw_tokens.specs.declared.skips.Inside.TheVariants as insides
 use Rattle.sw_tokens.specs.declared.token.Token.{Token}
 use Rattle.sw_tokens.specs.declared.token.TokenKind.{TokenKind}
-use Rattle.sw_tokens.specs.declared.token.TokenKind.TheVariants as kinds
-use Rattle.sw_tokens.specs.Pieces.{sign_of}
-use Rattle.sw_tokens.specs.Tokens.{ends_name, pieces_of}
+use Rattle.sw_tokens.specs.Ends.{reached, tokens_of}
+use Rattle.sw_tokens.specs.Pieces.{made, piece}
+use Rattle.sw_tokens.specs.Tokens.{before_of, is_spaced}
 
--- a token that is written, and the white space before it
-pub data Written : Type 0 where
-  -- a name of letters, digits and `-`
-  Word : List ℕ → Written
-  -- digits alone
-  Digits : List ℕ → Written
-  -- a sign that is a token wherever it stands
-  Sign : ℕ → Written
-
+-- a token that is written
 pub record Spelt : Type 0 where
+  -- the white space before it
   pub gap : List ℕ
-  pub token : Written
-
-abbrev pub bytes_of : Written → List ℕ
-bytes_of (Word bytes) = bytes
-bytes_of (Digits bytes) = bytes
-bytes_of (Sign b) = b ∷ []
-
-abbrev pub kind_of : Written → TokenKind
-kind_of (Word bytes) = kinds.Word
-kind_of (Digits bytes) = kinds.Digits
-kind_of (Sign b) = sign_of b
+  pub kind : TokenKind
+  pub bytes : List ℕ
+  -- what it opens or closes
+  pub change : Change
 
 -- the text of tokens
 abbrev pub text_of : List Spelt → List ℕ
 text_of [] = []
-text_of (spelt ∷ list) = spelt.gap ++ (bytes_of spelt.token ++ text_of list)
+text_of (spelt ∷ list) = spelt.gap ++ (spelt.bytes ++ text_of list)
 
-abbrev pub is_empty : List ℕ → Bool
-is_empty [] = true
-is_empty (b ∷ bytes) = false
+-- what stands directly before a token that has this white space before it
+abbrev pub behind_gap : Before → List ℕ → Before
+behind_gap before [] = before
+behind_gap before (b ∷ gap) = befores.White
 
--- where they stand from a place on
-abbrev pub placed : ℕ → List Spelt → List Token
-placed at [] = []
-placed at (spelt ∷ list) =
+abbrev pub end_of : ℕ → Spelt → ℕ
+end_of at spelt = (at + length spelt.gap) + length spelt.bytes
+
+-- where the tokens stand from a place on
+abbrev pub placed_behind : Before → ℕ → List Spelt → List Token
+placed_behind before at [] = []
+placed_behind before at (spelt ∷ list) =
     record {
-      kind = kind_of spelt.token;
+      kind = spelt.kind;
       from = at + length spelt.gap;
-      to = (at + length spelt.gap) + length (bytes_of spelt.token);
-      spaced = not (is_empty spelt.gap);
-    } ∷ placed ((at + length spelt.gap) + length (bytes_of spelt.token)) list
+      to = end_of at spelt;
+      spaced = is_spaced (behind_gap before spelt.gap);
+    } ∷ placed_behind (before_of (Some spelt.kind)) (end_of at spelt) list
 
--- a letter with which nothing but a name begins, and a word's characters
-abbrev pub is_word : List ℕ → Bool
-is_word [] = false
-is_word (b ∷ bytes) = (is_letter b && not (is_u b)) && list_all is_word_byte bytes
+abbrev pub placed : ℕ → List Spelt → List Token
+placed at list = placed_behind befores.Other at list
 
-abbrev pub are_digits : List ℕ → Bool
-are_digits [] = false
-are_digits (b ∷ bytes) = is_digit b && list_all is_digit bytes
+-- ---- what may stand where
 
-abbrev pub is_lone : ℕ → Bool
-is_lone b =
-    (b == sign "{") || ((b == sign "(") || ((b == sign ")") || ((b == sign "[") || ((b == sign "]")
-    || ((b == sign ":") || ((b == sign ";") || ((b == sign ",") || (b == sign "}"))))))))
+-- what is open innermost, of what is open, the innermost first
+abbrev pub innermost : List Inside → Inside
+innermost [] = insides.Sheet
+innermost (inside ∷ outer) = inside
 
-abbrev pub is_token : Written → Bool
-is_token (Word bytes) = is_word bytes
-is_token (Digits bytes) = are_digits bytes
-is_token (Sign b) = is_lone b
+-- what is open behind a token
+abbrev pub opened : List Inside → Change → List Inside
+opened stack changes.Keep = stack
+opened stack (changes.Push inside) = inside ∷ stack
+opened [] changes.Pop = []
+opened (inside ∷ outer) changes.Pop = outer
 
--- a sign or white space with which neither a name nor a number goes on
-abbrev pub parts : ℕ → Bool
-parts b = ends_name b && not (b == sign ".")
+-- code of a sheet, outside strings, comments and urls
+abbrev pub is_sheet_code : Inside → Bool
+is_sheet_code insides.Sheet = true
+is_sheet_code insides.Interpolation = true
+is_sheet_code _ = false
 
--- the first byte of tokens, and the number of the end
-abbrev pub first_or : ℕ → List ℕ → ℕ
-first_or none [] = none
-first_or none (b ∷ bytes) = b
+-- white space stands between tokens of code, and in a `url(..)` with `#{}`
+abbrev pub takes_gap : Inside → Bool
+takes_gap insides.Url = true
+takes_gap insides.UrlInside = true
+takes_gap inside = is_sheet_code inside
 
--- what may stand behind a token: behind a sign anything
-abbrev pub goes_behind : Written → List ℕ → Bool
-goes_behind (Sign b) after = true
-goes_behind (Word bytes) [] = true
-goes_behind (Word bytes) (b ∷ after) = parts b
-goes_behind (Digits bytes) [] = true
-goes_behind (Digits bytes) (b ∷ after) = parts b
+-- no white space, or nothing but white space before what begins with none
+abbrev pub is_gap : Inside → List ℕ → List ℕ → Bool
+is_gap inside [] bytes = true
+is_gap inside (b ∷ gap) bytes = takes_gap inside && (list_all is_white (b ∷ gap) && not (is_white (byte bytes 0)))
 
--- each is a token, only white space stands between them, and no token goes on with what stands behind it
-abbrev pub is_spelt : List Spelt → Bool
-is_spelt [] = true
-is_spelt (spelt ∷ list) =
-    (list_all is_white spelt.gap && is_token spelt.token)
-    && (goes_behind spelt.token (text_of list) && is_spelt list)
+-- with this text behind it, these bytes are this token and no more
+abbrev pub IsToken : Inside → Before → Spelt → List ℕ → Type 0
+IsToken inside before spelt after =
+    piece (spelt.bytes ++ after) inside before 0 ≡ made spelt.kind (length spelt.bytes) spelt.change
 
--- the text of these tokens has these tokens
-abbrev pub HasThese : List Spelt → Type 0
-HasThese list = pieces_of syntaxes.Scss (text_of list) ≡ Ok (placed 0 list)
+-- each is a token before those behind it, and what is opened is closed
+abbrev pub AreTokens : List Inside → Before → List Spelt → Type 0
+AreTokens stack before [] = stack ≡ []
+AreTokens stack before (spelt ∷ list) =
+    (is_gap (innermost stack) spelt.gap spelt.bytes ≡ true)
+    × (0 < length spelt.bytes)
+    × IsToken (innermost stack) (behind_gap before spelt.gap) spelt (text_of list)
+    × AreTokens (opened stack spelt.change) (before_of (Some spelt.kind)) list
+
+-- the text of these tokens, behind a byte order mark or none, has these tokens
+abbrev pub HasThese : List ℕ → List Spelt → Type 0
+HasThese mark list =
+    mark_length (mark ++ text_of list) ≡ length mark → AreTokens [] befores.Other list
+    → tokens_of (mark ++ text_of list) ≡ Ok (reached (placed (length mark) list)).list

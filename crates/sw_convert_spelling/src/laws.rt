@@ -1,14 +1,20 @@
 // What is written is read again.
-ghost use Rattle.std.specs.Prelude.{◌≡◌, List, ℕ, true, ℤ, Option};
+ghost use Rattle.std.specs.Prelude.{◌≡◌, List, ℕ, ℤ, Option};
 ghost use Rattle.sw_convert_spelling.specs.Numerals.{IsReadBack};
-ghost use Rattle.sw_convert_spelling.specs.Spelt.{Spelt, is_spelt, HasThese};
+ghost use Rattle.sw_convert_spelling.specs.Strings.{StandsFor};
+ghost use Rattle.sw_convert_spelling.specs.Spelt.{Spelt, HasThese};
 
-/// A law: a text of tokens, with white space between those that would join without it, has these tokens.
+/// A law: a text of tokens, each of which is one where it stands, has these tokens.
 pub fn tokens_are_as_spelt()
-    ensures { (list : List Spelt) → is_spelt list ≡ true → HasThese list }
+    ensures { (mark : List ℕ) (list : List Spelt) → HasThese mark list }
 {}
 
 /// A law: the number that is written of a value is read as it, whatever unit stands behind it.
 pub fn numbers_are_read_back()
     ensures { (value : Option ℤ) (unit : List ℕ) → IsReadBack value unit }
+{}
+
+/// A law: what is written of a text between the quotes of a string stands for the text.
+pub fn strings_are_read_back()
+    ensures { (text : List ℕ) → StandsFor text }
 {}
