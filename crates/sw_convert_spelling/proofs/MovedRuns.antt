@@ -174,7 +174,7 @@ module _ (front bs : List ℕ) where
   pub run_later : (c : Class) (i k : ℕ) → run_end c cs ((d + i) + k) ≡ d + run_end c bs (i + k)
   run_later c i k = ap (run_end c cs) (plus i k) ∙ run_moved c (i + k)
 
-  starts_moved : (i : ℕ) → starts_at cs (d + i) ≡ starts_at bs i
+  pub starts_moved : (i : ℕ) → starts_at cs (d + i) ≡ starts_at bs i
   starts_moved i = either_same _ _ _ _ (one starts_plainly i) (ap (nat_lt (d + i)) (escape_moved i) ∙ less i (escape_end bs i))
 
   pub name_moved : (i : ℕ) → begins_name cs (d + i) ≡ begins_name bs i

@@ -131,7 +131,6 @@ module _ (front bs : List ℕ) where
   module _ (deeper : Inside → ℕ → Option ℕ) (before : Inside → ℕ → Option ℕ)
       (same : (inner : Inside) (j : ℕ) → 0 < j → deeper inner (d + j) ≡ further (before inner j))
       (onward : (inner : Inside) (j r : ℕ) → j ≤ length bs → before inner j ≡ Some r → j ≤ r) where
-
     with_moved : (inside : Inside) (n i : ℕ) → 0 < i → skip_with deeper cs inside n (d + i) ≡ further (skip_with before bs inside n i)
     unfolding further
     with_moved inside zero i some = refl

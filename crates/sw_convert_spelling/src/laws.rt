@@ -1,12 +1,21 @@
 // What is written is read again.
 ghost use Rattle.std.specs.Prelude.{◌≡◌, List, ℕ, ℤ, Option};
+ghost use Rattle.sw_convert_spelling.specs.Neighbours.{StaysToken};
 ghost use Rattle.sw_convert_spelling.specs.Numerals.{IsReadBack};
-ghost use Rattle.sw_convert_spelling.specs.Strings.{StandsFor};
 ghost use Rattle.sw_convert_spelling.specs.Spelt.{Spelt, HasThese};
+ghost use Rattle.sw_convert_spelling.specs.Strings.{StandsFor};
+ghost use Rattle.sw_tokens.specs.declared.pieces.Before.{Before};
+ghost use Rattle.sw_tokens.specs.declared.skips.Inside.{Inside};
 
 /// A law: a text of tokens, each of which is one where it stands, has these tokens.
 pub fn tokens_are_as_spelt()
     ensures { (mark : List ℕ) (list : List Spelt) → HasThese mark list }
+{}
+
+/// A law: names, signs, strings and comments that are tokens by themselves are the same tokens before what may stand
+/// behind them.
+pub fn tokens_stay_before_others()
+    ensures { (inside : Inside) (before : Before) (spelt : Spelt) (after : List ℕ) → StaysToken inside before spelt after }
 {}
 
 /// A law: the number that is written of a value is read as it, whatever unit stands behind it.
