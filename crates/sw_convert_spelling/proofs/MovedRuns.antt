@@ -185,12 +185,12 @@ module _ (front bs : List ℕ) where
       (either_same _ _ _ _ (ap (starts_at cs) (plus i 1) ∙ starts_moved (i + 1)) (later (λ b. b == sign "-") i 1)))
 
   -- numbers
-  fraction_moved : (i : ℕ) → fraction_end cs (d + i) ≡ d + fraction_end bs i
+  pub fraction_moved : (i : ℕ) → fraction_end cs (d + i) ≡ d + fraction_end bs i
   fraction_moved i =
       choice _ ((byte bs i == sign ".") && is_digit (byte bs (i + 1))) _ _ (run_end classes.Digit bs (i + 1)) i
       (two (λ b. b == sign ".") is_digit i) (run_later classes.Digit i 1) refl
 
-  exponent_moved : (i : ℕ) → exponent_end cs (d + i) ≡ d + exponent_end bs i
+  pub exponent_moved : (i : ℕ) → exponent_end cs (d + i) ≡ d + exponent_end bs i
   exponent_moved i =
       choice _ (is_exponent (byte bs i) && is_digit (byte bs (i + 1))) _ _ (run_end classes.Digit bs (i + 1))
       (if is_exponent (byte bs i) && (is_plus_or_minus (byte bs (i + 1)) && is_digit (byte bs (i + 2))) then run_end classes.Digit bs (i + 2) else i)

@@ -231,7 +231,7 @@ body_back negative n tail within w =
     given : value_of negative (decimal (n / scale)) (decimals 10 (n % scale)) (exponent_of []) ≡ held_magnitude negative (mantissa_of (decimal (n / scale)) (decimals 10 (n % scale)) (record { lowers = false; places = 0 }))
     given = if_false (is_empty (decimal (n / scale)) && is_empty (decimals 10 (n % scale))) _ _ (left (is_empty (decimal (n / scale))) _ (some_digits (decimal (n / scale)) w.some))
 
-whole_small : (n : ℕ) → n ≤ limit → Whole (n / scale)
+pub whole_small : (n : ℕ) → n ≤ limit → Whole (n / scale)
 whole_small n within = whole_digits (n / scale) (div_below n scale (10 ^ 64) (lit< tt) (omega (arith, within)))
 
 magnitude_back : (n : ℕ) (tail : Bool) → n ≤ limit → number_in (magnitude_text n ++ no_exponent tail) ≡ Ok (pos n)

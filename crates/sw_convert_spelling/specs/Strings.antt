@@ -1,11 +1,18 @@
 -- Strings as a sheet is written with them: in `"`, with the escapes of CSS Object Model, "Serialize a string"; where that
 -- leaves a choice, and for `#{`, this project's own rule.
-use Rattle.std.specs.Prelude.{◌≡◌, ℕ, ◌/◌, ◌%◌, List, [], ◌∷◌, ◌++◌, Bool, true, false, not, ◌&&◌, ◌||◌, ◌==◌, nat_lt, if◌then◌else◌, codes}
+use Rattle.std.specs.Prelude.{◌≡◌, ◌<◌, ℕ, length, ◌/◌, ◌%◌, List, [], ◌∷◌, ◌++◌, Bool, true, false, not, ◌&&◌, ◌||◌, ◌==◌, nat_lt, if◌then◌else◌, codes}
 use Rattle.std.specs.Char.{digit_char}
 use Rattle.std.specs.List.{list_all}
-use Rattle.sw_text_scan.specs.Bytes.{sign, is_hex_digit}
+use Rattle.sw_text_scan.specs.Bytes.{sign, byte, opens_at, is_hex_digit}
 use Rattle.sw_text_scan.specs.declared.signs.TheConstants.{END, TAB, SPACE}
+use Rattle.sw_tokens.specs.declared.pieces.Before.{Before}
+use Rattle.sw_tokens.specs.declared.pieces.Change.TheVariants as changes
+use Rattle.sw_tokens.specs.declared.skips.Inside.{Inside}
+use Rattle.sw_tokens.specs.declared.skips.Inside.TheVariants as insides
+use Rattle.sw_tokens.specs.declared.token.TokenKind.TheVariants as kinds
 use Rattle.sw_tokens.specs.Decoded.{decoded}
+use Rattle.sw_tokens.specs.Pieces.{made, piece}
+use Rattle.sw_convert_spelling.specs.Spelt.{is_sheet_code}
 
 abbrev delete : ℕ
 delete = 127
@@ -57,3 +64,26 @@ are_bytes text = list_all (λ b. nat_lt b END) text
 -- what is written of a text stands for it
 abbrev pub StandsFor : List ℕ → Type 0
 StandsFor text = are_bytes text ≡ true → decoded (escaped text) ≡ text
+
+-- ---- as tokens
+
+-- a string is one token, whatever stands behind it
+abbrev pub IsStringToken : List ℕ → Inside → Before → List ℕ → Type 0
+IsStringToken text inside before after =
+    are_bytes text ≡ true → is_sheet_code inside ≡ true
+    → piece (string_text text ++ after) inside before 0
+    ≡ made (kinds.Quoted text) (length (string_text text)) changes.Keep
+
+-- the quote opens a string with `#{}` where text and `#{` stand behind it
+abbrev pub IsTemplateToken : List ℕ → Inside → Before → List ℕ → Type 0
+IsTemplateToken text inside before after =
+    are_bytes text ≡ true → is_sheet_code inside ≡ true → opens_at after 0 ≡ true
+    → piece (codes "\"" ++ (escaped text ++ after)) inside before 0
+    ≡ made kinds.Template 1 (changes.Push (insides.Quotes (sign "\"")))
+
+-- in such a string, text before `#{` or the closing quote is one token
+abbrev pub IsTextToken : List ℕ → Before → List ℕ → Type 0
+IsTextToken text before after =
+    are_bytes text ≡ true → 0 < length text → (opens_at after 0 || (byte after 0 == sign "\"")) ≡ true
+    → piece (escaped text ++ after) (insides.Quotes (sign "\"")) before 0
+    ≡ made (kinds.Text text) (length (escaped text)) changes.Keep

@@ -1,9 +1,9 @@
 // What is written is read again.
 ghost use Rattle.std.specs.Prelude.{◌≡◌, List, ℕ, ℤ, Option};
 ghost use Rattle.sw_convert_spelling.specs.Neighbours.{StaysToken};
-ghost use Rattle.sw_convert_spelling.specs.Numerals.{IsReadBack};
+ghost use Rattle.sw_convert_spelling.specs.Numerals.{IsNumeralToken, IsReadBack};
 ghost use Rattle.sw_convert_spelling.specs.Spelt.{Spelt, HasThese};
-ghost use Rattle.sw_convert_spelling.specs.Strings.{StandsFor};
+ghost use Rattle.sw_convert_spelling.specs.Strings.{IsStringToken, IsTemplateToken, IsTextToken, StandsFor};
 ghost use Rattle.sw_tokens.specs.declared.pieces.Before.{Before};
 ghost use Rattle.sw_tokens.specs.declared.skips.Inside.{Inside};
 
@@ -23,7 +23,23 @@ pub fn numbers_are_read_back()
     ensures { (value : Option ℤ) (unit : List ℕ) → IsReadBack value unit }
 {}
 
+/// A law: the number that is written of a value that isn't below zero is one token with its unit, before what goes on
+/// with neither.
+pub fn numerals_are_tokens()
+    ensures { (value : ℕ) (unit : List ℕ) (inside : Inside) (before : Before) (after : List ℕ)
+        → IsNumeralToken value unit inside before after }
+{}
+
 /// A law: what is written of a text between the quotes of a string stands for the text.
 pub fn strings_are_read_back()
     ensures { (text : List ℕ) → StandsFor text }
+{}
+
+/// A law: a string is one token with its text, and so are the parts of a string with `#{}`, where they stand.
+pub fn strings_are_tokens()
+    ensures whole { (text : List ℕ) (inside : Inside) (before : Before) (after : List ℕ)
+        → IsStringToken text inside before after }
+    ensures opens { (text : List ℕ) (inside : Inside) (before : Before) (after : List ℕ)
+        → IsTemplateToken text inside before after }
+    ensures text { (text : List ℕ) (before : Before) (after : List ℕ) → IsTextToken text before after }
 {}
