@@ -26,7 +26,7 @@ use Rattle.sw_text_locality.proofs.Kept.{Alike, first}
 use Rattle.sw_text_locality.proofs.Begins.{begins_kept, escape_goes}
 use Rattle.sw_text_locality.proofs.Written.{byte_before, no_name}
 use Rattle.sw_text_locality.proofs.Runs.{Steps, text_steps}
-use Rattle.sw_convert_spelling.specs.Neighbours.{joins_sign, parts_sign, parts_name, parts_kind, is_parted, begins_other, may_stand_behind, StaysToken}
+use Rattle.sw_convert_spelling.specs.Neighbours.{joins_sign, parts_sign, parts_name, parts_kind, is_parted, begins_other, may_stand_behind, StaysToken, StandsAlone}
 use Rattle.sw_convert_spelling.specs.Spelt.{Spelt, is_sheet_code, IsToken}
 use Rattle.sw_convert_spelling.proofs.MovedRuns as moved
 use Rattle.sw_convert_spelling.proofs.Again as texts
@@ -713,6 +713,54 @@ parts_by start w after some e =
         let place : length w ≡ length w + 0 = omega arith in
         let there = ap (next classes.Name (w ++ after)) place ∙ moved.next_moved w after classes.Name 0 in
         omega (arith, there, none)
+
+-- before nothing no sign goes on
+empty_sign : (w : List ℕ) → parts_sign w [] ≡ true
+unfolding byte escape_end begins_name
+empty_sign [] = refl
+empty_sign (b ∷ c ∷ w) = refl
+empty_sign (b ∷ []) =
+    ap not
+    (neither _ _ (right_no (b == sign "#") false refl)
+    (neither _ _ (right_no (b == sign "/") false refl)
+    (neither _ _ (right_no (b == sign ".") false refl)
+    (neither _ _ (right_no ((b == sign "=") || ((b == sign "!") || ((b == sign "<") || (b == sign ">")))) false refl)
+    (neither _ _ (right_no (b == sign "-") false refl)
+    (neither _ _ (right_no (b == sign "@") false refl) (right_no (b == sign "\\") false refl)))))))
+
+-- and no name
+empty_names : (w old : List ℕ) (u : Bool) → texts.Parts w old [] u
+unfolding byte escape_end
+empty_names w old u =
+    let first = texts.behind_first w old [] in
+    let place : length w ≡ length w + 0 = omega arith in
+    let there : next classes.Name (w ++ []) (length w) ≡ length w + 0 = ap (next classes.Name (w ++ [])) place ∙ moved.next_moved w [] classes.Name 0 in
+    record {
+      stops = omega (arith, there);
+      white = right_no u _ (ap is_white first);
+      feed = right_no (byte (w ++ []) (length w - 1) == CARRIAGE_RETURN) _ (ap (λ (b : ℕ). b == LINE_FEED) first);
+    }
+
+pub by_itself : (inside : Inside) (before : Before) (spelt : Spelt) (after : List ℕ) → StandsAlone inside before spelt after
+by_itself inside before spelt after code some fit other is = in_code inside code is
+  where
+    same : begins_other before (spelt.bytes ++ []) ≡ false
+    same = ap (begins_other before) (append-nil spelt.bytes) ∙ other
+
+    again : (top : Inside) → code_piece (spelt.bytes ++ after) top before 0 ≡ made spelt.kind (length spelt.bytes) spelt.change → code_piece (spelt.bytes ++ []) top before 0 ≡ made spelt.kind (length spelt.bytes) spelt.change
+    again top e =
+        code_again spelt.bytes after [] some (empty_sign spelt.bytes) spelt.kind spelt.change
+        (λ k. empty_names spelt.bytes after (ends_unclosed (spelt.bytes ++ after) 0)) (λ k. empty_names spelt.bytes after (ends_unclosed (spelt.bytes ++ after) 1))
+        top before fit same e
+
+    in_code : (inside : Inside) → is_sheet_code inside ≡ true → IsToken inside before spelt after → IsToken inside before spelt []
+    in_code insides.Sheet c e = again insides.Sheet e
+    in_code insides.Interpolation c e = again insides.Interpolation e
+    in_code insides.Css c e = absurd (cc)
+    in_code (insides.Quotes q) c e = absurd (cc)
+    in_code insides.Comment c e = absurd (cc)
+    in_code insides.Url c e = absurd (cc)
+    in_code insides.UrlInside c e = absurd (cc)
 
 pub stays : (inside : Inside) (before : Before) (spelt : Spelt) (after : List ℕ) → StaysToken inside before spelt after
 stays inside before spelt after code some is ok = in_code inside code is

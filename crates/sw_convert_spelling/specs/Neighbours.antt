@@ -73,3 +73,9 @@ abbrev pub StaysToken : Inside → Before → Spelt → List ℕ → Type 0
 StaysToken inside before spelt after =
     is_sheet_code inside ≡ true → 0 < length spelt.bytes → IsToken inside before spelt []
     → may_stand_behind before spelt.kind spelt.bytes after ≡ true → IsToken inside before spelt after
+
+-- a token before others is the same token by itself
+abbrev pub StandsAlone : Inside → Before → Spelt → List ℕ → Type 0
+StandsAlone inside before spelt after =
+    is_sheet_code inside ≡ true → 0 < length spelt.bytes → is_parted spelt.kind ≡ true
+    → begins_other before spelt.bytes ≡ false → IsToken inside before spelt after → IsToken inside before spelt []

@@ -1,6 +1,6 @@
 // What is written is read again.
 ghost use Rattle.std.specs.Prelude.{◌≡◌, List, ℕ, ℤ, Option};
-ghost use Rattle.sw_convert_spelling.specs.Neighbours.{StaysToken};
+ghost use Rattle.sw_convert_spelling.specs.Neighbours.{StandsAlone, StaysToken};
 ghost use Rattle.sw_convert_spelling.specs.Numerals.{IsNumeralToken, IsReadBack};
 ghost use Rattle.sw_convert_spelling.specs.Spelt.{Spelt, HasThese};
 ghost use Rattle.sw_convert_spelling.specs.Strings.{IsStringToken, IsTemplateToken, IsTextToken, StandsFor};
@@ -12,10 +12,13 @@ pub fn tokens_are_as_spelt()
     ensures { (mark : List ℕ) (list : List Spelt) → HasThese mark list }
 {}
 
-/// A law: names, signs, strings and comments that are tokens by themselves are the same tokens before what may stand
-/// behind them.
+/// A law: names, signs, strings and comments that are tokens before any text are the same tokens by themselves, and
+/// before what may stand behind them.
 pub fn tokens_stay_before_others()
-    ensures { (inside : Inside) (before : Before) (spelt : Spelt) (after : List ℕ) → StaysToken inside before spelt after }
+    ensures alone { (inside : Inside) (before : Before) (spelt : Spelt) (after : List ℕ)
+        → StandsAlone inside before spelt after }
+    ensures stay { (inside : Inside) (before : Before) (spelt : Spelt) (after : List ℕ)
+        → StaysToken inside before spelt after }
 {}
 
 /// A law: the number that is written of a value is read as it, whatever unit stands behind it.
