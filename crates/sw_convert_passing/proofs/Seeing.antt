@@ -1,63 +1,67 @@
 -- The pass over tokens takes what is passed one by one.
-use Rattle.std.proofs.Common.{◌≡◌, ℕ, ◌+◌, ◌<◌, Bool, true, false, ◌&&◌, List, [], ◌∷◌, ◌++◌, map, length, drop, get_or, refl, sym, ◌∙◌, ap, arith, add-one, drop-cons}
+use Rattle.std.proofs.Common.{◌≡◌, ℕ, suc, ◌+◌, ◌<◌, Bool, true, false, not, ◌&&◌, ◌||◌, List, [], ◌∷◌, ◌++◌, length, drop, Option, Some, slice_get, refl, sym, ◌∙◌, ap, add-one, drop-cons}
 use Rattle.std.specs.Prelude.{nat_lt}
-use Rattle.sw_text_scan.proofs.Bounds.{if_false}
-use Rattle.sw_parse_terminals.specs.declared.terminal.Terminal.{Terminal}
+use Rattle.std.proofs.lemmas.Option.{slice_get_within, get_or_from_slice_get}
+use Rattle.sw_text_scan.proofs.Bounds.{if_true, if_false}
 use Rattle.sw_parse_terminals.specs.declared.lexeme.Lexeme.{Lexeme}
+use Rattle.sw_parse_lexemes.specs.declared.sort.Sort.TheVariants as sorts
 use Rattle.sw_parse_lexemes.specs.declared.plain.Plain.{Plain}
 use Rattle.sw_parse_lexemes.specs.declared.state.State.{State}
 use Rattle.sw_parse_lexemes.specs.Classes.{is_comment}
 use Rattle.sw_parse_lexemes.specs.Ahead.{sort_at}
 use Rattle.sw_parse_lexemes.specs.Terminals.{terminal_of}
-use Rattle.sw_parse_lexemes.specs.Steps.{placed, is_white, after}
+use Rattle.sw_parse_lexemes.specs.Steps.{placed, is_white, are_white, after, past_white}
 use Rattle.sw_parse_lexemes.specs.Lexemes.{Reading, lexeme_of, skipped, kept, read_placed, read, optional, lexemes_from, lexemes_by}
-use Rattle.sw_convert_passing.specs.Passed.{Passed, Seen}
-
-no_and : (a b : Bool) → a ≡ false → (a && b) ≡ false
-no_and true b e = absurd (cc)
-no_and false b e = refl
+use Rattle.sw_convert_passing.specs.Written.{Written, Passed, nothing, token, comment, PassedIsSeen}
+use Rattle.sw_convert_passing.proofs.Facts.{no_and, both}
 
 module _ (plains : List Plain) where
-  -- a token within a statement that is no comment is kept
-  read_kept : (state : State) (at : ℕ) (plain : Plain) → state.start ≡ false → state.ignored ≡ 0 → is_comment (sort_at plains at) ≡ false
-      → read state plains at plain ≡ kept state at plain (terminal_of state plains at)
+  -- within a statement a token is read where it stands
+  read_there : (state : State) (at : ℕ) (plain : Plain) → state.start ≡ false → state.ignored ≡ 0
+      → read state plains at plain ≡ read_placed state plains at plain
   unfolding read placed
-  read_kept state at plain start ignored code =
+  read_there state at plain start ignored =
       if_false (nat_lt 0 state.ignored) (skipped state plain) _ (ap (nat_lt 0) ignored)
       ∙ ap (λ (s : State). read_placed s plains at plain) (if_false state.start _ state start)
+
+  read_kept : (state : State) (at : ℕ) (plain : Plain) → state.start ≡ false → state.ignored ≡ 0
+      → is_comment (sort_at plains at) ≡ false
+      → read state plains at plain ≡ kept state at plain (terminal_of state plains at)
+  read_kept state at plain start ignored code =
+      read_there state at plain start ignored
       ∙ if_false (is_white state plains at) (skipped state plain) _ (no_and (is_comment (sort_at plains at)) _ code)
 
-  one : (state : State) (at : ℕ) (plain : Plain) (rest : List Plain) (terminal : Terminal) → terminal_of state plains at ≡ terminal → state.start ≡ false → state.ignored ≡ 0
-      → is_comment (sort_at plains at) ≡ false → lexemes_from plains state at (plain ∷ rest) ≡ lexeme_of plain at state.commented terminal ∷ lexemes_from plains (after state terminal) (at + 1) rest
-  one state at plain rest terminal e start ignored code =
-      ap (λ (r : Reading). optional r.lexeme ++ lexemes_from plains r.state (at + 1) rest)
-      (read_kept state at plain start ignored code ∙ ap (kept state at plain) e)
+  read_skipped : (state : State) (at : ℕ) (plain : Plain) → state.start ≡ false → state.ignored ≡ 0
+      → sort_at plains at ≡ sorts.Comment → read state plains at plain ≡ skipped state plain
+  read_skipped state at plain start ignored here =
+      read_there state at plain start ignored
+      ∙ if_true (is_white state plains at) (skipped state plain) _
+      (both (is_comment (sort_at plains at)) _ (ap is_comment here)
+      (ap (λ (b : Bool). not b || are_white state.comments) start))
 
-  next_one : (at : ℕ) (some : Plain) → at < length plains → drop at plains ≡ get_or plains at some ∷ drop (at + 1) plains
-  next_one at some lt = rw add-one (drop-cons plains at some lt)
+  next_is : (at : ℕ) (plain : Plain) → slice_get plains at ≡ Some plain → drop at plains ≡ plain ∷ drop (at + 1) plains
+  next_is at plain e =
+      let lt : at < length plains = slice_get_within plains at plain e in
+      rw add-one (drop-cons plains at plain lt ∙ ap (λ (x : Plain). x ∷ drop (suc at) plains) (get_or_from_slice_get plains at plain plain e))
 
-  first_of : (xs : List Plain) → 0 < length xs → Plain
-  first_of [] lt = absurd (omega (arith, lt))
-  first_of (x ∷ xs) lt = x
+  one : (state : State) (at : ℕ) (plain : Plain) (reading : Reading) → slice_get plains at ≡ Some plain
+      → read state plains at plain ≡ reading
+      → lexemes_by plains state at ≡ optional reading.lexeme ++ lexemes_by plains reading.state (at + 1)
+  one state at plain reading is_plain e =
+      ap (lexemes_from plains state at) (next_is at plain is_plain)
+      ∙ ap (λ (r : Reading). optional r.lexeme ++ lexemes_from plains r.state (at + 1) (drop (at + 1) plains)) e
 
-  pub told : (state : State) (at : ℕ) (terminals : List Terminal) (end : State) → Passed plains state at terminals end
-      → (lexemes : List Lexeme) × (map (λ (lexeme : Lexeme). lexeme.terminal) lexemes ≡ terminals) × (lexemes_by plains state at ≡ lexemes ++ lexemes_by plains end (at + length terminals))
-  told state at [] end p = (
-    [],
-    refl,
-    ap (λ (s : State). lexemes_by plains s at) (sym p) ∙ ap (lexemes_by plains end) (let z : at ≡ at + 0 = omega arith in z),
-  )
-  told state at (terminal ∷ terminals) end (e, start, ignored, lt, code, p) =
-      let some = first_of plains (omega (arith, lt)) in
-      let plain = get_or plains at some in
-      let (lexemes, kinds, rest) = told (after state terminal) (at + 1) terminals end p in (
-        lexeme_of plain at state.commented terminal ∷ lexemes,
-        ap (λ (x : List Terminal). terminal ∷ x) kinds,
-        ap (lexemes_from plains state at) (next_one at some lt)
-            ∙ one state at plain (drop (at + 1) plains) terminal e start ignored code
-            ∙ ap (λ (x : List Lexeme). lexeme_of plain at state.commented terminal ∷ x) rest
-            ∙ ap (λ (k : ℕ). lexeme_of plain at state.commented terminal ∷ (lexemes ++ lexemes_by plains end k)) (let z : (at + 1) + length terminals ≡ at + length (terminal ∷ terminals) = omega arith in z),
-      )
+  seen : {state : State} {at : ℕ} {tokens : List Written} {lexemes : List Lexeme} {end : State} {to : ℕ}
+      → Passed plains state at tokens lexemes end to
+      → lexemes_by plains state at ≡ lexemes ++ lexemes_by plains end to
+  seen nothing = refl
+  seen (token {state} {end} {at} {to} {tokens} {lexemes} plain other is_plain code start ignored among p) =
+      one state at plain (kept state at plain (terminal_of state plains at)) is_plain
+      (read_kept state at plain start ignored code)
+      ∙ ap (λ (x : List Lexeme). lexeme_of plain at state.commented (terminal_of state plains at) ∷ x) (seen p)
+  seen (comment {state} {end} {at} {to} {tokens} {lexemes} plain other is_plain here start ignored p) =
+      one state at plain (skipped state plain) is_plain (read_skipped state at plain start ignored here)
+      ∙ seen p
 
-pub seen : Seen
-seen = told
+pub passed_is_seen : PassedIsSeen
+passed_is_seen plains state at tokens lexemes end to p = seen plains p

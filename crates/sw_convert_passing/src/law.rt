@@ -1,13 +1,15 @@
-// Operators and variables behind an operand are what they were written as.
-ghost use Rattle.sw_convert_passing.specs.Passed.{Links, Seen};
-
-/// A law: behind an operand, operators with white space around them and variables are these, and an operand again
-/// stands behind each.
-pub fn links_are_told()
-    ensures { Links }
-{}
+// Tokens are read as what they are written as.
+ghost use Rattle.sw_convert_passing.specs.Laws.{RowsAreTold, ValuesAreTold};
+ghost use Rattle.sw_convert_passing.specs.Written.{PassedIsSeen};
 
 /// A law: what is passed token by token is what the grammar sees of these tokens.
-pub fn passed_is_seen()
-    ensures { Seen }
+pub fn tokens_are_passed()
+    ensures { PassedIsSeen }
+{}
+
+/// A law: wherever a value may begin, the tokens that are written of one are the terminals that are meant, in each mode in
+/// which values stand, through any number of brackets in each other; so are values with commas and colons between them.
+pub fn values_are_told()
+    ensures values { ValuesAreTold }
+    ensures rows { RowsAreTold }
 {}

@@ -1,0 +1,309 @@
+-- Values as they are written: each sign and each bracket where it is meant to stand, and one space between what has one.
+use Rattle.std.specs.Prelude.{◌≡◌, Bool, true, false, not, ◌&&◌, ◌||◌, List, [], ◌∷◌, ◌++◌}
+use Rattle.sw_parse_terminals.specs.declared.terminal.Terminal.{Terminal}
+use Rattle.sw_parse_terminals.specs.declared.terminal.Terminal.TheVariants as terminals
+use Rattle.sw_parse_lexemes.specs.declared.sort.Sort.{Sort}
+use Rattle.sw_parse_lexemes.specs.declared.sort.Sort.TheVariants as sorts
+use Rattle.sw_parse_lexemes.specs.declared.state.Mode.{Mode}
+use Rattle.sw_parse_lexemes.specs.declared.state.Mode.TheVariants as modes
+use Rattle.sw_parse_lexemes.specs.Classes.{is_name, is_reserved, is_number, same}
+use Rattle.sw_parse_lexemes.specs.Names.{is_special_name}
+use Rattle.sw_convert_passing.specs.Written.{Written, written, direct, apart}
+
+abbrev pub is_quoted : Sort → Bool
+is_quoted sorts.Quoted = true
+is_quoted sorts.Unnamed = true
+is_quoted _ = false
+
+-- what may stand directly behind a `#`
+abbrev pub is_hash_name : Sort → Bool
+is_hash_name sorts.Hex = true
+is_hash_name sort = is_name sort
+
+-- a name that is a constant or an operator, whatever stands around it
+abbrev pub is_keyword : Sort → Bool
+is_keyword sorts.True = true
+is_keyword sorts.False = true
+is_keyword sorts.Null = true
+is_keyword sorts.And = true
+is_keyword sorts.Or = true
+is_keyword sorts.Not = true
+is_keyword _ = false
+
+abbrev pub is_constant : Sort → Bool
+is_constant sorts.True = true
+is_constant sorts.False = true
+is_constant sorts.Null = true
+is_constant _ = false
+
+abbrev pub keyword : Sort → Terminal
+keyword sorts.True = terminals.True
+keyword sorts.False = terminals.False
+keyword sorts.Null = terminals.Null
+keyword sorts.And = terminals.And
+keyword sorts.Or = terminals.Or
+keyword sorts.Not = terminals.Not
+keyword _ = terminals.Word
+
+-- `through` and `to` in the bounds of `@for`
+abbrev pub is_bound : Sort → Bool
+is_bound sorts.Through = true
+is_bound sorts.To = true
+is_bound _ = false
+
+abbrev pub ends_bound : Mode → Sort → Bool
+ends_bound modes.Bounds sort = is_bound sort
+ends_bound modes.BoundEnds sort = is_bound sort
+ends_bound _ sort = false
+
+-- a name that is a word: in a mode, behind a namespace or not, and before the arguments of a call or not
+abbrev pub is_word : Mode → Bool → Bool → Sort → Bool
+is_word mode owned called sort =
+    not (is_reserved sort) && (not (ends_bound mode sort) && (owned || (not called || not (is_special_name sort))))
+
+-- what goes on with a word, but a `#{`
+abbrev pub is_part : Sort → Bool
+is_part sorts.Digits = true
+is_part sorts.Minus = true
+is_part sort = is_name sort
+
+abbrev pub begins_insert : List Written → Bool
+begins_insert [] = false
+begins_insert (token ∷ tokens) = same token.sort sorts.OpenInsert
+
+-- tokens that are the same wherever a value stands
+abbrev pub is_lone : Sort → Bool
+is_lone sorts.Hex = true
+is_lone sorts.Template = true
+is_lone sorts.Text = true
+is_lone sorts.TemplateEnd = true
+is_lone sorts.Url = true
+is_lone sorts.UrlTemplate = true
+is_lone sorts.Piece = true
+is_lone sorts.UrlEnd = true
+is_lone sorts.Range = true
+is_lone sorts.Colon = true
+is_lone sorts.Ellipsis = true
+is_lone sorts.Hash = true
+is_lone sorts.Ampersand = true
+is_lone sorts.Percent = true
+is_lone sorts.EqualsEquals = true
+is_lone sorts.NotEquals = true
+is_lone sorts.Less = true
+is_lone sorts.LessEquals = true
+is_lone sorts.Greater = true
+is_lone sorts.GreaterEquals = true
+is_lone _ = false
+
+abbrev pub lone : Sort → Terminal
+lone sorts.Hex = terminals.HashName
+lone sorts.Template = terminals.Template
+lone sorts.Text = terminals.TextPiece
+lone sorts.TemplateEnd = terminals.TemplateEnd
+lone sorts.Url = terminals.Url
+lone sorts.UrlTemplate = terminals.UrlTemplate
+lone sorts.Piece = terminals.Piece
+lone sorts.UrlEnd = terminals.UrlEnd
+lone sorts.Range = terminals.Range
+lone sorts.Colon = terminals.Colon
+lone sorts.Ellipsis = terminals.Ellipsis
+lone sorts.Hash = terminals.Hash
+lone sorts.Ampersand = terminals.Ampersand
+lone sorts.Percent = terminals.Modulo
+lone sorts.EqualsEquals = terminals.Equal
+lone sorts.NotEquals = terminals.NotEqual
+lone sorts.Less = terminals.Less
+lone sorts.LessEquals = terminals.LessEqual
+lone sorts.Greater = terminals.Greater
+lone sorts.GreaterEquals = terminals.GreaterEqual
+lone _ = terminals.Other
+
+-- the same that are a value by themselves
+abbrev pub is_lone_value : Sort → Bool
+is_lone_value sorts.Url = true
+is_lone_value sorts.Range = true
+is_lone_value sorts.Ampersand = true
+is_lone_value _ = false
+
+-- operators between two values, and before one
+abbrev pub is_operator : Sort → Bool
+is_operator sorts.Or = true
+is_operator sorts.And = true
+is_operator sorts.EqualsEquals = true
+is_operator sorts.NotEquals = true
+is_operator sorts.Less = true
+is_operator sorts.LessEquals = true
+is_operator sorts.Greater = true
+is_operator sorts.GreaterEquals = true
+is_operator sorts.Plus = true
+is_operator sorts.Minus = true
+is_operator sorts.Star = true
+is_operator sorts.Slash = true
+is_operator sorts.Percent = true
+is_operator _ = false
+
+abbrev pub operator : Sort → Terminal
+operator sorts.Or = terminals.Or
+operator sorts.And = terminals.And
+operator sorts.EqualsEquals = terminals.Equal
+operator sorts.NotEquals = terminals.NotEqual
+operator sorts.Less = terminals.Less
+operator sorts.LessEquals = terminals.LessEqual
+operator sorts.Greater = terminals.Greater
+operator sorts.GreaterEquals = terminals.GreaterEqual
+operator sorts.Plus = terminals.Plus
+operator sorts.Minus = terminals.Minus
+operator sorts.Star = terminals.Times
+operator sorts.Slash = terminals.Divide
+operator _ = terminals.Modulo
+
+abbrev pub is_prefix : Sort → Bool
+is_prefix sorts.Plus = true
+is_prefix sorts.Minus = true
+is_prefix sorts.Slash = true
+is_prefix _ = false
+
+abbrev pub prefix : Sort → Terminal
+prefix sorts.Plus = terminals.PrefixPlus
+prefix sorts.Minus = terminals.PrefixMinus
+prefix _ = terminals.PrefixSlash
+
+-- signs between values
+abbrev pub is_separator : Sort → Bool
+is_separator sorts.Comma = true
+is_separator sorts.Colon = true
+is_separator sorts.Ellipsis = true
+is_separator _ = false
+
+abbrev pub separator : Sort → Terminal
+separator sorts.Comma = terminals.Comma
+separator sorts.Colon = terminals.Colon
+separator _ = terminals.Ellipsis
+
+-- an empty comment, which keeps two tokens apart
+abbrev pub seam : Written
+seam = record { sort = sorts.Comment; spaced = false; may_be = [] }
+
+abbrev pub dollar : Bool → Written
+dollar spaced =
+    record { sort = sorts.Dollar; spaced = spaced; may_be = terminals.Dollar ∷ terminals.DollarNamed ∷ [] }
+
+abbrev pub opened_paren : Bool → Written
+opened_paren spaced =
+    record { sort = sorts.OpenParen; spaced = spaced; may_be = terminals.Paren ∷ terminals.ConditionParen ∷ [] }
+
+-- tokens between two others, behind which more stand
+abbrev pub enclosed : Written → List Written → Written → List Written → List Written
+enclosed opening inner closing rest = opening ∷ (inner ++ closing ∷ rest)
+
+-- what stands in a `#{}` that is opened as a terminal
+abbrev pub inserted : Bool → Terminal → List Written → List Written → List Written
+inserted spaced terminal inner rest =
+    enclosed (written sorts.OpenInsert spaced terminal) inner (direct sorts.CloseInsert terminals.InsertEnd) rest
+
+mutual
+  -- a value in a mode: with white space before it or not, and beginning with a sign that is an operator behind another
+  -- value or not
+  pub data Value : Mode → Bool → Bool → List Written → Type 0 where
+    number : {mode : Mode} {spaced : Bool} → (sort : Sort) → is_number sort ≡ true
+        → Value mode spaced false (written sort spaced terminals.Number ∷ [])
+    negative : {mode : Mode} {spaced : Bool} → (sort : Sort) → is_number sort ≡ true
+        → Value mode spaced false (written sorts.Minus spaced terminals.Sign ∷ direct sort terminals.Number ∷ [])
+    quoted : {mode : Mode} {spaced : Bool} → (sort : Sort) → is_quoted sort ≡ true
+        → Value mode spaced false (written sort spaced terminals.Quoted ∷ [])
+    template : {mode : Mode} {spaced : Bool} {inner : List Written} → Pieces sorts.Text inner
+        → Value mode spaced false
+        (enclosed (written sorts.Template spaced terminals.Template) inner (direct sorts.TemplateEnd terminals.TemplateEnd) [])
+    hash : {mode : Mode} {spaced : Bool} → (sort : Sort) → is_hash_name sort ≡ true
+        → Value mode spaced false (written sorts.Hash spaced terminals.Hash ∷ direct sort terminals.HashName ∷ [])
+    constant : {mode : Mode} {spaced : Bool} → (sort : Sort) → is_constant sort ≡ true
+        → Value mode spaced false (written sort spaced (keyword sort) ∷ [])
+    lone_value : {mode : Mode} {spaced : Bool} → (sort : Sort) → is_lone_value sort ≡ true
+        → Value mode spaced false (written sort spaced (lone sort) ∷ [])
+    url_template : {mode : Mode} {spaced : Bool} {inner : List Written} → Pieces sorts.Piece inner
+        → Value mode spaced false
+        (enclosed (written sorts.UrlTemplate spaced terminals.UrlTemplate) inner (direct sorts.UrlEnd terminals.UrlEnd) [])
+    variable : {mode : Mode} {spaced : Bool} → (name : Sort) → is_name name ≡ true
+        → Value mode spaced false (dollar spaced ∷ direct name terminals.VariableName ∷ [])
+    owned_variable : {mode : Mode} {spaced : Bool} → (owner name : Sort) → is_name owner ≡ true → is_name name ≡ true
+        → Value mode spaced false
+        (written owner spaced terminals.Owner ∷ direct sorts.Dot terminals.OwnerDot
+        ∷ direct sorts.Dollar terminals.OwnerDollar ∷ direct name terminals.VariableName ∷ [])
+    owned_call : {mode : Mode} {spaced : Bool} {name call : List Written} → (owner : Sort) → is_name owner ≡ true
+        → Word mode false true true name → Call call
+        → Value mode spaced false
+        (written owner spaced terminals.Owner ∷ direct sorts.Dot terminals.OwnerDot ∷ (name ++ call))
+    word : {mode : Mode} {spaced : Bool} {name : List Written} → Word mode spaced false false name
+        → Value mode spaced false name
+    call : {mode : Mode} {spaced : Bool} {name call : List Written} → Word mode spaced false true name → Call call
+        → Value mode spaced false (name ++ call)
+    important : {mode : Mode} {spaced : Bool}
+        → Value mode spaced false
+        (written sorts.Exclamation spaced terminals.Bang ∷ direct sorts.Important terminals.Important ∷ [])
+    in_parens : {mode : Mode} {spaced : Bool} {inner : List Written} → Items inner
+        → Value mode spaced false (enclosed (opened_paren spaced) inner (direct sorts.CloseParen terminals.ParenEnd) [])
+    in_brackets : {mode : Mode} {spaced : Bool} {inner : List Written} → Items inner
+        → Value mode spaced false
+        (enclosed (written sorts.OpenBracket spaced terminals.Bracket) inner (direct sorts.CloseBracket terminals.BracketEnd)
+        [])
+    negated : {mode : Mode} {spaced signed : Bool} {value : List Written} → Value mode true signed value
+        → Value mode spaced false (written sorts.Not spaced terminals.Not ∷ value)
+    prefixed : {mode : Mode} {spaced signed : Bool} {value : List Written} → (sort : Sort) → is_prefix sort ≡ true
+        → Value mode true signed value → Value mode spaced true (written sort spaced (prefix sort) ∷ value)
+    linked : {mode : Mode} {spaced signed next : Bool} {left right : List Written} → Value mode spaced signed left
+        → (sort : Sort) → is_operator sort ≡ true → Value mode true next right
+        → Value mode spaced signed (left ++ apart sort (operator sort) ∷ right)
+    -- the `/` of a quotient of literals
+    divided : {mode : Mode} {spaced signed next : Bool} {left right : List Written} → Value mode spaced signed left
+        → Value mode false next right → Value mode spaced signed (left ++ direct sorts.Slash terminals.Divide ∷ right)
+    beside : {mode : Mode} {spaced signed : Bool} {left right : List Written} → Value mode spaced signed left
+        → Value mode true false right → Value mode spaced signed (left ++ right)
+    seamed : {mode : Mode} {spaced signed : Bool} {value : List Written} → Value mode spaced signed value
+        → Value mode spaced signed (value ++ seam ∷ [])
+
+  -- a word in a mode: with white space before it or not, behind a namespace or not, before the arguments of a call or not
+  pub data Word : Mode → Bool → Bool → Bool → List Written → Type 0 where
+    named : {mode : Mode} {spaced owned called : Bool} {parts : List Written} → (sort : Sort) → is_name sort ≡ true
+        → (begins_insert parts || is_word mode owned called sort) ≡ true → Parts parts
+        → Word mode spaced owned called (written sort spaced terminals.Word ∷ parts)
+    begun : {mode : Mode} {spaced owned called : Bool} {inner parts : List Written} → Items inner → Parts parts
+        → Word mode spaced owned called (inserted spaced terminals.WordInsert inner parts)
+    begun_minus : {mode : Mode} {spaced owned called : Bool} {inner parts : List Written} → Items inner → Parts parts
+        → Word mode spaced owned called
+        (written sorts.Minus spaced terminals.WordMinus ∷ inserted false terminals.WordInsert inner parts)
+
+  -- what goes on with a word
+  pub data Parts : List Written → Type 0 where
+    no_part : Parts []
+    part : {parts : List Written} → (sort : Sort) → is_part sort ≡ true → Parts parts
+        → Parts (direct sort terminals.Part ∷ parts)
+    part_insert : {inner parts : List Written} → Items inner → Parts parts
+        → Parts (inserted false terminals.PartInsert inner parts)
+
+  -- the arguments of a call
+  pub data Call : List Written → Type 0 where
+    arguments : {inner : List Written} → Items inner
+        → Call (enclosed (direct sorts.OpenParen terminals.CallParen) inner (direct sorts.CloseParen terminals.ParenEnd) [])
+
+  -- what stands in a string or a url with `#{}`
+  pub data Pieces : Sort → List Written → Type 0 where
+    no_piece : {what : Sort} → Pieces what []
+    text_piece : {what : Sort} {pieces : List Written} → Pieces what pieces
+        → Pieces what (direct what (lone what) ∷ pieces)
+    piece_insert : {what : Sort} {inner pieces : List Written} → Items inner → Pieces what pieces
+        → Pieces what (inserted false terminals.Insert inner pieces)
+
+  -- what stands in brackets
+  pub data Items : List Written → Type 0 where
+    no_items : Items []
+    items : {ended : Bool} {row : List Written} → Row modes.Expression false ended row → Items row
+    seamed_items : {ended : Bool} {row : List Written} → Row modes.Expression true ended row → Items (seam ∷ row)
+
+  -- values with signs between them: with white space before the first or not, and ending with a value or a sign
+  pub data Row : Mode → Bool → Bool → List Written → Type 0 where
+    first : {mode : Mode} {spaced signed : Bool} {value : List Written} → Value mode spaced signed value
+        → Row mode spaced true value
+    separated : {mode : Mode} {spaced ended : Bool} {row : List Written} → Row mode spaced ended row → (sort : Sort)
+        → is_separator sort ≡ true → Row mode spaced false (row ++ direct sort (separator sort) ∷ [])
+    further : {mode : Mode} {spaced signed : Bool} {row value : List Written} → Row mode spaced false row
+        → Value mode true signed value → Row mode spaced true (row ++ value)
