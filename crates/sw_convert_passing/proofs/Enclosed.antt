@@ -22,19 +22,19 @@ use Rattle.sw_parse_lexemes.specs.Steps.{opened_by, inner_mode, begins_statement
 use Rattle.sw_convert_passing.specs.Written.{Written, written, direct, IsThere, Among, Stand, Within}
 use Rattle.sw_convert_passing.specs.Places.{is_value, stops, IsClosed, Told}
 use Rattle.sw_convert_passing.specs.Values.{enclosed, inserted, opened_paren}
-use Rattle.sw_convert_passing.proofs.Facts.{both, opens_value, inner_value, operand_precedes, fresh}
+use Rattle.sw_convert_passing.proofs.Facts.{takes_calls, call_inner, both, opens_value, inner_value, operand_precedes, fresh}
 use Rattle.sw_convert_passing.proofs.Steps.{Reads, join, step, stay_at, Next, framed, opens, innermost_is, is_closing, closes, closes_insert}
 use Rattle.sw_convert_passing.proofs.Tokens.{by_insert_end, paren_here, call_paren_here, bracket_here}
 use Rattle.sw_convert_passing.proofs.Entries.{split, Entry, Led, Leads, led, Result, result, reads, one_of, closed_stops, IsTold}
 use Rattle.sw_convert_passing.proofs.Leaves.{no_further, fresh_here}
 
 -- what closes the innermost frame
-closing_paren : (state : State) (plains : List Plain) (at : ℕ) → sort_at plains at ≡ sorts.CloseParen
+pub closing_paren : (state : State) (plains : List Plain) (at : ℕ) → sort_at plains at ≡ sorts.CloseParen
     → terminal_of state plains at ≡ closes_paren state.mode (innermost state.frames)
 unfolding terminal_of
 closing_paren state plains at e = rw (e, terminal_of) refl
 
-closing_bracket : (state : State) (plains : List Plain) (at : ℕ) → sort_at plains at ≡ sorts.CloseBracket
+pub closing_bracket : (state : State) (plains : List Plain) (at : ℕ) → sort_at plains at ≡ sorts.CloseBracket
     → terminal_of state plains at ≡ closes_bracket state.mode (innermost state.frames)
 unfolding terminal_of
 closing_bracket state plains at e = rw (e, terminal_of) refl
@@ -105,16 +105,16 @@ pub record Round (plains : List Plain) (mode : Mode) (frames : List Frame) (stat
 -- `(..)` and `[..]`
 pub round : {mode : Mode} {frames : List Frame} {plains : List Plain} {at to : ℕ} (state : State) (kind : Bracket)
     (sort : Sort) (close : Terminal) (opening_token : Written) (opening : Terminal) (inner : List Written)
-    → is_value mode ≡ true → Within mode frames state → Closes kind sort close → Opening kind opening → IsInner inner
+    → inner_mode mode opening ≡ modes.Expression → Within mode frames state → Closes kind sort close → Opening kind opening
+    → IsInner inner
     → Stand plains at (enclosed opening_token inner (direct sort close) []) to → is_comment opening_token.sort ≡ false
     → terminal_of state plains at ≡ opening → Among opening opening_token.may_be
     → Round plains mode frames state at (enclosed opening_token inner (direct sort close) []) close false to
-round {mode} {frames} {plains} {at} {to} state kind sort close opening_token opening inner value within how opens_it told
+round {mode} {frames} {plains} {at} {to} state kind sort close opening_token opening inner inside within how opens_it told
     (there, stand) code is_opening among =
     let (place, stands, (last, e)) = split plains to inner (direct sort close ∷ []) (at + 1) stand in
     let c = closing how in
-    let n = opens state within opening kind modes.Expression opens_it.opened opens_it.begins
-    (inner_value mode opening value opens_it.inner) in
+    let n = opens state within opening kind modes.Expression opens_it.opened opens_it.begins inside in
     let s1 = after state opening in
     let t = told plains (frames ++ framed kind opening mode ∷ []) s1 (at + 1) place n.within
     (led opening opens_it.leads n.before n.word) stands (closed_stops plains place sort c.stop last.sort) in
@@ -192,7 +192,8 @@ module _ {mode : Mode} {spaced : Bool} (inner : List Written) (told : IsInner in
       → Result plains mode frames state at
       (enclosed (opened_paren spaced) inner (direct sorts.CloseParen terminals.ParenEnd) []) to
   in_parens_as plains frames state at to opening entry how stand is_opening among =
-      let r = round state brackets.Paren sorts.CloseParen terminals.ParenEnd (opened_paren spaced) opening inner entry.value entry.within
+      let r = round state brackets.Paren sorts.CloseParen terminals.ParenEnd (opened_paren spaced) opening inner
+              (inner_value mode opening entry.value how.inner) entry.within
       paren how told stand refl is_opening among in
       result r.end r.reads r.within (ap ends_operand r.before)
 
@@ -230,7 +231,8 @@ module _ {mode : Mode} {spaced : Bool} (inner : List Written) (told : IsInner in
           (enclosed (written sorts.OpenBracket spaced terminals.Bracket) inner (direct sorts.CloseBracket terminals.BracketEnd) []) to
       go plains frames state at to entry stand =
           let r = round state brackets.Bracket sorts.CloseBracket terminals.BracketEnd
-          (written sorts.OpenBracket spaced terminals.Bracket) terminals.Bracket inner entry.value entry.within bracket
+          (written sorts.OpenBracket spaced terminals.Bracket) terminals.Bracket inner
+                  (inner_value mode terminals.Bracket entry.value refl) entry.within bracket
           (record { opened = refl; begins = refl; inner = refl; leads = record { before = refl; operand = refl; comma = refl }; no_raw = refl })
           told stand refl (bracket_here entry.value state entry.within plains at stand.0.sort) one_of in
           result r.end r.reads r.within (ap ends_operand r.before)
@@ -238,18 +240,19 @@ module _ {mode : Mode} {spaced : Bool} (inner : List Written) (told : IsInner in
 -- the arguments of a call, behind its name
 abbrev pub IsCall : List Written → Type 0
 IsCall tokens =
-    (mode : Mode) (plains : List Plain) (frames : List Frame) (state : State) (at to : ℕ) → is_value mode ≡ true
+    (mode : Mode) (plains : List Plain) (frames : List Frame) (state : State) (at to : ℕ) → takes_calls mode ≡ true
     → Within mode frames state → state.word ≡ true → ends_operand state.before ≡ true → Stand plains at tokens to
-    → Result plains mode frames state at tokens to
+    → (told : Told plains mode frames state at tokens to) × (told.end.before ≡ terminals.ParenEnd) × (told.end.word ≡ false)
 
 pub call_told : (inner : List Written) → IsInner inner
     → IsCall (enclosed (direct sorts.OpenParen terminals.CallParen) inner (direct sorts.CloseParen terminals.ParenEnd) [])
-call_told inner told mode plains frames state at to value within word operand stand =
+call_told inner told mode plains frames state at to calls within word operand stand =
     let further : continues state plains at ≡ true = both state.word _ word (ap not stand.0.spaced) in
     let r = round state brackets.Paren sorts.CloseParen terminals.ParenEnd (direct sorts.OpenParen terminals.CallParen)
-    terminals.CallParen inner value within paren
+    terminals.CallParen inner (call_inner mode) within paren
     (record { opened = refl; begins = refl; inner = refl; leads = record { before = refl; operand = refl; comma = refl }; no_raw = refl })
     told stand refl
-    (call_paren_here value state within plains at stand.0.sort further
+    (call_paren_here state plains at (ap takes_calls within.mode_is ∙ calls) stand.0.sort further
     (fresh state.before (operand_precedes state.before operand)).special) one_of in
-    result r.end r.reads r.within (ap ends_operand r.before)
+    let (lexemes, passed) = r.reads in
+    (record { lexemes = lexemes; end = r.end; passed = passed; within = r.within }, r.before, r.word)

@@ -74,7 +74,7 @@ bracket_inner : (mode : Mode) → inner_mode mode terminals.Bracket ≡ modes.Ex
 bracket_inner modes.Media = refl
 bracket_inner _ = refl
 
-call_inner : (mode : Mode) → inner_mode mode terminals.CallParen ≡ modes.Expression
+pub call_inner : (mode : Mode) → inner_mode mode terminals.CallParen ≡ modes.Expression
 call_inner modes.Media = refl
 call_inner _ = refl
 
@@ -85,6 +85,21 @@ word_inner _ = refl
 part_inner : (mode : Mode) → inner_mode mode terminals.PartInsert ≡ modes.Expression
 part_inner modes.Media = refl
 part_inner _ = refl
+
+-- the parentheses of a special function
+pub raw_inner : (mode : Mode) → is_value mode ≡ true → inner_mode mode terminals.RawParen ≡ modes.Special
+raw_inner modes.Raw v = absurd (cc)
+raw_inner modes.Custom v = absurd (cc)
+raw_inner _ v = refl
+
+-- the modes in which functions are called
+abbrev pub takes_calls : Mode → Bool
+takes_calls modes.Special = true
+takes_calls mode = is_value mode
+
+pub value_calls : (mode : Mode) → is_value mode ≡ true → takes_calls mode ≡ true
+value_calls modes.Special v = refl
+value_calls _ v = v
 
 template_inner : (mode : Mode) → inner_mode mode terminals.Template ≡ modes.Text
 template_inner modes.Media = refl

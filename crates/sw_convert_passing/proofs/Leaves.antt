@@ -127,7 +127,7 @@ module _ {mode : Mode} {spaced : Bool} where
     told = λ plains frames state at to entry stand closed.
         last (written sort spaced terminals.Number) terminals.Number entry.value entry.within stand.0 stand.1
         (number_code sort n)
-        (number_here entry.value state entry.within plains at sort n stand.0.sort (no_further plains at entry stand.0.spaced))
+        (number_here (value_mode mode entry.value).raw state entry.within plains at sort n stand.0.sort (no_further plains at entry stand.0.spaced))
         one_of (record { goes = refl; begins = refl }) refl;
   }
 
@@ -152,7 +152,7 @@ module _ {mode : Mode} {spaced : Bool} where
           ∙ number_no_insert (spaced_at plains (at + 1)) sort n in
           let told = sign_here entry.value state entry.within plains at there.sort (no_further plains at entry there.spaced) no_insert signs in
           let n1 = next state entry.within (value_mode mode entry.value).steady terminals.Sign refl refl in
-          let second = number_here entry.value (after state terminals.Sign) n1.within plains (at + 1) sort n number.sort
+          let second = number_here (value_mode mode entry.value).raw (after state terminals.Sign) n1.within plains (at + 1) sort n number.sort
           (never (after state terminals.Sign) plains (at + 1) n1.word) in
           let (t, operand) = last (direct sort terminals.Number) terminals.Number entry.value n1.within number e (number_code sort n)
           second one_of (record { goes = refl; begins = refl }) refl in
@@ -260,7 +260,7 @@ module _ {mode : Mode} {spaced : Bool} where
           let n1 = next state entry.within (value_mode mode entry.value).steady first plainly.goes plainly.begins in
           let (t, operand) = last (direct name terminals.VariableName) terminals.VariableName entry.value n1.within second e
           (name_code name n)
-          (variable_name_here entry.value (after state first) n1.within plains (at + 1) (ap is_name second.sort ∙ n)
+          (variable_name_here (value_mode mode entry.value).raw (after state first) n1.within plains (at + 1) (ap is_name second.sort ∙ n)
           (never (after state first) plains (at + 1) (n1.word ∙ word)) (ap behind_dollar n1.before ∙ behind) second.spaced)
           one_of (record { goes = refl; begins = refl }) refl in
           result t.end (join (step plains state at (dollar spaced) first entry.within there refl told among) (t.lexemes, t.passed))
@@ -296,7 +296,7 @@ owned_by {mode} {spaced} {frames} plains state at owner n entry there dot =
     f.dollar f.hash f.bang (no_and _ _ f.owned) (and_no _ _ (no_end _ _ is_dot)) no_insert f.owned is_dot in
     let n1 = next state entry.within (value_mode mode entry.value).steady terminals.Owner refl refl in
     let s1 = after state terminals.Owner in
-    let told2 = owner_dot_here entry.value s1 n1.within plains (at + 1) dot.sort (ap (λ (t : Terminal). is t terminals.Owner) n1.before) dot.spaced in
+    let told2 = owner_dot_here (value_mode mode entry.value).raw s1 n1.within plains (at + 1) dot.sort (ap (λ (t : Terminal). is t terminals.Owner) n1.before) dot.spaced in
     let n2 = next s1 n1.within (value_mode mode entry.value).steady terminals.OwnerDot refl refl in record {
       end = after s1 terminals.OwnerDot;
       reads = join (step plains state at (written owner spaced terminals.Owner) terminals.Owner entry.within there (name_code owner n) told one_of)
@@ -328,13 +328,13 @@ owned_variable_told {mode} {spaced} owner name o n = record {
         → Stand plains at (owned_tokens spaced owner name) to → Result plains mode frames state at (owned_tokens spaced owner name) to
     go plains frames state at to entry (there, (dot, (third, (fourth, e)))) =
         let by = owned_by plains state at owner o entry there dot in
-        let told = owner_dollar_here entry.value by.end by.within plains ((at + 1) + 1) third.sort
+        let told = owner_dollar_here (value_mode mode entry.value).raw by.end by.within plains ((at + 1) + 1) third.sort
         (ap (λ (t : Terminal). is t terminals.OwnerDot) by.before) third.spaced in
         let n1 = next by.end by.within (value_mode mode entry.value).steady terminals.OwnerDollar refl refl in
         let s1 = after by.end terminals.OwnerDollar in
         let (t, operand) = last (direct name terminals.VariableName) terminals.VariableName entry.value n1.within fourth e
         (name_code name n)
-        (variable_name_here entry.value s1 n1.within plains (((at + 1) + 1) + 1) (ap is_name fourth.sort ∙ n)
+        (variable_name_here (value_mode mode entry.value).raw s1 n1.within plains (((at + 1) + 1) + 1) (ap is_name fourth.sort ∙ n)
         (never s1 plains (((at + 1) + 1) + 1) n1.word) (ap behind_dollar n1.before) fourth.spaced)
         one_of (record { goes = refl; begins = refl }) refl in
         result t.end

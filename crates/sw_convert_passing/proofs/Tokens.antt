@@ -20,7 +20,7 @@ use Rattle.sw_parse_lexemes.proofs.NameLaws.{name_there}
 use Rattle.sw_convert_passing.specs.Written.{Within}
 use Rattle.sw_convert_passing.specs.Places.{is_value, may_precede}
 use Rattle.sw_convert_passing.specs.Values.{is_quoted, is_lone, lone, is_bound, ends_bound, is_keyword, keyword, is_part, is_separator, separator}
-use Rattle.sw_convert_passing.proofs.Facts.{no_and, and_no, both, ValueMode, value_mode, Fresh, fresh, word_of, Keyword, keyword_is}
+use Rattle.sw_convert_passing.proofs.Facts.{takes_calls, no_and, and_no, both, ValueMode, value_mode, Fresh, fresh, word_of, Keyword, keyword_is}
 
 -- which terminal a sort is given
 module _ (state : State) (plains : List Plain) (at : ℕ) where
@@ -28,19 +28,19 @@ module _ (state : State) (plains : List Plain) (at : ℕ) where
   unfolding terminal_of
   by_digits e = rw (e, terminal_of) refl
 
-  by_number : sort_at plains at ≡ sorts.Number → terminal_of state plains at ≡ number_terminal state.mode
+  pub by_number : sort_at plains at ≡ sorts.Number → terminal_of state plains at ≡ number_terminal state.mode
   unfolding terminal_of
   by_number e = rw (e, terminal_of) refl
 
-  by_quoted : sort_at plains at ≡ sorts.Quoted → terminal_of state plains at ≡ string_terminal state plains at true
+  pub by_quoted : sort_at plains at ≡ sorts.Quoted → terminal_of state plains at ≡ string_terminal state plains at true
   unfolding terminal_of
   by_quoted e = rw (e, terminal_of) refl
 
-  by_unnamed : sort_at plains at ≡ sorts.Unnamed → terminal_of state plains at ≡ string_terminal state plains at false
+  pub by_unnamed : sort_at plains at ≡ sorts.Unnamed → terminal_of state plains at ≡ string_terminal state plains at false
   unfolding terminal_of
   by_unnamed e = rw (e, terminal_of) refl
 
-  by_insert : sort_at plains at ≡ sorts.OpenInsert → terminal_of state plains at ≡ insert_terminal state plains at
+  pub by_insert : sort_at plains at ≡ sorts.OpenInsert → terminal_of state plains at ≡ insert_terminal state plains at
   unfolding terminal_of
   by_insert e = rw (e, terminal_of) refl
 
@@ -48,23 +48,23 @@ module _ (state : State) (plains : List Plain) (at : ℕ) where
   unfolding terminal_of
   by_insert_end e = rw (e, terminal_of) refl
 
-  by_paren : sort_at plains at ≡ sorts.OpenParen → terminal_of state plains at ≡ paren_terminal state plains at
+  pub by_paren : sort_at plains at ≡ sorts.OpenParen → terminal_of state plains at ≡ paren_terminal state plains at
   unfolding terminal_of
   by_paren e = rw (e, terminal_of) refl
 
-  by_dot : sort_at plains at ≡ sorts.Dot → terminal_of state plains at ≡ dot_terminal state plains at
+  pub by_dot : sort_at plains at ≡ sorts.Dot → terminal_of state plains at ≡ dot_terminal state plains at
   unfolding terminal_of
   by_dot e = rw (e, terminal_of) refl
 
-  by_dollar : sort_at plains at ≡ sorts.Dollar → terminal_of state plains at ≡ dollar_terminal state plains at
+  pub by_dollar : sort_at plains at ≡ sorts.Dollar → terminal_of state plains at ≡ dollar_terminal state plains at
   unfolding terminal_of
   by_dollar e = rw (e, terminal_of) refl
 
-  by_bang : sort_at plains at ≡ sorts.Exclamation → terminal_of state plains at ≡ bang_terminal state plains at
+  pub by_bang : sort_at plains at ≡ sorts.Exclamation → terminal_of state plains at ≡ bang_terminal state plains at
   unfolding terminal_of
   by_bang e = rw (e, terminal_of) refl
 
-  by_plus : sort_at plains at ≡ sorts.Plus → terminal_of state plains at ≡ plus_terminal state plains at
+  pub by_plus : sort_at plains at ≡ sorts.Plus → terminal_of state plains at ≡ plus_terminal state plains at
   unfolding terminal_of
   by_plus e = rw (e, terminal_of) refl
 
@@ -72,22 +72,22 @@ module _ (state : State) (plains : List Plain) (at : ℕ) where
   unfolding terminal_of
   by_minus e = rw (e, terminal_of) refl
 
-  by_star : sort_at plains at ≡ sorts.Star → terminal_of state plains at ≡ star_terminal state plains at
+  pub by_star : sort_at plains at ≡ sorts.Star → terminal_of state plains at ≡ star_terminal state plains at
   unfolding terminal_of
   by_star e = rw (e, terminal_of) refl
 
-  by_slash : sort_at plains at ≡ sorts.Slash
+  pub by_slash : sort_at plains at ≡ sorts.Slash
       → terminal_of state plains at
       ≡ (if is_text state.mode then terminals.Raw else by_operand state terminals.Divide terminals.PrefixSlash)
   unfolding terminal_of
   by_slash e = rw (e, terminal_of) refl
 
-  by_bracket : sort_at plains at ≡ sorts.OpenBracket
+  pub by_bracket : sort_at plains at ≡ sorts.OpenBracket
       → terminal_of state plains at ≡ (if is_text state.mode then terminals.RawBracket else terminals.Bracket)
   unfolding terminal_of
   by_bracket e = rw (e, terminal_of) refl
 
-  by_comma : sort_at plains at ≡ sorts.Comma → terminal_of state plains at ≡ comma_terminal state.mode
+  pub by_comma : sort_at plains at ≡ sorts.Comma → terminal_of state plains at ≡ comma_terminal state.mode
   unfolding terminal_of
   by_comma e = rw (e, terminal_of) refl
 
@@ -198,6 +198,71 @@ quoted_by terminals.AtForward loaded e = absurd (cc)
 quoted_by terminals.AtUse loaded e = absurd (cc)
 quoted_by _ loaded e = refl
 
+-- `(` directly behind a word
+calls_paren : (mode : Mode) (state : State) (plains : List Plain) (at : ℕ) → takes_calls mode ≡ true
+    → continues state plains at ≡ true → paren_in (record state { mode = mode }) plains at ≡ terminals.CallParen
+calls_paren modes.Expression state plains at v c = if_true (continues state plains at) terminals.CallParen _ c
+calls_paren modes.Ends state plains at v c = if_true (continues state plains at) terminals.CallParen _ c
+calls_paren modes.Bounds state plains at v c = if_true (continues state plains at) terminals.CallParen _ c
+calls_paren modes.BoundEnds state plains at v c = if_true (continues state plains at) terminals.CallParen _ c
+calls_paren modes.Params state plains at v c = if_true (continues state plains at) terminals.CallParen _ c
+calls_paren modes.Special state plains at v c = if_true (continues state plains at) terminals.CallParen _ c
+calls_paren _ state plains at v c = absurd (cc)
+
+pub call_paren_here : (state : State) (plains : List Plain) (at : ℕ) → takes_calls state.mode ≡ true
+    → sort_at plains at ≡ sorts.OpenParen → continues state plains at ≡ true → is state.before terminals.Special ≡ false
+    → terminal_of state plains at ≡ terminals.CallParen
+call_paren_here state plains at v e c s =
+    by_paren state plains at e ∙ if_false (is state.before terminals.Special) terminals.RawParen _ s
+    ∙ calls_paren state.mode state plains at v c
+
+-- one token where names are told apart: of a value, and in the text of a special function
+module _ {mode : Mode} {frames : List Frame} (no_raw : is_raw mode ≡ false) (state : State)
+    (within : Within mode frames state) (plains : List Plain) (at : ℕ) where
+  raw_not : is_raw state.mode ≡ false
+  raw_not = ap is_raw within.mode_is ∙ no_raw
+
+  pub number_here : (sort : Sort) → is_number sort ≡ true → sort_at plains at ≡ sort → continues state plains at ≡ false
+      → terminal_of state plains at ≡ terminals.Number
+  number_here sorts.Digits n e c =
+      by_digits state plains at e ∙ if_false (continues state plains at) terminals.Part _ c
+      ∙ if_false (is_raw state.mode) terminals.Raw _ raw_not
+  number_here sorts.Number n e c = by_number state plains at e ∙ if_false (is_raw state.mode) terminals.Raw _ raw_not
+  number_here _ n e c = absurd (cc)
+
+  pub part_insert_here : sort_at plains at ≡ sorts.OpenInsert → continues state plains at ≡ true
+      → terminal_of state plains at ≡ terminals.PartInsert
+  part_insert_here e c =
+      by_insert state plains at e ∙ if_true (continues state plains at) terminals.PartInsert _ c
+
+  pub owner_dollar_here : sort_at plains at ≡ sorts.Dollar → is state.before terminals.OwnerDot ≡ true
+      → spaced_at plains at ≡ false → terminal_of state plains at ≡ terminals.OwnerDollar
+  owner_dollar_here e o s =
+      by_dollar state plains at e ∙ if_false (is_raw state.mode) terminals.Raw _ raw_not
+      ∙ if_true (is state.before terminals.OwnerDot && not (spaced_at plains at)) terminals.OwnerDollar _
+      (both _ _ o (ap not s))
+
+  pub owner_dot_here : sort_at plains at ≡ sorts.Dot → is state.before terminals.Owner ≡ true
+      → spaced_at plains at ≡ false → terminal_of state plains at ≡ terminals.OwnerDot
+  owner_dot_here e o s =
+      by_dot state plains at e
+      ∙ if_true (is state.before terminals.Owner && not (spaced_at plains at)) terminals.OwnerDot _ (both _ _ o (ap not s))
+
+  module _ (named : is_name (sort_at plains at) ≡ true) where
+    pub part_here : continues state plains at ≡ true → terminal_of state plains at ≡ terminals.Part
+    part_here c = name_there state plains at named ∙ if_true (continues state plains at) terminals.Part _ c
+
+    pub behind : continues state plains at ≡ false → terminal_of state plains at ≡ behind_sign state plains at
+    behind c =
+        name_there state plains at named ∙ if_false (continues state plains at) terminals.Part _ c
+        ∙ if_false (is_raw state.mode) terminals.Raw _ raw_not
+
+    pub variable_name_here : continues state plains at ≡ false → behind_dollar state.before ≡ true
+        → spaced_at plains at ≡ false → terminal_of state plains at ≡ terminals.VariableName
+    variable_name_here c d s =
+        behind c
+        ∙ if_true (not (spaced_at plains at) && behind_dollar state.before) terminals.VariableName _ (both _ _ (ap not s) d)
+
 -- one token of a value
 module _ {mode : Mode} {frames : List Frame} (value : is_value mode ≡ true) (state : State)
     (within : Within mode frames state) (plains : List Plain) (at : ℕ) where
@@ -207,16 +272,16 @@ module _ {mode : Mode} {frames : List Frame} (value : is_value mode ≡ true) (s
   facts : ValueMode state.mode
   facts = value_mode state.mode is_value_here
 
+  same_mode : Within state.mode frames state
+  same_mode = record {
+    mode_is = refl;
+    frames_are = within.frames_are;
+    no_start = within.no_start;
+    no_comment = within.no_comment;
+  }
+
   pub code_here : is_text state.mode ≡ false
   code_here = facts.text
-
-  pub number_here : (sort : Sort) → is_number sort ≡ true → sort_at plains at ≡ sort → continues state plains at ≡ false
-      → terminal_of state plains at ≡ terminals.Number
-  number_here sorts.Digits n e c =
-      by_digits state plains at e ∙ if_false (continues state plains at) terminals.Part _ c
-      ∙ if_false (is_raw state.mode) terminals.Raw _ facts.raw
-  number_here sorts.Number n e c = by_number state plains at e ∙ if_false (is_raw state.mode) terminals.Raw _ facts.raw
-  number_here _ n e c = absurd (cc)
 
   pub sign_here : sort_at plains at ≡ sorts.Minus → continues state plains at ≡ false
       → is_direct plains (at + 1) sorts.OpenInsert ≡ false → minus_signs state plains at ≡ true
@@ -242,11 +307,6 @@ module _ {mode : Mode} {frames : List Frame} (value : is_value mode ≡ true) (s
       ∙ value_insert state.mode state plains at is_value_here
       ∙ if_false (is_apart state plains at) terminals.Other _ a
 
-  pub part_insert_here : sort_at plains at ≡ sorts.OpenInsert → continues state plains at ≡ true
-      → terminal_of state plains at ≡ terminals.PartInsert
-  part_insert_here e c =
-      by_insert state plains at e ∙ if_true (continues state plains at) terminals.PartInsert _ c
-
   pub minus_insert_here : sort_at plains at ≡ sorts.Minus → continues state plains at ≡ false
       → is_direct plains (at + 1) sorts.OpenInsert ≡ true → is_apart state plains at ≡ false
       → terminal_of state plains at ≡ terminals.WordMinus
@@ -271,13 +331,6 @@ module _ {mode : Mode} {frames : List Frame} (value : is_value mode ≡ true) (s
       choice true t = inr t
       choice false t = inl t
 
-  pub call_paren_here : sort_at plains at ≡ sorts.OpenParen → continues state plains at ≡ true
-      → is state.before terminals.Special ≡ false → terminal_of state plains at ≡ terminals.CallParen
-  call_paren_here e c s =
-      by_paren state plains at e ∙ if_false (is state.before terminals.Special) terminals.RawParen _ s
-      ∙ value_paren state.mode state plains at is_value_here
-      ∙ if_true (continues state plains at) terminals.CallParen _ c
-
   pub bracket_here : sort_at plains at ≡ sorts.OpenBracket → terminal_of state plains at ≡ terminals.Bracket
   bracket_here e = by_bracket state plains at e ∙ if_false (is_text state.mode) terminals.RawBracket _ facts.text
 
@@ -295,19 +348,6 @@ module _ {mode : Mode} {frames : List Frame} (value : is_value mode ≡ true) (s
           → (terminal_of state plains at ≡ terminals.Dollar) ⊎ (terminal_of state plains at ≡ terminals.DollarNamed)
       choice true t = inr t
       choice false t = inl t
-
-  pub owner_dollar_here : sort_at plains at ≡ sorts.Dollar → is state.before terminals.OwnerDot ≡ true
-      → spaced_at plains at ≡ false → terminal_of state plains at ≡ terminals.OwnerDollar
-  owner_dollar_here e o s =
-      by_dollar state plains at e ∙ if_false (is_raw state.mode) terminals.Raw _ facts.raw
-      ∙ if_true (is state.before terminals.OwnerDot && not (spaced_at plains at)) terminals.OwnerDollar _
-      (both _ _ o (ap not s))
-
-  pub owner_dot_here : sort_at plains at ≡ sorts.Dot → is state.before terminals.Owner ≡ true
-      → spaced_at plains at ≡ false → terminal_of state plains at ≡ terminals.OwnerDot
-  owner_dot_here e o s =
-      by_dot state plains at e
-      ∙ if_true (is state.before terminals.Owner && not (spaced_at plains at)) terminals.OwnerDot _ (both _ _ o (ap not s))
 
   -- `!` before what is no flag
   pub bang_here : sort_at plains at ≡ sorts.Exclamation → is_flag state.before ≡ false
@@ -385,25 +425,11 @@ module _ {mode : Mode} {frames : List Frame} (value : is_value mode ≡ true) (s
 
   -- names
   module _ (named : is_name (sort_at plains at) ≡ true) where
-    pub part_here : continues state plains at ≡ true → terminal_of state plains at ≡ terminals.Part
-    part_here c = name_there state plains at named ∙ if_true (continues state plains at) terminals.Part _ c
-
-    behind : continues state plains at ≡ false → terminal_of state plains at ≡ behind_sign state plains at
-    behind c =
-        name_there state plains at named ∙ if_false (continues state plains at) terminals.Part _ c
-        ∙ if_false (is_raw state.mode) terminals.Raw _ facts.raw
-
-    pub variable_name_here : continues state plains at ≡ false → behind_dollar state.before ≡ true
-        → spaced_at plains at ≡ false → terminal_of state plains at ≡ terminals.VariableName
-    variable_name_here c d s =
-        behind c
-        ∙ if_true (not (spaced_at plains at) && behind_dollar state.before) terminals.VariableName _ (both _ _ (ap not s) d)
-
     pub hash_name_here : continues state plains at ≡ false → behind_dollar state.before ≡ false
         → is state.before terminals.Hash ≡ true → spaced_at plains at ≡ false
         → terminal_of state plains at ≡ terminals.HashName
     hash_name_here c d h s =
-        behind c
+        behind facts.raw state same_mode plains at named c
         ∙ if_false (not (spaced_at plains at) && behind_dollar state.before) terminals.VariableName _ (and_no _ _ d)
         ∙ if_true (not (spaced_at plains at) && is state.before terminals.Hash) terminals.HashName _ (both _ _ (ap not s) h)
 
@@ -411,7 +437,7 @@ module _ {mode : Mode} {frames : List Frame} (value : is_value mode ≡ true) (s
         → is state.before terminals.Hash ≡ false → is_bang state.before ≡ true
         → terminal_of state plains at ≡ behind_bang (sort_at plains at)
     flag_here c d h b =
-        behind c
+        behind facts.raw state same_mode plains at named c
         ∙ if_false (not (spaced_at plains at) && behind_dollar state.before) terminals.VariableName _ (and_no _ _ d)
         ∙ if_false (not (spaced_at plains at) && is state.before terminals.Hash) terminals.HashName _ (and_no _ _ h)
         ∙ if_true (is_bang state.before) (behind_bang (sort_at plains at)) _ b
@@ -423,7 +449,7 @@ module _ {mode : Mode} {frames : List Frame} (value : is_value mode ≡ true) (s
         (bound : (ends_bound mode (sort_at plains at) && is_bound_end plains at) ≡ false) where
       by_itself : terminal_of state plains at ≡ name_in_expression state plains at
       by_itself =
-          behind further
+          behind facts.raw state same_mode plains at named further
           ∙ if_false (not (spaced_at plains at) && behind_dollar state.before) terminals.VariableName _ (and_no _ _ dollar)
           ∙ if_false (not (spaced_at plains at) && is state.before terminals.Hash) terminals.HashName _ (and_no _ _ hash)
           ∙ if_false (is_bang state.before) (behind_bang (sort_at plains at)) _ bang

@@ -9,7 +9,7 @@ use Rattle.sw_parse_lexemes.specs.declared.state.Frame.{Frame}
 use Rattle.sw_parse_lexemes.specs.declared.state.State.{State}
 use Rattle.sw_convert_passing.specs.Written.{Written, direct, Within, Stand}
 use Rattle.sw_convert_passing.specs.Places.{is_value, Ready, IsClosed}
-use Rattle.sw_convert_passing.specs.Values.{Value, number, negative, quoted, template, hash, constant, lone_value, url_template, variable, owned_variable, owned_call, word, call, important, in_parens, in_brackets, negated, prefixed, linked, divided, beside, seamed, Word, named, begun, begun_minus, Parts, no_part, part, part_insert, Call, arguments, Pieces, no_piece, text_piece, piece_insert, Items, no_items, items, seamed_items, Row, first, separated, further}
+use Rattle.sw_convert_passing.specs.Values.{Value, number, negative, quoted, template, hash, constant, lone_value, url_template, variable, owned_variable, owned_call, word, call, important, in_parens, in_brackets, negated, prefixed, linked, divided, beside, special, seamed, Word, named, begun, begun_minus, Parts, no_part, part, part_insert, Call, arguments, Pieces, no_piece, text_piece, piece_insert, Items, no_items, items, seamed_items, Row, first, separated, further, Special, text_end, text_token, text_brace, text_name, text_dollar, text_sign, text_comma, text_number, text_signed, text_variable, text_owned_variable, text_call, text_owned_call, text_insert, text_parens, text_brackets, text_seam}
 use Rattle.sw_convert_passing.specs.Laws.{ValuesAreTold, RowsAreTold}
 use Rattle.sw_convert_passing.proofs.Entries.{Entry, Led, IsTold}
 use Rattle.sw_convert_passing.proofs.Leaves.{number_told, negative_told, quoted_told, hash_told, constant_told, lone_value_told, variable_told, owned_variable_told, important_told}
@@ -17,6 +17,8 @@ use Rattle.sw_convert_passing.proofs.Enclosed.{IsInner, IsCall, in_parens_told, 
 use Rattle.sw_convert_passing.proofs.Words.{IsWord, IsParts, Going, no_part_told, part_told, part_insert_told, begun_told, begun_minus_told, named_told, going_end, going_part, going_insert, word_told, CallBegins, called_told, owned_call_told}
 use Rattle.sw_convert_passing.proofs.Templates.{IsPieces, Piecely, no_piece_told, text_piece_told, piece_insert_told, template_told}
 use Rattle.sw_convert_passing.proofs.Lists.{linked_told, divided_told, beside_told, seamed_told, negated_told, prefixed_told}
+use Rattle.sw_convert_passing.proofs.Special.{IsSpecial, text_end_told, text_token_told, text_brace_told, text_name_told, text_dollar_told, text_sign_told, text_comma_told, text_number_told, text_signed_told, text_variable_told, text_seam_told}
+use Rattle.sw_convert_passing.proofs.SpecialCalls.{text_owned_variable_told, text_call_told, text_owned_call_told, text_insert_told, text_parens_told, text_brackets_told, special_told}
 use Rattle.sw_convert_passing.proofs.Rows.{IsRow, first_told, separated_told, further_told, no_items_told, items_told, seamed_items_told}
 
 going : (called : Bool) {parts : List Written} → Parts parts → Going called parts
@@ -62,6 +64,7 @@ mutual
   value_told (linked {left = left} {right = right} v sort o u) = linked_told left right sort (value_told v) o (value_told u)
   value_told (divided {left = left} {right = right} v u) = divided_told left right (value_told v) (value_told u)
   value_told (beside {left = left} {right = right} v u) = beside_told left right (value_told v) (value_told u)
+  value_told (special {text = text} blank inside) = special_told blank text (text_told inside)
   value_told (seamed {value = value} v) = seamed_told value (value_told v)
 
   name_told : {mode : Mode} {spaced owned called : Bool} {tokens : List Written} → Word mode spaced owned called tokens
@@ -92,6 +95,27 @@ mutual
   row_told (first {value = value} v) = first_told value (value_told v)
   row_told (separated {row = row} before sort s) = separated_told row sort (row_told before) s
   row_told (further {row = row} {value = value} before v) = further_told row value (row_told before) (value_told v)
+
+  text_told : {inner ended : Bool} {tokens : List Written} → Special inner ended tokens → IsSpecial inner ended tokens
+  text_told (text_end {inner} {ended}) = text_end_told inner ended
+  text_told (text_token {inner = inner} {ended = ended} {spaced = spaced} {rest = rest} sort r more) = text_token_told inner ended spaced rest sort r (text_told more)
+  text_told (text_brace {ended = ended} {spaced = spaced} {rest = rest} sort r more) = text_brace_told ended spaced rest sort r (text_told more)
+  text_told (text_name {inner = inner} {ended = ended} {spaced = spaced} {rest = rest} sort n r more) = text_name_told inner ended spaced rest sort n r (text_told more)
+  text_told (text_dollar {inner = inner} {ended = ended} {spaced = spaced} {rest = rest} n more) = text_dollar_told inner ended spaced rest n (text_told more)
+  text_told (text_sign {inner = inner} {ended = ended} {spaced = spaced} {rest = rest} sort p n more) = text_sign_told inner ended spaced rest sort p n (text_told more)
+  text_told (text_comma {inner = inner} {ended = ended} {spaced = spaced} {rest = rest} more) = text_comma_told inner ended spaced rest (text_told more)
+  text_told (text_number {inner = inner} {ended = ended} {spaced = spaced} {rest = rest} sort n more) = text_number_told inner ended spaced rest sort n (text_told more)
+  text_told (text_signed {inner = inner} {ended = ended} {spaced = spaced} {rest = rest} sort digits n s more) = text_signed_told inner ended spaced rest sort digits n s (text_told more)
+  text_told (text_variable {inner = inner} {ended = ended} {spaced = spaced} {rest = rest} name n more) = text_variable_told inner ended spaced rest name n (text_told more)
+  text_told (text_owned_variable {inner = inner} {ended = ended} {spaced = spaced} {rest = rest} owner name o n more) = text_owned_variable_told inner ended spaced rest owner name o n (text_told more)
+  text_told (text_call {inner = inner} {ended = ended} {spaced = spaced} {call = called} {rest = rest} name n s arguing more) =
+      text_call_told inner ended spaced rest name called n s (arguments_told arguing) (paren_first arguing) (text_told more)
+  text_told (text_owned_call {inner = inner} {ended = ended} {spaced = spaced} {call = called} {rest = rest} owner name o n arguing more) =
+      text_owned_call_told inner ended spaced rest owner name called o n (arguments_told arguing) (paren_first arguing) (text_told more)
+  text_told (text_insert {inner = inner} {ended = ended} {spaced = spaced} {inside = inside} {rest = rest} inside_items more) = text_insert_told inner ended spaced rest inside (inner_told inside_items) (text_told more)
+  text_told (text_parens {inner = inner} {ended = ended} {spaced = spaced} {inside = inside} {rest = rest} blank inside_told more) = text_parens_told inner ended spaced blank inside rest (text_told inside_told) (text_told more)
+  text_told (text_brackets {inner = inner} {ended = ended} {spaced = spaced} {inside = inside} {rest = rest} blank inside_told more) = text_brackets_told inner ended spaced blank inside rest (text_told inside_told) (text_told more)
+  text_told (text_seam {inner = inner} {ended = ended} {rest = rest} more) = text_seam_told inner ended false rest (text_told more)
 
 pub values_are_told : ValuesAreTold
 values_are_told mode spaced signed tokens value plains frames state at to is_one within ready stand closed =

@@ -19,7 +19,7 @@ use Rattle.sw_text_scan.proofs.Bounds.{if_true}
 use Rattle.sw_convert_passing.specs.Written.{Written, written, direct, IsThere, Stand, Within}
 use Rattle.sw_convert_passing.specs.Places.{is_value, IsClosed, Told}
 use Rattle.sw_convert_passing.specs.Values.{inserted, is_word, ends_bound, is_part, begins_insert}
-use Rattle.sw_convert_passing.proofs.Facts.{no_and, and_no, both, and_left, and_right, value_mode, inner_value, operand_precedes, fresh, part_quiet, word_of, name_code}
+use Rattle.sw_convert_passing.proofs.Facts.{value_calls, no_and, and_no, both, and_left, and_right, value_mode, inner_value, operand_precedes, fresh, part_quiet, word_of, name_code}
 use Rattle.sw_convert_passing.proofs.Steps.{Reads, join, step, stay_at, Next, next}
 use Rattle.sw_convert_passing.proofs.Tokens.{by_digits, by_minus, insert_here, part_insert_here, minus_insert_here, part_here, mixed_word_here, owned_here, name_here}
 use Rattle.sw_convert_passing.proofs.Entries.{split, Begins, begins_more, Entry, Led, Leads, Calm, calm, calm_quiet, Result, result, reads, one_of, closed_stops, IsTold}
@@ -67,11 +67,11 @@ part_is : {mode : Mode} {frames : List Frame} (state : State) (plains : List Pla
     → Within mode frames state → continues state plains at ≡ true
     → ((sort_at plains at ≡ sorts.Digits) ⊎ (sort_at plains at ≡ sorts.Minus)) ⊎ (is_name (sort_at plains at) ≡ true)
     → terminal_of state plains at ≡ terminals.Part
-part_is state plains at value within c (inl (inl e)) =
+part_is {mode} state plains at value within c (inl (inl e)) =
     by_digits state plains at e ∙ if_true (continues state plains at) terminals.Part _ c
-part_is state plains at value within c (inl (inr e)) =
+part_is {mode} state plains at value within c (inl (inr e)) =
     by_minus state plains at e ∙ if_true (continues state plains at) terminals.Part _ c
-part_is state plains at value within c (inr n) = part_here value state within plains at n c
+part_is {mode} state plains at value within c (inr n) = part_here (value_mode mode value).raw state within plains at n c
 
 pub part_told : (sort : Sort) (parts : List Written) → is_part sort ≡ true → IsParts parts
     → IsParts (direct sort terminals.Part ∷ parts)
@@ -102,7 +102,7 @@ part_insert_told inner parts told more mode plains frames state at to value with
     insert_and state false terminals.PartInsert inner parts value within (inner_value mode terminals.PartInsert value refl)
     (record { opened = refl; begins = refl; leads = record { before = refl; operand = refl; comma = refl }; word = refl })
     told more stand
-    (part_insert_here value state within plains at stand.0.sort (both state.word _ word (ap not stand.0.spaced)))
+    (part_insert_here (value_mode mode value).raw state within plains at stand.0.sort (both state.word _ word (ap not stand.0.spaced)))
 
 -- where a word may begin: behind the `.` of a namespace, or where a value may
 pub record WordEntry (mode : Mode) (frames : List Frame) (state : State) (spaced owned : Bool) : Type 0 where
@@ -342,8 +342,8 @@ called_told {mode} {spaced} name call word arguing begins = record {
   told = λ plains frames state at to entry stand closed.
       let (place, stands, rest) = split plains to name call at stand in
       let (t, o, w) = word.told plains frames state at place (word_entry entry) stands (begins plains place to rest) in
-      let (u, end) = arguing mode plains frames t.end place to entry.value t.within w o rest in
-      result u.end (join (reads t) (reads u)) u.within end;
+      let (u, end, shut) = arguing mode plains frames t.end place to (value_calls mode entry.value) t.within w o rest in
+      result u.end (join (reads t) (reads u)) u.within (ap ends_operand end);
 }
 
 pub owned_call_told : {mode : Mode} {spaced : Bool} (owner : Sort) (name call : List Written) → is_name owner ≡ true
@@ -363,5 +363,5 @@ owned_call_told {mode} {spaced} owner name call o word arguing begins = record {
         let (place, stands, rest) = split plains to name call ((at + 1) + 1) stand in
         let (t, operand, w) = word.told plains frames by.end ((at + 1) + 1) place
         (owned_entry entry.value by.within by.before by.word) stands (begins plains place to rest) in
-        let (u, end) = arguing mode plains frames t.end place to entry.value t.within w operand rest in
-        result u.end (join by.reads (join (reads t) (reads u))) u.within end
+        let (u, end, shut) = arguing mode plains frames t.end place to (value_calls mode entry.value) t.within w operand rest in
+        result u.end (join by.reads (join (reads t) (reads u))) u.within (ap ends_operand end)

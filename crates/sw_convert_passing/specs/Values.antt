@@ -1,5 +1,5 @@
 -- Values as they are written: each sign and each bracket where it is meant to stand, and one space between what has one.
-use Rattle.std.specs.Prelude.{◌≡◌, Bool, true, false, not, ◌&&◌, ◌||◌, List, [], ◌∷◌, ◌++◌}
+use Rattle.std.specs.Prelude.{◌≡◌, ℕ, zero, suc, Bool, true, false, not, ◌&&◌, ◌||◌, List, [], ◌∷◌, ◌++◌}
 use Rattle.sw_parse_terminals.specs.declared.terminal.Terminal.{Terminal}
 use Rattle.sw_parse_terminals.specs.declared.terminal.Terminal.TheVariants as terminals
 use Rattle.sw_parse_lexemes.specs.declared.sort.Sort.{Sort}
@@ -7,7 +7,7 @@ use Rattle.sw_parse_lexemes.specs.declared.sort.Sort.TheVariants as sorts
 use Rattle.sw_parse_lexemes.specs.declared.state.Mode.{Mode}
 use Rattle.sw_parse_lexemes.specs.declared.state.Mode.TheVariants as modes
 use Rattle.sw_parse_lexemes.specs.Classes.{is_name, is_reserved, is_number, same}
-use Rattle.sw_parse_lexemes.specs.Names.{is_special_name}
+use Rattle.sw_parse_lexemes.specs.Names.{is_special_name, stays_text}
 use Rattle.sw_convert_passing.specs.Written.{Written, written, direct, apart}
 
 abbrev pub is_quoted : Sort → Bool
@@ -180,6 +180,105 @@ separator sorts.Comma = terminals.Comma
 separator sorts.Colon = terminals.Colon
 separator _ = terminals.Ellipsis
 
+-- tokens that are text in a special function wherever they stand there
+abbrev pub is_raw : Sort → Bool
+is_raw sorts.Hex = true
+is_raw sorts.Quoted = true
+is_raw sorts.Unnamed = true
+is_raw sorts.Template = true
+is_raw sorts.Text = true
+is_raw sorts.TemplateEnd = true
+is_raw sorts.Url = true
+is_raw sorts.UrlTemplate = true
+is_raw sorts.Piece = true
+is_raw sorts.UrlEnd = true
+is_raw sorts.Range = true
+is_raw sorts.Colon = true
+is_raw sorts.Dot = true
+is_raw sorts.Ellipsis = true
+is_raw sorts.Hash = true
+is_raw sorts.Exclamation = true
+is_raw sorts.Ampersand = true
+is_raw sorts.Star = true
+is_raw sorts.Slash = true
+is_raw sorts.Percent = true
+is_raw sorts.Equals = true
+is_raw sorts.EqualsEquals = true
+is_raw sorts.NotEquals = true
+is_raw sorts.Less = true
+is_raw sorts.LessEquals = true
+is_raw sorts.Greater = true
+is_raw sorts.GreaterEquals = true
+is_raw sorts.Other = true
+is_raw sorts.At = true
+is_raw sorts.AtUse = true
+is_raw sorts.AtForward = true
+is_raw sorts.AtFunction = true
+is_raw sorts.AtMixin = true
+is_raw sorts.AtInclude = true
+is_raw sorts.AtContent = true
+is_raw sorts.AtReturn = true
+is_raw sorts.AtWarn = true
+is_raw sorts.AtDebug = true
+is_raw sorts.AtError = true
+is_raw sorts.AtIf = true
+is_raw sorts.AtElse = true
+is_raw sorts.AtElseIf = true
+is_raw sorts.AtEach = true
+is_raw sorts.AtFor = true
+is_raw sorts.AtWhile = true
+is_raw sorts.AtMedia = true
+is_raw sorts.AtSupports = true
+is_raw sorts.AtRoot = true
+is_raw sorts.AtCharset = true
+is_raw sorts.AtImport = true
+is_raw sorts.AtExtend = true
+is_raw sorts.AtName = true
+is_raw _ = false
+
+-- signs that are text in brackets there
+abbrev pub is_raw_sign : Sort → Bool
+is_raw_sign sorts.OpenBrace = true
+is_raw_sign sorts.CloseBrace = true
+is_raw_sign sorts.Semicolon = true
+is_raw_sign _ = false
+
+-- a token of these sorts stands so many tokens further on, with nothing between it and the one before
+abbrev pub ahead : (Sort → Bool) → ℕ → List Written → Bool
+ahead test at [] = false
+ahead test zero (token ∷ tokens) = not token.spaced && test token.sort
+ahead test (suc at) (token ∷ tokens) = ahead test at tokens
+
+abbrev pub is_dot : Sort → Bool
+is_dot sort = same sort sorts.Dot
+
+abbrev pub is_dollar : Sort → Bool
+is_dollar sort = same sort sorts.Dollar
+
+abbrev pub is_paren : Sort → Bool
+is_paren sort = same sort sorts.OpenParen
+
+-- a variable or a call stands behind a namespace
+abbrev pub owns : List Written → Bool
+owns tokens =
+    ahead is_dot 0 tokens
+    && ((ahead is_dollar 1 tokens && ahead is_name 2 tokens) || (ahead is_name 1 tokens && ahead is_paren 2 tokens))
+
+-- a name is text there
+abbrev pub is_raw_name : Sort → List Written → Bool
+is_raw_name sort tokens = not (owns tokens) && not (ahead is_paren 0 tokens && not (stays_text sort))
+
+-- a `+` or `-` that a number follows is its sign; behind a value or not
+abbrev pub is_sign : Sort → Bool → Bool → Bool
+is_sign sorts.Plus spaced ended = not ended
+is_sign sorts.Minus spaced ended = spaced || not ended
+is_sign _ spaced ended = false
+
+abbrev pub is_plus_or_minus : Sort → Bool
+is_plus_or_minus sorts.Plus = true
+is_plus_or_minus sorts.Minus = true
+is_plus_or_minus _ = false
+
 -- an empty comment, which keeps two tokens apart
 abbrev pub seam : Written
 seam = record { sort = sorts.Comment; spaced = false; may_be = [] }
@@ -258,6 +357,11 @@ mutual
         → Value mode false next right → Value mode spaced signed (left ++ direct sorts.Slash terminals.Divide ∷ right)
     beside : {mode : Mode} {spaced signed : Bool} {left right : List Written} → Value mode spaced signed left
         → Value mode true false right → Value mode spaced signed (left ++ right)
+    -- a special function, whose text stays as it is
+    special : {mode : Mode} {spaced : Bool} {text : List Written} → (blank : Bool) → Special false false text
+        → Value mode spaced false
+        (written sorts.Special spaced terminals.Special ∷ enclosed (direct sorts.OpenParen terminals.RawParen) text
+        (written sorts.CloseParen blank terminals.RawParenEnd) [])
     seamed : {mode : Mode} {spaced signed : Bool} {value : List Written} → Value mode spaced signed value
         → Value mode spaced signed (value ++ seam ∷ [])
 
@@ -307,3 +411,56 @@ mutual
         → is_separator sort ≡ true → Row mode spaced false (row ++ direct sort (separator sort) ∷ [])
     further : {mode : Mode} {spaced signed : Bool} {row value : List Written} → Row mode spaced false row
         → Value mode true signed value → Row mode spaced true (row ++ value)
+
+  -- text of a special function: in further brackets or not, and behind a value or not
+  pub data Special : Bool → Bool → List Written → Type 0 where
+    text_end : {inner ended : Bool} → Special inner ended []
+    text_token : {inner ended spaced : Bool} {rest : List Written} → (sort : Sort) → is_raw sort ≡ true
+        → Special inner false rest → Special inner ended (written sort spaced terminals.Raw ∷ rest)
+    text_brace : {ended spaced : Bool} {rest : List Written} → (sort : Sort) → is_raw_sign sort ≡ true
+        → Special true false rest → Special true ended (written sort spaced terminals.Raw ∷ rest)
+    text_name : {inner ended spaced : Bool} {rest : List Written} → (sort : Sort) → is_name sort ≡ true
+        → is_raw_name sort rest ≡ true → Special inner false rest
+        → Special inner ended (written sort spaced terminals.Raw ∷ rest)
+    text_dollar : {inner ended spaced : Bool} {rest : List Written} → ahead is_name 0 rest ≡ false
+        → Special inner false rest → Special inner ended (written sorts.Dollar spaced terminals.Raw ∷ rest)
+    text_sign : {inner ended spaced : Bool} {rest : List Written} → (sort : Sort) → is_plus_or_minus sort ≡ true
+        → (ahead is_number 0 rest && is_sign sort spaced ended) ≡ false → Special inner false rest
+        → Special inner ended (written sort spaced terminals.Raw ∷ rest)
+    text_comma : {inner ended spaced : Bool} {rest : List Written} → Special inner false rest
+        → Special inner ended (written sorts.Comma spaced terminals.SpecialComma ∷ rest)
+    text_number : {inner ended spaced : Bool} {rest : List Written} → (sort : Sort) → is_number sort ≡ true
+        → Special inner true rest → Special inner ended (written sort spaced terminals.Number ∷ rest)
+    text_signed : {inner ended spaced : Bool} {rest : List Written} → (sort number : Sort) → is_number number ≡ true
+        → is_sign sort spaced ended ≡ true → Special inner true rest
+        → Special inner ended (written sort spaced terminals.Sign ∷ direct number terminals.Number ∷ rest)
+    text_variable : {inner ended spaced : Bool} {rest : List Written} → (name : Sort) → is_name name ≡ true
+        → Special inner true rest
+        → Special inner ended (written sorts.Dollar spaced terminals.Dollar ∷ direct name terminals.VariableName ∷ rest)
+    text_owned_variable : {inner ended spaced : Bool} {rest : List Written} → (owner name : Sort) → is_name owner ≡ true
+        → is_name name ≡ true → Special inner true rest
+        → Special inner ended
+        (written owner spaced terminals.Owner ∷ direct sorts.Dot terminals.OwnerDot
+        ∷ direct sorts.Dollar terminals.OwnerDollar ∷ direct name terminals.VariableName ∷ rest)
+    text_call : {inner ended spaced : Bool} {call rest : List Written} → (name : Sort) → is_name name ≡ true
+        → stays_text name ≡ false → Call call → Special inner true rest
+        → Special inner ended (written name spaced terminals.Word ∷ (call ++ rest))
+    text_owned_call : {inner ended spaced : Bool} {call rest : List Written} → (owner name : Sort) → is_name owner ≡ true
+        → is_name name ≡ true → Call call → Special inner true rest
+        → Special inner ended
+        (written owner spaced terminals.Owner ∷ direct sorts.Dot terminals.OwnerDot ∷ direct name terminals.Word
+        ∷ (call ++ rest))
+    text_insert : {inner ended spaced : Bool} {inside rest : List Written} → Items inside → Special inner true rest
+        → Special inner ended (inserted spaced terminals.Insert inside rest)
+    text_parens : {inner ended spaced : Bool} {inside rest : List Written} → (blank : Bool) → Special true false inside
+        → Special inner true rest
+        → Special inner ended
+        (enclosed (written sorts.OpenParen spaced terminals.RawParen) inside
+        (written sorts.CloseParen blank terminals.RawParenEnd) rest)
+    text_brackets : {inner ended spaced : Bool} {inside rest : List Written} → (blank : Bool) → Special true false inside
+        → Special inner false rest
+        → Special inner ended
+        (enclosed (written sorts.OpenBracket spaced terminals.RawBracket) inside
+        (written sorts.CloseBracket blank terminals.RawBracketEnd) rest)
+    text_seam : {inner ended : Bool} {rest : List Written} → Special inner ended rest
+        → Special inner ended (seam ∷ rest)

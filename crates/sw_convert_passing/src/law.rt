@@ -1,5 +1,6 @@
 // Tokens are read as what they are written as.
 ghost use Rattle.sw_convert_passing.specs.Laws.{RowsAreTold, ValuesAreTold};
+ghost use Rattle.sw_convert_passing.specs.Standing.{SignsStand};
 ghost use Rattle.sw_convert_passing.specs.Written.{PassedIsSeen};
 
 /// A law: what is passed token by token is what the grammar sees of these tokens.
@@ -12,4 +13,10 @@ pub fn tokens_are_passed()
 pub fn values_are_told()
     ensures values { ValuesAreTold }
     ensures rows { RowsAreTold }
+{}
+
+/// A law: in any text no `+`, `-` or `/` that is a sign before a value stands behind another value, and no `-` or `+` of a
+/// number does without white space before it.
+pub fn signs_stand_apart()
+    ensures { SignsStand }
 {}
