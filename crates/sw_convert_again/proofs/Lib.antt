@@ -1,0 +1,11 @@
+pub mod Lasts
+mod Ends
+mod Whole
+pub mod Tokens
+pub mod Leaves
+pub mod Templates
+pub mod Chains
+pub mod Lists
+pub mod Around
+pub mod Enclosed
+mod Values

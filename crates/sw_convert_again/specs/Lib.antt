@@ -1,0 +1,6 @@
+pub mod Closed
+pub mod Lasts
+pub mod Alike
+pub mod Tokens
+pub mod Spells
+pub mod Again
