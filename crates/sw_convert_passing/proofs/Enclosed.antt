@@ -56,17 +56,20 @@ no_raw terminals.RawParen e = absurd (cc)
 no_raw terminals.RawBracket e = absurd (cc)
 no_raw _ e = (refl, refl)
 
-closed_here : {inner : Mode} (mode : Mode) (frames : List Frame) {kind : Bracket} {sort : Sort} {close : Terminal} (opening : Terminal)
+closed_here : {inner : Mode} (mode : Mode) (frames : List Frame) {kind : Bracket} {sort : Sort} {close : Terminal}
+    (opening : Terminal)
     (state : State) (plains : List Plain) (at : ℕ) → Closes kind sort close → is_raw_bracket opening ≡ false
     → Within inner (frames ++ framed kind opening mode ∷ []) state → sort_at plains at ≡ sort
     → terminal_of state plains at ≡ close
 closed_here {inner} mode frames opening state plains at paren r within e =
     closing_paren state plains at e
-    ∙ ap (closes_paren state.mode) (ap innermost within.frames_are ∙ innermost_is frames (framed brackets.Paren opening mode))
+    ∙ ap (closes_paren state.mode)
+    (ap innermost within.frames_are ∙ innermost_is frames (framed brackets.Paren opening mode))
     ∙ if_false (is opening terminals.RawParen) terminals.RawParenEnd terminals.ParenEnd (no_raw opening r).0
 closed_here {inner} mode frames opening state plains at bracket r within e =
     closing_bracket state plains at e
-    ∙ ap (closes_bracket state.mode) (ap innermost within.frames_are ∙ innermost_is frames (framed brackets.Bracket opening mode))
+    ∙ ap (closes_bracket state.mode)
+    (ap innermost within.frames_are ∙ innermost_is frames (framed brackets.Bracket opening mode))
     ∙ if_false (is opening terminals.RawBracket) terminals.RawBracketEnd terminals.BracketEnd (no_raw opening r).1
 
 record Closing (sort : Sort) (terminal : Terminal) : Type 0 where
@@ -90,11 +93,13 @@ pub record Opening (kind : Bracket) (terminal : Terminal) : Type 0 where
 -- what stands in brackets
 abbrev pub IsInner : List Written → Type 0
 IsInner tokens =
-    (plains : List Plain) (frames : List Frame) (state : State) (at to : ℕ) → Within modes.Expression frames state → Led state
+    (plains : List Plain) (frames : List Frame) (state : State) (at to : ℕ) → Within modes.Expression frames state
+    → Led state
     → Stand plains at tokens to → IsClosed plains to → Told plains modes.Expression frames state at tokens to
 
 -- brackets round it, and then the rest
-pub record Round (plains : List Plain) (mode : Mode) (frames : List Frame) (state : State) (at : ℕ) (tokens : List Written)
+pub record Round (plains : List Plain) (mode : Mode) (frames : List Frame) (state : State) (at : ℕ)
+    (tokens : List Written)
     (close : Terminal) (goes_on : Bool) (to : ℕ) : Type 0 where
   pub end : State
   pub reads : Reads plains state at tokens end to
@@ -105,12 +110,14 @@ pub record Round (plains : List Plain) (mode : Mode) (frames : List Frame) (stat
 -- `(..)` and `[..]`
 pub round : {mode : Mode} {frames : List Frame} {plains : List Plain} {at to : ℕ} (state : State) (kind : Bracket)
     (sort : Sort) (close : Terminal) (opening_token : Written) (opening : Terminal) (inner : List Written)
-    → inner_mode mode opening ≡ modes.Expression → Within mode frames state → Closes kind sort close → Opening kind opening
+    → inner_mode mode opening ≡ modes.Expression → Within mode frames state → Closes kind sort close
+    → Opening kind opening
     → IsInner inner
     → Stand plains at (enclosed opening_token inner (direct sort close) []) to → is_comment opening_token.sort ≡ false
     → terminal_of state plains at ≡ opening → Among opening opening_token.may_be
     → Round plains mode frames state at (enclosed opening_token inner (direct sort close) []) close false to
-round {mode} {frames} {plains} {at} {to} state kind sort close opening_token opening inner inside within how opens_it told
+round {mode} {frames} {plains} {at} {to} state kind sort close opening_token opening inner inside within how opens_it
+    told
     (there, stand) code is_opening among =
     let (place, stands, (last, e)) = split plains to inner (direct sort close ∷ []) (at + 1) stand in
     let c = closing how in
@@ -122,7 +129,8 @@ round {mode} {frames} {plains} {at} {to} state kind sort close opening_token ope
     let m = closes (framed kind opening mode) t.end t.within close c.is_one in record {
       end = after t.end close;
       reads = join (step plains state at opening_token opening within there code is_opening among)
-          (join (reads t) (join (step plains t.end place (direct sort close) close t.within last c.code shut one_of) (stay_at e)));
+          (join (reads t)
+          (join (step plains t.end place (direct sort close) close t.within last c.code shut one_of) (stay_at e)));
       within = m.within;
       before = m.before;
       word = m.word;
@@ -136,7 +144,8 @@ pub record Inserting (terminal : Terminal) (goes_on : Bool) : Type 0 where
   pub word : (is terminal terminals.WordInsert || is terminal terminals.PartInsert) ≡ goes_on
 
 -- the state behind a `#{..}`
-pub record Inserted (plains : List Plain) (mode : Mode) (frames : List Frame) (state : State) (at : ℕ) (tokens rest : List Written)
+pub record Inserted (plains : List Plain) (mode : Mode) (frames : List Frame) (state : State) (at : ℕ)
+    (tokens rest : List Written)
     (goes_on : Bool) (to : ℕ) : Type 0 where
   pub end : State
   pub place : ℕ
@@ -150,8 +159,10 @@ pub record Inserted (plains : List Plain) (mode : Mode) (frames : List Frame) (s
 abbrev pub insert_alone : Bool → Terminal → List Written → List Written
 insert_alone spaced terminal inner = inserted spaced terminal inner []
 
-pub insert_round : {mode : Mode} {frames : List Frame} {plains : List Plain} {at to : ℕ} (state : State) (spaced goes_on : Bool)
-    (terminal : Terminal) (inner rest : List Written) → Within mode frames state → inner_mode mode terminal ≡ modes.Expression
+pub insert_round : {mode : Mode} {frames : List Frame} {plains : List Plain} {at to : ℕ} (state : State)
+    (spaced goes_on : Bool)
+    (terminal : Terminal) (inner rest : List Written) → Within mode frames state
+    → inner_mode mode terminal ≡ modes.Expression
     → Inserting terminal goes_on → IsInner inner → Stand plains at (inserted spaced terminal inner rest) to
     → terminal_of state plains at ≡ terminal
     → Inserted plains mode frames state at (insert_alone spaced terminal inner) rest goes_on to
@@ -166,7 +177,8 @@ insert_round {mode} {frames} {plains} {at} {to} state spaced goes_on terminal in
     let m = closes_insert terminal mode t.end t.within goes_on how.word in record {
       end = after t.end terminals.InsertEnd;
       place = place + 1;
-      reads = join (step plains state at (written sorts.OpenInsert spaced terminal) terminal within there refl is_opening one_of)
+      reads = join
+          (step plains state at (written sorts.OpenInsert spaced terminal) terminal within there refl is_opening one_of)
           (join (reads t) (step plains t.end place close terminals.InsertEnd t.within last refl
           (by_insert_end t.end plains place last.sort) one_of));
       within = m.within;
@@ -193,7 +205,7 @@ module _ {mode : Mode} {spaced : Bool} (inner : List Written) (told : IsInner in
       (enclosed (opened_paren spaced) inner (direct sorts.CloseParen terminals.ParenEnd) []) to
   in_parens_as plains frames state at to opening entry how stand is_opening among =
       let r = round state brackets.Paren sorts.CloseParen terminals.ParenEnd (opened_paren spaced) opening inner
-              (inner_value mode opening entry.value how.inner) entry.within
+      (inner_value mode opening entry.value how.inner) entry.within
       paren how told stand refl is_opening among in
       result r.end r.reads r.within (ap ends_operand r.before)
 
@@ -204,36 +216,64 @@ module _ {mode : Mode} {spaced : Bool} (inner : List Written) (told : IsInner in
     told = λ plains frames state at to entry stand closed. go plains frames state at to entry stand;
   }
     where
-      go : (plains : List Plain) (frames : List Frame) (state : State) (at to : ℕ) → Entry mode frames state spaced false
+      go : (plains : List Plain) (frames : List Frame) (state : State) (at to : ℕ)
+          → Entry mode frames state spaced false
           → Stand plains at (enclosed (opened_paren spaced) inner (direct sorts.CloseParen terminals.ParenEnd) []) to
           → Result plains mode frames state at
           (enclosed (opened_paren spaced) inner (direct sorts.CloseParen terminals.ParenEnd) []) to
-      go plains frames state at to entry stand = elim (paren_here entry.value state entry.within plains at stand.0.sort (no_further plains at entry stand.0.spaced) (fresh_here entry).special) [
-        | inl e ↦ in_parens_as plains frames state at to terminals.Paren entry
-            (record { opened = refl; begins = refl; inner = refl; leads = record { before = refl; operand = refl; comma = refl }; no_raw = refl })
-            stand e (inl refl)
-        | inr e ↦ in_parens_as plains frames state at to terminals.ConditionParen entry
-            (record { opened = refl; begins = refl; inner = refl; leads = record { before = refl; operand = refl; comma = refl }; no_raw = refl })
-            stand e (inr (inl refl))
-      ]
+      go plains frames state at to entry stand = elim
+          (paren_here entry.value state entry.within plains at stand.0.sort
+          (no_further plains at entry stand.0.spaced) (fresh_here entry).special) [
+            | inl e ↦ in_parens_as plains frames state at to terminals.Paren entry
+                (record {
+                  opened = refl;
+                  begins = refl;
+                  inner = refl;
+                  leads = record
+                      { before = refl; operand = refl; comma = refl };
+                  no_raw = refl;
+                })
+                stand e (inl refl)
+            | inr e ↦ in_parens_as plains frames state at to terminals.ConditionParen entry
+                (record {
+                  opened = refl;
+                  begins = refl;
+                  inner = refl;
+                  leads = record
+                      { before = refl; operand = refl; comma = refl };
+                  no_raw = refl;
+                })
+                stand e (inr (inl refl))
+          ]
 
   pub in_brackets_told : IsTold mode spaced false
-      (enclosed (written sorts.OpenBracket spaced terminals.Bracket) inner (direct sorts.CloseBracket terminals.BracketEnd) [])
+      (enclosed (written sorts.OpenBracket spaced terminals.Bracket) inner
+      (direct sorts.CloseBracket terminals.BracketEnd) [])
   in_brackets_told = record {
     begins = refl;
     told = λ plains frames state at to entry stand closed. go plains frames state at to entry stand;
   }
     where
-      go : (plains : List Plain) (frames : List Frame) (state : State) (at to : ℕ) → Entry mode frames state spaced false
+      go : (plains : List Plain) (frames : List Frame) (state : State) (at to : ℕ)
+          → Entry mode frames state spaced false
           → Stand plains at
-          (enclosed (written sorts.OpenBracket spaced terminals.Bracket) inner (direct sorts.CloseBracket terminals.BracketEnd) []) to
+          (enclosed (written sorts.OpenBracket spaced terminals.Bracket) inner
+          (direct sorts.CloseBracket terminals.BracketEnd) []) to
           → Result plains mode frames state at
-          (enclosed (written sorts.OpenBracket spaced terminals.Bracket) inner (direct sorts.CloseBracket terminals.BracketEnd) []) to
+          (enclosed (written sorts.OpenBracket spaced terminals.Bracket) inner
+          (direct sorts.CloseBracket terminals.BracketEnd) []) to
       go plains frames state at to entry stand =
           let r = round state brackets.Bracket sorts.CloseBracket terminals.BracketEnd
           (written sorts.OpenBracket spaced terminals.Bracket) terminals.Bracket inner
-                  (inner_value mode terminals.Bracket entry.value refl) entry.within bracket
-          (record { opened = refl; begins = refl; inner = refl; leads = record { before = refl; operand = refl; comma = refl }; no_raw = refl })
+          (inner_value mode terminals.Bracket entry.value refl) entry.within bracket
+          (record {
+            opened = refl;
+            begins = refl;
+            inner = refl;
+            leads = record
+                { before = refl; operand = refl; comma = refl };
+            no_raw = refl;
+          })
           told stand refl (bracket_here entry.value state entry.within plains at stand.0.sort) one_of in
           result r.end r.reads r.within (ap ends_operand r.before)
 
@@ -242,15 +282,24 @@ abbrev pub IsCall : List Written → Type 0
 IsCall tokens =
     (mode : Mode) (plains : List Plain) (frames : List Frame) (state : State) (at to : ℕ) → takes_calls mode ≡ true
     → Within mode frames state → state.word ≡ true → ends_operand state.before ≡ true → Stand plains at tokens to
-    → (told : Told plains mode frames state at tokens to) × (told.end.before ≡ terminals.ParenEnd) × (told.end.word ≡ false)
+    → (told : Told plains mode frames state at tokens to) × (told.end.before ≡ terminals.ParenEnd) ×
+    (told.end.word ≡ false)
 
 pub call_told : (inner : List Written) → IsInner inner
-    → IsCall (enclosed (direct sorts.OpenParen terminals.CallParen) inner (direct sorts.CloseParen terminals.ParenEnd) [])
+    → IsCall (enclosed (direct sorts.OpenParen terminals.CallParen) inner
+    (direct sorts.CloseParen terminals.ParenEnd) [])
 call_told inner told mode plains frames state at to calls within word operand stand =
     let further : continues state plains at ≡ true = both state.word _ word (ap not stand.0.spaced) in
     let r = round state brackets.Paren sorts.CloseParen terminals.ParenEnd (direct sorts.OpenParen terminals.CallParen)
     terminals.CallParen inner (call_inner mode) within paren
-    (record { opened = refl; begins = refl; inner = refl; leads = record { before = refl; operand = refl; comma = refl }; no_raw = refl })
+    (record {
+      opened = refl;
+      begins = refl;
+      inner = refl;
+      leads = record
+          { before = refl; operand = refl; comma = refl };
+      no_raw = refl;
+    })
     told stand refl
     (call_paren_here state plains at (ap takes_calls within.mode_is ∙ calls) stand.0.sort further
     (fresh state.before (operand_precedes state.before operand)).special) one_of in

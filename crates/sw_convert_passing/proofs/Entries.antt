@@ -76,7 +76,8 @@ behind_entry {mode} {frames} {state} value within operand = record {
     before = operand_precedes state.before operand;
     word = and_no state.word _ refl;
     operand = and_no (ends_operand state.before) _ refl;
-    rest = and_no (is_params state.mode) _ (no_and (is state.before terminals.Comma) _ (operand_no_comma state.before operand));
+    rest = and_no (is_params state.mode) _
+        (no_and (is state.before terminals.Comma) _ (operand_no_comma state.before operand));
   };
 }
 
@@ -86,7 +87,8 @@ pub record Leads (terminal : Terminal) : Type 0 where
   pub operand : ends_operand terminal ≡ false
   pub comma : is terminal terminals.Comma ≡ false
 
-pub led : {state : State} (terminal : Terminal) → Leads terminal → state.before ≡ terminal → state.word ≡ false → Led state
+pub led : {state : State} (terminal : Terminal) → Leads terminal → state.before ≡ terminal → state.word ≡ false
+    → Led state
 led terminal l e w = record {
   before = ap may_precede e ∙ l.before;
   operand = ap ends_operand e ∙ l.operand;
@@ -108,7 +110,8 @@ calm_by false sort c = let q = quiet sort c in (q.insert, q.dot, q.paren)
 
 pub calm : (plains : List Plain) (at : ℕ) → IsClosed plains at → Calm plains at
 calm plains at closed =
-    let (i, d, p) = calm_by (spaced_at plains at) (sort_at plains at) closed in record { insert = i; dot = d; paren = p }
+    let (i, d, p) = calm_by (spaced_at plains at) (sort_at plains at) closed in record
+    { insert = i; dot = d; paren = p }
 
 pub calm_quiet : (plains : List Plain) (at : ℕ) → Quiet (sort_at plains at) → Calm plains at
 calm_quiet plains at q = record {
@@ -133,13 +136,15 @@ abbrev pub Result : List Plain → Mode → List Frame → State → ℕ → Lis
 Result plains mode frames state at tokens to =
     (told : Told plains mode frames state at tokens to) × (ends_operand told.end.before ≡ true)
 
-pub result : {plains : List Plain} {mode : Mode} {frames : List Frame} {state : State} {at to : ℕ} {tokens : List Written}
+pub result : {plains : List Plain} {mode : Mode} {frames : List Frame} {state : State} {at to : ℕ}
+    {tokens : List Written}
     (end : State) → Reads plains state at tokens end to → Within mode frames end → ends_operand end.before ≡ true
     → Result plains mode frames state at tokens to
 result end (lexemes, passed) within operand =
     (record { lexemes = lexemes; end = end; passed = passed; within = within }, operand)
 
-pub reads : {plains : List Plain} {mode : Mode} {frames : List Frame} {state : State} {at to : ℕ} {tokens : List Written}
+pub reads : {plains : List Plain} {mode : Mode} {frames : List Frame} {state : State} {at to : ℕ}
+    {tokens : List Written}
     (told : Told plains mode frames state at tokens to) → Reads plains state at tokens told.end to
 reads told = (told.lexemes, told.passed)
 
@@ -154,7 +159,8 @@ pub record Plainly (terminal : Terminal) : Type 0 where
 -- one token that ends a value
 pub last : {plains : List Plain} {mode : Mode} {frames : List Frame} {state : State} {at to : ℕ} (one : Written)
     (terminal : Terminal) → is_value mode ≡ true → Within mode frames state → IsThere plains at one → at + 1 ≡ to
-    → is_comment one.sort ≡ false → terminal_of state plains at ≡ terminal → Among terminal one.may_be → Plainly terminal
+    → is_comment one.sort ≡ false → terminal_of state plains at ≡ terminal → Among terminal one.may_be
+    → Plainly terminal
     → ends_operand terminal ≡ true → Result plains mode frames state at (one ∷ []) to
 last {plains} {mode} {frames} {state} {at} {to} one terminal value within there e code told among plainly operand =
     let n = next state within (value_mode mode value).steady terminal plainly.goes plainly.begins in

@@ -11,7 +11,7 @@ use Rattle.sw_parse_lexemes.specs.Names.{is, is_raw, is_bang, behind_dollar, con
 use Rattle.sw_parse_lexemes.specs.Signs.{ends_operand, is_text, is_flag}
 use Rattle.sw_parse_lexemes.specs.Steps.{inner_mode, stays}
 use Rattle.sw_convert_passing.specs.Places.{is_value, separates, may_precede, stops}
-use Rattle.sw_convert_passing.specs.Values.{is_keyword, keyword, is_bound, is_part}
+use Rattle.sw_convert_passing.specs.Kinds.{is_keyword, keyword, is_bound, is_part}
 
 pub no_and : (a b : Bool) → a ≡ false → (a && b) ≡ false
 no_and true b e = absurd (cc)
@@ -119,7 +119,8 @@ inner_value mode terminals.WordInsert v o = word_inner mode
 inner_value mode terminals.PartInsert v o = part_inner mode
 inner_value mode _ v o = absurd (cc)
 
-pub inner_text : (mode : Mode) (terminal : Terminal) → opens_text terminal ≡ true → inner_mode mode terminal ≡ modes.Text
+pub inner_text : (mode : Mode) (terminal : Terminal) → opens_text terminal ≡ true
+    → inner_mode mode terminal ≡ modes.Text
 inner_text mode terminals.Template o = template_inner mode
 inner_text mode terminals.UrlTemplate o = url_inner mode
 inner_text mode _ o = absurd (cc)

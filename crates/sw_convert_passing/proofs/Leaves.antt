@@ -17,7 +17,8 @@ use Rattle.sw_parse_lexemes.specs.Terminals.{terminal_of}
 use Rattle.sw_parse_lexemes.specs.Steps.{in_word, after}
 use Rattle.sw_convert_passing.specs.Written.{Written, written, direct, IsThere, Stand, Within}
 use Rattle.sw_convert_passing.specs.Places.{is_value, Ready, IsClosed}
-use Rattle.sw_convert_passing.specs.Values.{is_quoted, is_hash_name, is_keyword, is_constant, keyword, is_bound, ends_bound, is_lone, lone, is_lone_value, dollar}
+use Rattle.sw_convert_passing.specs.Kinds.{is_quoted, is_hash_name, is_keyword, is_constant, keyword, is_bound, ends_bound, is_lone, lone, is_lone_value}
+use Rattle.sw_convert_passing.specs.Values.{dollar}
 use Rattle.sw_convert_passing.proofs.Facts.{no_and, and_no, both, value_mode, Fresh, fresh, Keyword, keyword_is, name_code, number_code}
 use Rattle.sw_convert_passing.proofs.Steps.{Reads, join, step, stay_at, Next, next}
 use Rattle.sw_convert_passing.proofs.Walks.{next_code, is_code}
@@ -25,7 +26,8 @@ use Rattle.sw_convert_passing.proofs.Tokens.{lone_here, code_here, number_here, 
 use Rattle.sw_convert_passing.proofs.Entries.{Entry, Calm, calm, Result, result, one_of, Plainly, last, IsTold}
 
 -- no word goes on where a value begins
-pub no_further : {mode : Mode} {frames : List Frame} {state : State} {spaced signed : Bool} (plains : List Plain) (at : ℕ)
+pub no_further : {mode : Mode} {frames : List Frame} {state : State} {spaced signed : Bool} (plains : List Plain)
+    (at : ℕ)
     → Entry mode frames state spaced signed → spaced_at plains at ≡ spaced → continues state plains at ≡ false
 no_further {mode} {frames} {state} plains at entry s =
     ap (λ (b : Bool). state.word && not b) s ∙ entry.ready.word
@@ -38,7 +40,8 @@ pub fresh_here : {mode : Mode} {frames : List Frame} {state : State} {spaced sig
 fresh_here {mode} {frames} {state} entry = fresh state.before entry.ready.before
 
 -- each number, string and constant
-number_no_insert : (spaced : Bool) (sort : Sort) → is_number sort ≡ true → (not spaced && same sort sorts.OpenInsert) ≡ false
+number_no_insert : (spaced : Bool) (sort : Sort) → is_number sort ≡ true
+    → (not spaced && same sort sorts.OpenInsert) ≡ false
 number_no_insert spaced sorts.Digits n = and_no (not spaced) _ refl
 number_no_insert spaced sorts.Number n = and_no (not spaced) _ refl
 number_no_insert spaced _ n = absurd (cc)
@@ -60,9 +63,12 @@ record LoneValue (sort : Sort) : Type 0 where
   operand : ends_operand (lone sort) ≡ true
 
 lone_value_is : (sort : Sort) → is_lone_value sort ≡ true → LoneValue sort
-lone_value_is sorts.Url e = record { alone = refl; code = refl; plainly = record { goes = refl; begins = refl }; operand = refl }
-lone_value_is sorts.Range e = record { alone = refl; code = refl; plainly = record { goes = refl; begins = refl }; operand = refl }
-lone_value_is sorts.Ampersand e = record { alone = refl; code = refl; plainly = record { goes = refl; begins = refl }; operand = refl }
+lone_value_is sorts.Url e = record
+    { alone = refl; code = refl; plainly = record { goes = refl; begins = refl }; operand = refl }
+lone_value_is sorts.Range e = record
+    { alone = refl; code = refl; plainly = record { goes = refl; begins = refl }; operand = refl }
+lone_value_is sorts.Ampersand e = record
+    { alone = refl; code = refl; plainly = record { goes = refl; begins = refl }; operand = refl }
 lone_value_is _ e = absurd (cc)
 
 record Constant (sort : Sort) : Type 0 where
@@ -72,9 +78,12 @@ record Constant (sort : Sort) : Type 0 where
   operand : ends_operand (keyword sort) ≡ true
 
 constant_is : (sort : Sort) → is_constant sort ≡ true → Constant sort
-constant_is sorts.True e = record { is_one = refl; code = refl; plainly = record { goes = refl; begins = refl }; operand = refl }
-constant_is sorts.False e = record { is_one = refl; code = refl; plainly = record { goes = refl; begins = refl }; operand = refl }
-constant_is sorts.Null e = record { is_one = refl; code = refl; plainly = record { goes = refl; begins = refl }; operand = refl }
+constant_is sorts.True e = record
+    { is_one = refl; code = refl; plainly = record { goes = refl; begins = refl }; operand = refl }
+constant_is sorts.False e = record
+    { is_one = refl; code = refl; plainly = record { goes = refl; begins = refl }; operand = refl }
+constant_is sorts.Null e = record
+    { is_one = refl; code = refl; plainly = record { goes = refl; begins = refl }; operand = refl }
 constant_is _ e = absurd (cc)
 
 no_bound : (mode : Mode) (sort : Sort) → is_bound sort ≡ false → ends_bound mode sort ≡ false
@@ -83,13 +92,15 @@ no_bound modes.BoundEnds sort b = b
 no_bound _ sort b = refl
 
 -- a keyword that stands by itself
-pub keyword_here : {mode : Mode} {frames : List Frame} {state : State} {spaced signed : Bool} (plains : List Plain) (at : ℕ)
+pub keyword_here : {mode : Mode} {frames : List Frame} {state : State} {spaced signed : Bool} (plains : List Plain)
+    (at : ℕ)
     (sort : Sort) → is_keyword sort ≡ true → Entry mode frames state spaced signed → sort_at plains at ≡ sort
     → spaced_at plains at ≡ spaced → Calm plains (at + 1) → terminal_of state plains at ≡ keyword sort
 keyword_here {mode} {frames} {state} plains at sort k entry e s next_to =
     let f = fresh_here entry in
     let told = keyword_is sort k in
-    name_here entry.value state entry.within plains at (ap is_name e ∙ told.named) (no_further plains at entry s) f.dollar f.hash
+    name_here entry.value state entry.within plains at (ap is_name e ∙ told.named) (no_further plains at entry s)
+    f.dollar f.hash
     f.bang (no_and _ _ f.owned)
     (no_and _ _ (ap (ends_bound mode) e ∙ no_bound mode sort told.no_bound)) next_to.insert f.owned next_to.dot
     (no_and _ _ (ap is_special_name e ∙ told.no_special))
@@ -127,7 +138,8 @@ module _ {mode : Mode} {spaced : Bool} where
     told = λ plains frames state at to entry stand closed.
         last (written sort spaced terminals.Number) terminals.Number entry.value entry.within stand.0 stand.1
         (number_code sort n)
-        (number_here (value_mode mode entry.value).raw state entry.within plains at sort n stand.0.sort (no_further plains at entry stand.0.spaced))
+        (number_here (value_mode mode entry.value).raw state entry.within plains at sort n stand.0.sort
+        (no_further plains at entry stand.0.spaced))
         one_of (record { goes = refl; begins = refl }) refl;
   }
 
@@ -138,9 +150,11 @@ module _ {mode : Mode} {spaced : Bool} where
     told = λ plains frames state at to entry stand closed. go plains frames state at to entry stand;
   }
     where
-      go : (plains : List Plain) (frames : List Frame) (state : State) (at to : ℕ) → Entry mode frames state spaced false
+      go : (plains : List Plain) (frames : List Frame) (state : State) (at to : ℕ)
+          → Entry mode frames state spaced false
           → Stand plains at (written sorts.Minus spaced terminals.Sign ∷ direct sort terminals.Number ∷ []) to
-          → Result plains mode frames state at (written sorts.Minus spaced terminals.Sign ∷ direct sort terminals.Number ∷ []) to
+          → Result plains mode frames state at
+          (written sorts.Minus spaced terminals.Sign ∷ direct sort terminals.Number ∷ []) to
       go plains frames state at to entry (there, (number, e)) =
           let one = written sorts.Minus spaced terminals.Sign in
           let signs : minus_signs state plains at ≡ true = both _ _
@@ -150,14 +164,18 @@ module _ {mode : Mode} {spaced : Bool} where
           let no_insert : is_direct plains (at + 1) sorts.OpenInsert ≡ false =
           ap (λ (x : Sort). not (spaced_at plains (at + 1)) && same x sorts.OpenInsert) number.sort
           ∙ number_no_insert (spaced_at plains (at + 1)) sort n in
-          let told = sign_here entry.value state entry.within plains at there.sort (no_further plains at entry there.spaced) no_insert signs in
+          let told = sign_here entry.value state entry.within plains at there.sort
+          (no_further plains at entry there.spaced) no_insert signs in
           let n1 = next state entry.within (value_mode mode entry.value).steady terminals.Sign refl refl in
-          let second = number_here (value_mode mode entry.value).raw (after state terminals.Sign) n1.within plains (at + 1) sort n number.sort
+          let second = number_here (value_mode mode entry.value).raw (after state terminals.Sign) n1.within plains
+          (at + 1) sort n number.sort
           (never (after state terminals.Sign) plains (at + 1) n1.word) in
-          let (t, operand) = last (direct sort terminals.Number) terminals.Number entry.value n1.within number e (number_code sort n)
+          let (t, operand) = last (direct sort terminals.Number) terminals.Number entry.value n1.within number e
+          (number_code sort n)
           second one_of (record { goes = refl; begins = refl }) refl in
           result t.end
-          (join (step plains state at one terminals.Sign entry.within there refl told one_of) (t.lexemes, t.passed)) t.within operand
+          (join (step plains state at one terminals.Sign entry.within there refl told one_of) (t.lexemes, t.passed))
+          t.within operand
 
   pub quoted_told : (sort : Sort) → is_quoted sort ≡ true
       → IsTold mode spaced false (written sort spaced terminals.Quoted ∷ [])
@@ -177,7 +195,8 @@ module _ {mode : Mode} {spaced : Bool} where
         begins = refl;
         told = λ plains frames state at to entry stand closed.
             last (written sort spaced (lone sort)) (lone sort) entry.value entry.within stand.0 stand.1 facts.code
-            (lone_here state plains at (code_here entry.value state entry.within plains at) sort facts.alone stand.0.sort)
+            (lone_here state plains at (code_here entry.value state entry.within plains at) sort facts.alone
+            stand.0.sort)
             one_of facts.plainly facts.operand;
       }
 
@@ -200,19 +219,24 @@ module _ {mode : Mode} {spaced : Bool} where
     told = λ plains frames state at to entry stand closed. go plains frames state at to entry stand;
   }
     where
-      go : (plains : List Plain) (frames : List Frame) (state : State) (at to : ℕ) → Entry mode frames state spaced false
+      go : (plains : List Plain) (frames : List Frame) (state : State) (at to : ℕ)
+          → Entry mode frames state spaced false
           → Stand plains at (written sorts.Hash spaced terminals.Hash ∷ direct sort terminals.HashName ∷ []) to
-          → Result plains mode frames state at (written sorts.Hash spaced terminals.Hash ∷ direct sort terminals.HashName ∷ []) to
+          → Result plains mode frames state at
+          (written sorts.Hash spaced terminals.Hash ∷ direct sort terminals.HashName ∷ []) to
       go plains frames state at to entry (there, (second, e)) =
-          let told = lone_here state plains at (code_here entry.value state entry.within plains at) sorts.Hash refl there.sort in
+          let told = lone_here state plains at (code_here entry.value state entry.within plains at) sorts.Hash refl
+          there.sort in
           let n1 = next state entry.within (value_mode mode entry.value).steady terminals.Hash refl refl in
           let (t, operand) = last (direct sort terminals.HashName) terminals.HashName entry.value n1.within second e
           (hash_code sort h)
-          (hash_second (after state terminals.Hash) plains (at + 1) entry.value n1.within n1.before n1.word second.spaced
+          (hash_second (after state terminals.Hash) plains (at + 1) entry.value n1.within n1.before n1.word
+          second.spaced
           (hash_at sort (sort_at plains (at + 1)) second.sort h))
           one_of (record { goes = refl; begins = refl }) refl in
           result t.end
-          (join (step plains state at (written sorts.Hash spaced terminals.Hash) terminals.Hash entry.within there refl told one_of)
+          (join (step plains state at (written sorts.Hash spaced terminals.Hash) terminals.Hash entry.within there
+          refl told one_of)
           (t.lexemes, t.passed)) t.within operand
 
   pub important_told : IsTold mode spaced false
@@ -222,8 +246,10 @@ module _ {mode : Mode} {spaced : Bool} where
     told = λ plains frames state at to entry stand closed. go plains frames state at to entry stand;
   }
     where
-      go : (plains : List Plain) (frames : List Frame) (state : State) (at to : ℕ) → Entry mode frames state spaced false
-          → Stand plains at (written sorts.Exclamation spaced terminals.Bang ∷ direct sorts.Important terminals.Important ∷ []) to
+      go : (plains : List Plain) (frames : List Frame) (state : State) (at to : ℕ)
+          → Entry mode frames state spaced false
+          → Stand plains at
+          (written sorts.Exclamation spaced terminals.Bang ∷ direct sorts.Important terminals.Important ∷ []) to
           → Result plains mode frames state at
           (written sorts.Exclamation spaced terminals.Bang ∷ direct sorts.Important terminals.Important ∷ []) to
       go plains frames state at to entry (there, (second, e)) =
@@ -236,10 +262,12 @@ module _ {mode : Mode} {spaced : Bool} where
           (never s1 plains (at + 1) n1.word) (ap behind_dollar n1.before)
           (ap (λ (t : Terminal). is t terminals.Hash) n1.before) (ap is_bang n1.before)
           ∙ ap behind_bang second.sort in
-          let (t, operand) = last (direct sorts.Important terminals.Important) terminals.Important entry.value n1.within second e
+          let (t, operand) = last (direct sorts.Important terminals.Important) terminals.Important entry.value
+          n1.within second e
           refl told2 one_of (record { goes = refl; begins = refl }) refl in
           result t.end
-          (join (step plains state at (written sorts.Exclamation spaced terminals.Bang) terminals.Bang entry.within there refl told one_of)
+          (join (step plains state at (written sorts.Exclamation spaced terminals.Bang) terminals.Bang entry.within
+          there refl told one_of)
           (t.lexemes, t.passed)) t.within operand
 
   pub variable_told : (name : Sort) → is_name name ≡ true
@@ -258,33 +286,46 @@ module _ {mode : Mode} {spaced : Bool} where
           → Result plains mode frames state at (dollar spaced ∷ direct name terminals.VariableName ∷ []) to
       named plains frames state at to first entry (there, (second, e)) told among plainly word behind =
           let n1 = next state entry.within (value_mode mode entry.value).steady first plainly.goes plainly.begins in
-          let (t, operand) = last (direct name terminals.VariableName) terminals.VariableName entry.value n1.within second e
+          let (t, operand) = last (direct name terminals.VariableName) terminals.VariableName entry.value n1.within
+          second e
           (name_code name n)
-          (variable_name_here (value_mode mode entry.value).raw (after state first) n1.within plains (at + 1) (ap is_name second.sort ∙ n)
-          (never (after state first) plains (at + 1) (n1.word ∙ word)) (ap behind_dollar n1.before ∙ behind) second.spaced)
+          (variable_name_here (value_mode mode entry.value).raw (after state first) n1.within plains (at + 1)
+          (ap is_name second.sort ∙ n)
+          (never (after state first) plains (at + 1) (n1.word ∙ word)) (ap behind_dollar n1.before ∙ behind)
+          second.spaced)
           one_of (record { goes = refl; begins = refl }) refl in
-          result t.end (join (step plains state at (dollar spaced) first entry.within there refl told among) (t.lexemes, t.passed))
+          result t.end
+          (join (step plains state at (dollar spaced) first entry.within there refl told among)
+          (t.lexemes, t.passed))
           t.within operand
 
-      go : (plains : List Plain) (frames : List Frame) (state : State) (at to : ℕ) → Entry mode frames state spaced false
+      go : (plains : List Plain) (frames : List Frame) (state : State) (at to : ℕ)
+          → Entry mode frames state spaced false
           → Stand plains at (dollar spaced ∷ direct name terminals.VariableName ∷ []) to
           → Result plains mode frames state at (dollar spaced ∷ direct name terminals.VariableName ∷ []) to
-      go plains frames state at to entry stand = elim (dollar_here entry.value state entry.within plains at stand.0.sort (fresh_here entry).owned entry.ready.rest) [
-        | inl told ↦ named plains frames state at to terminals.Dollar entry stand told (inl refl) (record { goes = refl; begins = refl }) refl refl
-        | inr told ↦ named plains frames state at to terminals.DollarNamed entry stand told (inr (inl refl)) (record { goes = refl; begins = refl }) refl refl
-      ]
+      go plains frames state at to entry stand = elim
+          (dollar_here entry.value state entry.within plains at stand.0.sort (fresh_here entry).owned
+          entry.ready.rest) [
+            | inl told ↦ named plains frames state at to terminals.Dollar entry stand told (inl refl)
+                (record { goes = refl; begins = refl }) refl refl
+            | inr told ↦ named plains frames state at to terminals.DollarNamed entry stand told (inr (inl refl))
+                (record { goes = refl; begins = refl }) refl refl
+          ]
 
 -- a namespace and its `.`
-pub record Owned (plains : List Plain) (mode : Mode) (frames : List Frame) (state : State) (at : ℕ) (owner : Written) : Type 0 where
+pub record Owned (plains : List Plain) (mode : Mode) (frames : List Frame) (state : State) (at : ℕ)
+    (owner : Written) : Type 0 where
   pub end : State
   pub reads : Reads plains state at (owner ∷ direct sorts.Dot terminals.OwnerDot ∷ []) end ((at + 1) + 1)
   pub within : Within mode frames end
   pub before : end.before ≡ terminals.OwnerDot
   pub word : end.word ≡ false
 
-pub owned_by : {mode : Mode} {spaced : Bool} {frames : List Frame} (plains : List Plain) (state : State) (at : ℕ) (owner : Sort)
+pub owned_by : {mode : Mode} {spaced : Bool} {frames : List Frame} (plains : List Plain) (state : State) (at : ℕ)
+    (owner : Sort)
     → is_name owner ≡ true → Entry mode frames state spaced false
-    → IsThere plains at (written owner spaced terminals.Owner) → IsThere plains (at + 1) (direct sorts.Dot terminals.OwnerDot)
+    → IsThere plains at (written owner spaced terminals.Owner)
+    → IsThere plains (at + 1) (direct sorts.Dot terminals.OwnerDot)
     → Owned plains mode frames state at (written owner spaced terminals.Owner)
 owned_by {mode} {spaced} {frames} plains state at owner n entry there dot =
     let f = fresh_here entry in
@@ -292,15 +333,20 @@ owned_by {mode} {spaced} {frames} plains state at owner n entry there dot =
     both _ _ (ap not dot.spaced) (ap (λ (x : Sort). same x sorts.Dot) dot.sort) in
     let no_insert : is_direct plains (at + 1) sorts.OpenInsert ≡ false =
     and_no _ _ (ap (λ (x : Sort). same x sorts.OpenInsert) dot.sort) in
-    let told = owner_here entry.value state entry.within plains at (ap is_name there.sort ∙ n) (no_further plains at entry there.spaced)
+    let told = owner_here entry.value state entry.within plains at (ap is_name there.sort ∙ n)
+    (no_further plains at entry there.spaced)
     f.dollar f.hash f.bang (no_and _ _ f.owned) (and_no _ _ (no_end _ _ is_dot)) no_insert f.owned is_dot in
     let n1 = next state entry.within (value_mode mode entry.value).steady terminals.Owner refl refl in
     let s1 = after state terminals.Owner in
-    let told2 = owner_dot_here (value_mode mode entry.value).raw s1 n1.within plains (at + 1) dot.sort (ap (λ (t : Terminal). is t terminals.Owner) n1.before) dot.spaced in
+    let told2 = owner_dot_here (value_mode mode entry.value).raw s1 n1.within plains (at + 1) dot.sort
+    (ap (λ (t : Terminal). is t terminals.Owner) n1.before) dot.spaced in
     let n2 = next s1 n1.within (value_mode mode entry.value).steady terminals.OwnerDot refl refl in record {
       end = after s1 terminals.OwnerDot;
-      reads = join (step plains state at (written owner spaced terminals.Owner) terminals.Owner entry.within there (name_code owner n) told one_of)
-          (step plains s1 (at + 1) (direct sorts.Dot terminals.OwnerDot) terminals.OwnerDot n1.within dot refl told2 one_of);
+      reads = join
+          (step plains state at (written owner spaced terminals.Owner) terminals.Owner entry.within there
+          (name_code owner n) told one_of)
+          (step plains s1 (at + 1) (direct sorts.Dot terminals.OwnerDot) terminals.OwnerDot n1.within dot refl told2
+          one_of);
       within = n2.within;
       before = n2.before;
       word = n2.word;
@@ -325,18 +371,22 @@ owned_variable_told {mode} {spaced} owner name o n = record {
 }
   where
     go : (plains : List Plain) (frames : List Frame) (state : State) (at to : ℕ) → Entry mode frames state spaced false
-        → Stand plains at (owned_tokens spaced owner name) to → Result plains mode frames state at (owned_tokens spaced owner name) to
+        → Stand plains at (owned_tokens spaced owner name) to
+        → Result plains mode frames state at (owned_tokens spaced owner name) to
     go plains frames state at to entry (there, (dot, (third, (fourth, e)))) =
         let by = owned_by plains state at owner o entry there dot in
         let told = owner_dollar_here (value_mode mode entry.value).raw by.end by.within plains ((at + 1) + 1) third.sort
         (ap (λ (t : Terminal). is t terminals.OwnerDot) by.before) third.spaced in
         let n1 = next by.end by.within (value_mode mode entry.value).steady terminals.OwnerDollar refl refl in
         let s1 = after by.end terminals.OwnerDollar in
-        let (t, operand) = last (direct name terminals.VariableName) terminals.VariableName entry.value n1.within fourth e
+        let (t, operand) = last (direct name terminals.VariableName) terminals.VariableName entry.value n1.within
+        fourth e
         (name_code name n)
-        (variable_name_here (value_mode mode entry.value).raw s1 n1.within plains (((at + 1) + 1) + 1) (ap is_name fourth.sort ∙ n)
+        (variable_name_here (value_mode mode entry.value).raw s1 n1.within plains (((at + 1) + 1) + 1)
+        (ap is_name fourth.sort ∙ n)
         (never s1 plains (((at + 1) + 1) + 1) n1.word) (ap behind_dollar n1.before) fourth.spaced)
         one_of (record { goes = refl; begins = refl }) refl in
         result t.end
-        (join by.reads (join (step plains by.end ((at + 1) + 1) (direct sorts.Dollar terminals.OwnerDollar) terminals.OwnerDollar
+        (join by.reads
+        (join (step plains by.end ((at + 1) + 1) (direct sorts.Dollar terminals.OwnerDollar) terminals.OwnerDollar
         by.within third refl told one_of) (t.lexemes, t.passed))) t.within operand

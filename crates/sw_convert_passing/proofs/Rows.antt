@@ -17,7 +17,8 @@ use Rattle.sw_parse_lexemes.specs.Terminals.{terminal_of}
 use Rattle.sw_parse_lexemes.specs.Steps.{in_word, after, past_white}
 use Rattle.sw_convert_passing.specs.Written.{Written, direct, Stand, Within}
 use Rattle.sw_convert_passing.specs.Places.{is_value, separates, may_precede, stops, IsClosed, Behind, Told}
-use Rattle.sw_convert_passing.specs.Values.{is_separator, separator, seam}
+use Rattle.sw_convert_passing.specs.Kinds.{is_separator, separator}
+use Rattle.sw_convert_passing.specs.Values.{seam}
 use Rattle.sw_convert_passing.proofs.Facts.{no_and, and_no, value_mode, separated_precedes, separated_no_operand}
 use Rattle.sw_convert_passing.proofs.Steps.{Reads, join, step, stay, stay_at, seam_step, seam_next, Next, next}
 use Rattle.sw_convert_passing.proofs.Tokens.{lone_here, code_here, comma_here}
@@ -46,9 +47,12 @@ record Separator (sort : Sort) : Type 0 where
   between : separates (separator sort) ≡ true
 
 separator_sort : (sort : Sort) → is_separator sort ≡ true → Separator sort
-separator_sort sorts.Comma s = record { code = refl; stop = refl; plainly = record { goes = refl; begins = refl }; word = refl; between = refl }
-separator_sort sorts.Colon s = record { code = refl; stop = refl; plainly = record { goes = refl; begins = refl }; word = refl; between = refl }
-separator_sort sorts.Ellipsis s = record { code = refl; stop = refl; plainly = record { goes = refl; begins = refl }; word = refl; between = refl }
+separator_sort sorts.Comma s = record
+    { code = refl; stop = refl; plainly = record { goes = refl; begins = refl }; word = refl; between = refl }
+separator_sort sorts.Colon s = record
+    { code = refl; stop = refl; plainly = record { goes = refl; begins = refl }; word = refl; between = refl }
+separator_sort sorts.Ellipsis s = record
+    { code = refl; stop = refl; plainly = record { goes = refl; begins = refl }; word = refl; between = refl }
 separator_sort _ s = absurd (cc)
 
 separator_here : {mode : Mode} {frames : List Frame} (state : State) (plains : List Plain) (at : ℕ) (sort : Sort)
@@ -61,16 +65,20 @@ separator_here state plains at sorts.Ellipsis s value within e =
     lone_here state plains at (code_here value state within plains at) sorts.Ellipsis refl e
 separator_here state plains at _ s value within e = absurd (cc)
 
-pub separated_told : {mode : Mode} {spaced ended : Bool} (row : List Written) (sort : Sort) → IsRow mode spaced ended row
+pub separated_told : {mode : Mode} {spaced ended : Bool} (row : List Written) (sort : Sort)
+    → IsRow mode spaced ended row
     → is_separator sort ≡ true → IsRow mode spaced false (row ++ direct sort (separator sort) ∷ [])
 separated_told {mode} {spaced} {ended} row sort told s = record {
   begins = begins_more spaced row (direct sort (separator sort) ∷ []) told.begins;
   told = λ plains frames state at to is_one no_params within led stand closed.
       let facts = separator_sort sort s in
       let (place, stands, (there, e)) = split plains to row (direct sort (separator sort) ∷ []) at stand in
-      let (t, b) = told.told plains frames state at place is_one no_params within led stands (closed_stops plains place sort facts.stop there.sort) in
-      let n = next t.end t.within (value_mode mode is_one).steady (separator sort) facts.plainly.goes facts.plainly.begins in
-      let (lexemes, passed) = join (reads t) (join (step plains t.end place (direct sort (separator sort)) (separator sort) t.within there facts.code
+      let (t, b) = told.told plains frames state at place is_one no_params within led stands
+      (closed_stops plains place sort facts.stop there.sort) in
+      let n = next t.end t.within (value_mode mode is_one).steady (separator sort) facts.plainly.goes
+      facts.plainly.begins in
+      let (lexemes, passed) = join (reads t)
+      (join (step plains t.end place (direct sort (separator sort)) (separator sort) t.within there facts.code
       (separator_here t.end plains place sort s is_one t.within there.sort) one_of) (stay_at e)) in (
         record { lexemes = lexemes; end = after t.end (separator sort); passed = passed; within = n.within },
         (ap separates n.before ∙ facts.between, n.word ∙ facts.word),
@@ -109,7 +117,8 @@ pub items_told : {ended : Bool} (row : List Written) → IsRow modes.Expression 
 items_told row told plains frames state at to within led stand closed =
     let (t, b) = told.told plains frames state at to refl refl within led stand closed in t
 
-pub seamed_items_told : {ended : Bool} (row : List Written) → IsRow modes.Expression true ended row → IsInner (seam ∷ row)
+pub seamed_items_told : {ended : Bool} (row : List Written) → IsRow modes.Expression true ended row
+    → IsInner (seam ∷ row)
 seamed_items_told row told plains frames state at to within led (there, stand) closed =
     let n = seam_next state within in
     let still : Led (past_white state sorts.Comment) = record {
@@ -118,6 +127,7 @@ seamed_items_told row told plains frames state at to within led (there, stand) c
       comma = ap (λ (t : Terminal). is t terminals.Comma) n.before ∙ led.comma;
       word = n.word ∙ led.word;
     } in
-    let (t, b) = told.told plains frames (past_white state sorts.Comment) (at + 1) to refl refl n.within still stand closed in
+    let (t, b) = told.told plains frames (past_white state sorts.Comment) (at + 1) to refl refl n.within still stand
+    closed in
     let (lexemes, passed) = join (seam_step plains state at within there) (reads t) in
     record { lexemes = lexemes; end = t.end; passed = passed; within = t.within }

@@ -12,7 +12,7 @@ use Rattle.sw_parse_lexemes.specs.Ahead.{sort_at}
 use Rattle.sw_parse_lexemes.specs.Terminals.{terminal_of}
 use Rattle.sw_parse_lexemes.specs.Steps.{placed, is_white, are_white, after, past_white}
 use Rattle.sw_parse_lexemes.specs.Lexemes.{Reading, lexeme_of, skipped, kept, read_placed, read, optional, lexemes_from, lexemes_by}
-use Rattle.sw_convert_passing.specs.Written.{Written, Passed, nothing, token, comment, PassedIsSeen}
+use Rattle.sw_convert_passing.specs.Written.{Written, Passed, nothing, token, begins, comment, PassedIsSeen}
 use Rattle.sw_convert_passing.proofs.Facts.{no_and, both}
 
 module _ (plains : List Plain) where
@@ -31,6 +31,15 @@ module _ (plains : List Plain) where
       read_there state at plain start ignored
       ∙ if_false (is_white state plains at) (skipped state plain) _ (no_and (is_comment (sort_at plains at)) _ code)
 
+  read_begun : (state : State) (at : ℕ) (plain : Plain) → state.ignored ≡ 0 → is_comment (sort_at plains at) ≡ false
+      → read state plains at plain
+      ≡ kept (placed state plains at) at plain (terminal_of (placed state plains at) plains at)
+  unfolding read
+  read_begun state at plain ignored code =
+      if_false (nat_lt 0 state.ignored) (skipped state plain) _ (ap (nat_lt 0) ignored)
+      ∙ if_false (is_white (placed state plains at) plains at) (skipped (placed state plains at) plain) _
+      (no_and (is_comment (sort_at plains at)) _ code)
+
   read_skipped : (state : State) (at : ℕ) (plain : Plain) → state.start ≡ false → state.ignored ≡ 0
       → sort_at plains at ≡ sorts.Comment → read state plains at plain ≡ skipped state plain
   read_skipped state at plain start ignored here =
@@ -42,7 +51,8 @@ module _ (plains : List Plain) where
   next_is : (at : ℕ) (plain : Plain) → slice_get plains at ≡ Some plain → drop at plains ≡ plain ∷ drop (at + 1) plains
   next_is at plain e =
       let lt : at < length plains = slice_get_within plains at plain e in
-      rw add-one (drop-cons plains at plain lt ∙ ap (λ (x : Plain). x ∷ drop (suc at) plains) (get_or_from_slice_get plains at plain plain e))
+      rw add-one (drop-cons plains at plain lt
+      ∙ ap (λ (x : Plain). x ∷ drop (suc at) plains) (get_or_from_slice_get plains at plain plain e))
 
   one : (state : State) (at : ℕ) (plain : Plain) (reading : Reading) → slice_get plains at ≡ Some plain
       → read state plains at plain ≡ reading
@@ -55,11 +65,18 @@ module _ (plains : List Plain) where
       → Passed plains state at tokens lexemes end to
       → lexemes_by plains state at ≡ lexemes ++ lexemes_by plains end to
   seen nothing = refl
-  seen (token {state} {end} {at} {to} {tokens} {lexemes} plain other is_plain code start ignored among p) =
+  seen (token {state} {end} {at} {to} {tokens} {lexemes} plain another is_plain code start ignored among p) =
       one state at plain (kept state at plain (terminal_of state plains at)) is_plain
       (read_kept state at plain start ignored code)
       ∙ ap (λ (x : List Lexeme). lexeme_of plain at state.commented (terminal_of state plains at) ∷ x) (seen p)
-  seen (comment {state} {end} {at} {to} {tokens} {lexemes} plain other is_plain here start ignored p) =
+  seen (begins {state} {end} {at} {to} {tokens} {lexemes} plain another is_plain code start ignored among p) =
+      one state at plain (kept (placed state plains at) at plain (terminal_of (placed state plains at) plains at))
+      is_plain
+      (read_begun state at plain ignored code)
+      ∙ ap (λ (x : List Lexeme).
+      lexeme_of plain at (placed state plains at).commented (terminal_of (placed state plains at) plains at) ∷ x)
+      (seen p)
+  seen (comment {state} {end} {at} {to} {tokens} {lexemes} plain another is_plain here start ignored p) =
       one state at plain (skipped state plain) is_plain (read_skipped state at plain start ignored here)
       ∙ seen p
 

@@ -22,7 +22,8 @@ use Rattle.sw_parse_lexemes.specs.Steps.{opened_by, inner_mode, begins_statement
 use Rattle.sw_text_scan.proofs.Bounds.{if_true}
 use Rattle.sw_convert_passing.specs.Written.{Written, written, direct, IsThere, Among, Stand, Within}
 use Rattle.sw_convert_passing.specs.Places.{is_value, Told}
-use Rattle.sw_convert_passing.specs.Values.{enclosed, inserted, is_raw, is_raw_sign, ahead, is_dot, is_dollar, is_paren, owns, is_raw_name, is_sign, is_plus_or_minus, seam}
+use Rattle.sw_convert_passing.specs.Kinds.{is_raw, is_raw_sign, is_dot, is_dollar, is_paren, is_sign, is_plus_or_minus}
+use Rattle.sw_convert_passing.specs.Values.{enclosed, inserted, ahead, owns, is_raw_name, seam}
 use Rattle.sw_convert_passing.proofs.Facts.{no_and, and_no, both, and_left, and_right, raw_inner, value_mode, name_code, number_code}
 use Rattle.sw_convert_passing.proofs.Steps.{Reads, join, step, stay_at, seam_step, seam_next, Next, next, framed, opens, innermost_is, closes}
 use Rattle.sw_convert_passing.proofs.Tokens.{number_here, owner_dot_here, owner_dollar_here, variable_name_here}
@@ -57,13 +58,15 @@ IsSpecial inner ended tokens =
     → IsInside inner frames → InText ended state → Stand plains at tokens to → is_shut (sort_at plains to) ≡ true
     → Told plains modes.Special frames state at tokens to
 
-pub told_by : {plains : List Plain} {frames : List Frame} {state : State} {at to : ℕ} {tokens : List Written} (end : State)
+pub told_by : {plains : List Plain} {frames : List Frame} {state : State} {at to : ℕ} {tokens : List Written}
+    (end : State)
     → Reads plains state at tokens end to → Within modes.Special frames end
     → Told plains modes.Special frames state at tokens to
 told_by end (lexemes, passed) within = record { lexemes = lexemes; end = end; passed = passed; within = within }
 
 pub text_end_told : (inner ended : Bool) → IsSpecial inner ended []
-text_end_told inner ended plains frames state at to within inside before stand shut = told_by state (stay_at stand) within
+text_end_told inner ended plains frames state at to within inside before stand shut = told_by state (stay_at stand)
+    within
 
 -- what stands ahead
 pub two : (at : ℕ) → at + 2 ≡ (at + 1) + 1
@@ -83,12 +86,15 @@ shut_misses test (p, b) _ s = absurd (cc)
 abbrev direct_at : (Sort → Bool) → List Plain → ℕ → Bool
 direct_at test plains at = not (spaced_at plains at) && test (sort_at plains at)
 
-ahead_is : (test : Sort → Bool) → Misses test → (plains : List Plain) (at to : ℕ) (rest : List Written) → Stand plains at rest to
+ahead_is : (test : Sort → Bool) → Misses test → (plains : List Plain) (at to : ℕ) (rest : List Written)
+    → Stand plains at rest to
     → is_shut (sort_at plains to) ≡ true → direct_at test plains at ≡ ahead test 0 rest
 ahead_is test misses plains at to [] stand shut =
-    and_no (not (spaced_at plains at)) _ (shut_misses test misses (sort_at plains at) (ap (λ (k : ℕ). is_shut (sort_at plains k)) stand ∙ shut))
+    and_no (not (spaced_at plains at)) _
+    (shut_misses test misses (sort_at plains at) (ap (λ (k : ℕ). is_shut (sort_at plains k)) stand ∙ shut))
 ahead_is test misses plains at to (one ∷ rest) (there, stand) shut =
-    ap (λ (b : Bool). not b && test (sort_at plains at)) there.spaced ∙ ap (λ (x : Sort). not one.spaced && test x) there.sort
+    ap (λ (b : Bool). not b && test (sort_at plains at)) there.spaced
+    ∙ ap (λ (x : Sort). not one.spaced && test x) there.sort
 
 first_no : (a b : Bool) → a ≡ false → (a && b) ≡ false
 first_no a b e = no_and a b e
@@ -110,7 +116,9 @@ owned_ahead plains at to (x ∷ []) (there, stand) shut o =
     (ahead_is is_dollar (refl, refl) plains ((at + 1) + 1) to [] stand shut)
     (ahead_is is_name (refl, refl) plains ((at + 1) + 1) to [] stand shut))
 owned_ahead plains at to (x ∷ y ∷ rest) (there, stand) shut o =
-    rw (two, three) (ap (λ (a : Bool). owning a (direct_at is_dollar plains ((at + 1) + 1)) (direct_at is_name plains (((at + 1) + 1) + 1))
+    rw (two, three)
+    (ap (λ (a : Bool). owning a (direct_at is_dollar plains ((at + 1) + 1))
+    (direct_at is_name plains (((at + 1) + 1) + 1))
     (direct_at is_name plains ((at + 1) + 1)) (direct_at is_paren plains (((at + 1) + 1) + 1)))
     (ahead_is is_dot (refl, refl) plains (at + 1) to (x ∷ y ∷ rest) (there, stand) shut)
     ∙ ap (λ (b : Bool). owning (ahead is_dot 0 (x ∷ y ∷ rest)) b (direct_at is_name plains (((at + 1) + 1) + 1))
@@ -122,7 +130,8 @@ owned_ahead plains at to (x ∷ y ∷ rest) (there, stand) shut o =
     ∙ ap (λ (d : Bool). owning (ahead is_dot 0 (x ∷ y ∷ rest)) (ahead is_dollar 0 (y ∷ rest)) (ahead is_name 0 rest) d
     (direct_at is_paren plains (((at + 1) + 1) + 1)))
     (ahead_is is_name (refl, refl) plains ((at + 1) + 1) to (y ∷ rest) stand shut)
-    ∙ ap (λ (e : Bool). owning (ahead is_dot 0 (x ∷ y ∷ rest)) (ahead is_dollar 0 (y ∷ rest)) (ahead is_name 0 rest) (ahead is_name 0 (y ∷ rest)) e)
+    ∙ ap (λ (e : Bool). owning (ahead is_dot 0 (x ∷ y ∷ rest)) (ahead is_dollar 0 (y ∷ rest)) (ahead is_name 0 rest)
+    (ahead is_name 0 (y ∷ rest)) e)
     (ahead_is is_paren (refl, refl) plains (((at + 1) + 1) + 1) to rest stand.1 shut)
     ∙ o)
 
@@ -142,15 +151,18 @@ pub behind_item : {state : State} {terminal : Terminal} {ended : Bool} → state
 behind_item e w i o = record { before = ap in_text e ∙ i; word = w; operand = ap ends_operand e ∙ o }
 
 -- one token, and then the rest
-module _ {plains : List Plain} {frames : List Frame} {at to : ℕ} (state : State) (within : Within modes.Special frames state) where
-  pub one_then : (inner : Bool) {ended : Bool} (one : Written) (terminal : Terminal) (rest : List Written) → Item terminal ended
-      → IsInside inner frames → IsThere plains at one → Stand plains (at + 1) rest to → is_shut (sort_at plains to) ≡ true
+module _ {plains : List Plain} {frames : List Frame} {at to : ℕ} (state : State)
+    (within : Within modes.Special frames state) where
+  pub one_then : (inner : Bool) {ended : Bool} (one : Written) (terminal : Terminal) (rest : List Written)
+      → Item terminal ended
+      → IsInside inner frames → IsThere plains at one → Stand plains (at + 1) rest to
+      → is_shut (sort_at plains to) ≡ true
       → is_comment one.sort ≡ false → terminal_of state plains at ≡ terminal → Among terminal one.may_be
       → IsSpecial inner ended rest → Told plains modes.Special frames state at (one ∷ rest) to
   one_then inner one terminal rest item inside there stand shut code told among more =
       let n = next state within refl terminal item.goes item.begins in
       let t = more plains frames (after state terminal) (at + 1) to n.within inside
-              (behind_item n.before (n.word ∙ item.word) item.before item.operand) stand shut in
+      (behind_item n.before (n.word ∙ item.word) item.before item.operand) stand shut in
       told_by t.end (join (step plains state at one terminal within there code told among) (reads t)) t.within
 
 raw_code : (sort : Sort) → is_raw sort ≡ true → is_comment sort ≡ false
@@ -175,16 +187,19 @@ module _ (inner ended spaced : Bool) (rest : List Written) where
   pub text_token_told : (sort : Sort) → is_raw sort ≡ true → IsSpecial inner false rest
       → IsSpecial inner ended (written sort spaced terminals.Raw ∷ rest)
   text_token_told sort r more plains frames state at to within inside before (there, stand) shut =
-      one_then state within inner (written sort spaced terminals.Raw) terminals.Raw rest raw_item inside there stand shut (raw_code sort r)
+      one_then state within inner (written sort spaced terminals.Raw) terminals.Raw rest raw_item inside there stand
+      shut (raw_code sort r)
       (raw_here state within plains at sort r there.sort (loose_in before)) one_of more
 
   pub text_name_told : (sort : Sort) → is_name sort ≡ true → is_raw_name sort rest ≡ true → IsSpecial inner false rest
       → IsSpecial inner ended (written sort spaced terminals.Raw ∷ rest)
   text_name_told sort n r more plains frames state at to within inside before (there, stand) shut =
-      one_then state within inner (written sort spaced terminals.Raw) terminals.Raw rest raw_item inside there stand shut (name_code sort n)
+      one_then state within inner (written sort spaced terminals.Raw) terminals.Raw rest raw_item inside there stand
+      shut (name_code sort n)
       (raw_name_here state within plains at (ap is_name there.sort ∙ n) before.word (loose_in before)
       (owned_ahead plains at to rest stand shut (not_true _ (and_left (not (owns rest)) _ r)))
-      (ap (λ (b : Bool). b && not (stays_text (sort_at plains at))) (ahead_is is_paren (refl, refl) plains (at + 1) to rest stand shut)
+      (ap (λ (b : Bool). b && not (stays_text (sort_at plains at)))
+      (ahead_is is_paren (refl, refl) plains (at + 1) to rest stand shut)
       ∙ ap (λ (x : Sort). ahead is_paren 0 rest && not (stays_text x)) there.sort
       ∙ not_true _ (and_right (not (owns rest)) _ r))) one_of more
     where
@@ -195,7 +210,8 @@ module _ (inner ended spaced : Bool) (rest : List Written) where
   pub text_dollar_told : ahead is_name 0 rest ≡ false → IsSpecial inner false rest
       → IsSpecial inner ended (written sorts.Dollar spaced terminals.Raw ∷ rest)
   text_dollar_told n more plains frames state at to within inside before (there, stand) shut =
-      one_then state within inner (written sorts.Dollar spaced terminals.Raw) terminals.Raw rest raw_item inside there stand shut refl
+      one_then state within inner (written sorts.Dollar spaced terminals.Raw) terminals.Raw rest raw_item inside
+      there stand shut refl
       (raw_dollar_here state within plains at there.sort (loose_in before).owned
       (ahead_is is_name (refl, refl) plains (at + 1) to rest stand shut ∙ n)) one_of more
 
@@ -210,9 +226,11 @@ module _ (inner ended spaced : Bool) (rest : List Written) where
       ap (λ (b : Bool). number_direct plains (at + 1) && (b || not (ends_operand state.before))) s
       ∙ ap (λ (b : Bool). number_direct plains (at + 1) && (spaced || not b)) before.operand
 
-  raw_sign : {frames : List Frame} (sort : Sort) (plains : List Plain) (state : State) (at : ℕ) → is_plus_or_minus sort ≡ true
+  raw_sign : {frames : List Frame} (sort : Sort) (plains : List Plain) (state : State) (at : ℕ)
+      → is_plus_or_minus sort ≡ true
       → Within modes.Special frames state → InText ended state → sort_at plains at ≡ sort → spaced_at plains at ≡ spaced
-      → (number_direct plains (at + 1) && is_sign sort spaced ended) ≡ false → terminal_of state plains at ≡ terminals.Raw
+      → (number_direct plains (at + 1) && is_sign sort spaced ended) ≡ false
+      → terminal_of state plains at ≡ terminals.Raw
   raw_sign sorts.Plus plains state at p within before e s n =
       raw_plus_here state within plains at e (signs_plus plains state at before ∙ n)
   raw_sign sorts.Minus plains state at p within before e s n =
@@ -223,9 +241,11 @@ module _ (inner ended spaced : Bool) (rest : List Written) where
       → (ahead is_number 0 rest && is_sign sort spaced ended) ≡ false → IsSpecial inner false rest
       → IsSpecial inner ended (written sort spaced terminals.Raw ∷ rest)
   text_sign_told sort p n more plains frames state at to within inside before (there, stand) shut =
-      one_then state within inner (written sort spaced terminals.Raw) terminals.Raw rest raw_item inside there stand shut (sign_code sort p)
+      one_then state within inner (written sort spaced terminals.Raw) terminals.Raw rest raw_item inside there stand
+      shut (sign_code sort p)
       (raw_sign sort plains state at p within before there.sort there.spaced
-      (ap (λ (b : Bool). b && is_sign sort spaced ended) (ahead_is is_number (refl, refl) plains (at + 1) to rest stand shut) ∙ n))
+      (ap (λ (b : Bool). b && is_sign sort spaced ended)
+      (ahead_is is_number (refl, refl) plains (at + 1) to rest stand shut) ∙ n))
       one_of more
 
   pub text_comma_told : IsSpecial inner false rest
@@ -243,7 +263,8 @@ module _ (inner ended spaced : Bool) (rest : List Written) where
       (number_code sort n)
       (number_here refl state within plains at sort n there.sort (never state plains at before.word)) one_of more
 
-  signed_sign : {frames : List Frame} (sort : Sort) (plains : List Plain) (state : State) (at : ℕ) → is_sign sort spaced ended ≡ true
+  signed_sign : {frames : List Frame} (sort : Sort) (plains : List Plain) (state : State) (at : ℕ)
+      → is_sign sort spaced ended ≡ true
       → Within modes.Special frames state → InText ended state → sort_at plains at ≡ sort → spaced_at plains at ≡ spaced
       → number_direct plains (at + 1) ≡ true
       → (terminal_of state plains at ≡ terminals.Sign) × (is_comment sort ≡ false)
@@ -252,7 +273,8 @@ module _ (inner ended spaced : Bool) (rest : List Written) where
     refl,
   )
   signed_sign sorts.Minus plains state at p within before e s n = (
-    minus_sign_here state within plains at e before.word (loose_in before) (signs_minus plains state at before s ∙ both _ _ n p),
+    minus_sign_here state within plains at e before.word (loose_in before)
+        (signs_minus plains state at before s ∙ both _ _ n p),
     refl,
   )
   signed_sign _ plains state at p within before e s n = absurd (cc)
@@ -262,44 +284,58 @@ module _ (inner ended spaced : Bool) (rest : List Written) where
       → IsSpecial inner ended (written sort spaced terminals.Sign ∷ direct number terminals.Number ∷ rest)
   text_signed_told sort number n p more plains frames state at to within inside before (there, (second, stand)) shut =
       let (told, code) = signed_sign sort plains state at p within before there.sort there.spaced
-              (both _ _ (ap not second.spaced) (ap is_number second.sort ∙ n)) in
+      (both _ _ (ap not second.spaced) (ap is_number second.sort ∙ n)) in
       let m = next state within refl terminals.Sign refl refl in
       let s1 = after state terminals.Sign in
       let t = one_then s1 m.within inner (direct number terminals.Number) terminals.Number rest
-              (record { goes = refl; begins = refl; before = refl; word = refl; operand = refl }) inside second stand shut
-              (number_code number n)
-              (number_here refl s1 m.within plains (at + 1) number n second.sort (never s1 plains (at + 1) m.word)) one_of more in
-      told_by t.end (join (step plains state at (written sort spaced terminals.Sign) terminals.Sign within there code told one_of) (reads t))
+      (record { goes = refl; begins = refl; before = refl; word = refl; operand = refl }) inside second stand
+      shut
+      (number_code number n)
+      (number_here refl s1 m.within plains (at + 1) number n second.sort (never s1 plains (at + 1) m.word))
+      one_of more in
+      told_by t.end
+      (join (step plains state at (written sort spaced terminals.Sign) terminals.Sign within there code told
+      one_of) (reads t))
       t.within
 
   pub text_variable_told : (name : Sort) → is_name name ≡ true → IsSpecial inner true rest
       → IsSpecial inner ended (written sorts.Dollar spaced terminals.Dollar ∷ direct name terminals.VariableName ∷ rest)
   text_variable_told name n more plains frames state at to within inside before (there, (second, stand)) shut =
       let told = dollar_in_text state within plains at there.sort (loose_in before).owned
-              (both _ _ (ap not second.spaced) (ap is_name second.sort ∙ n)) in
+      (both _ _ (ap not second.spaced) (ap is_name second.sort ∙ n)) in
       let m = next state within refl terminals.Dollar refl refl in
       let s1 = after state terminals.Dollar in
       let t = one_then s1 m.within inner (direct name terminals.VariableName) terminals.VariableName rest
-              (record { goes = refl; begins = refl; before = refl; word = refl; operand = refl }) inside second stand shut
-              (name_code name n)
-              (variable_name_here refl s1 m.within plains (at + 1) (ap is_name second.sort ∙ n) (never s1 plains (at + 1) m.word)
-              (ap behind_dollar m.before) second.spaced) one_of more in
+      (record { goes = refl; begins = refl; before = refl; word = refl; operand = refl }) inside second stand
+      shut
+      (name_code name n)
+      (variable_name_here refl s1 m.within plains (at + 1) (ap is_name second.sort ∙ n)
+      (never s1 plains (at + 1) m.word)
+      (ap behind_dollar m.before) second.spaced) one_of more in
       told_by t.end
-      (join (step plains state at (written sorts.Dollar spaced terminals.Dollar) terminals.Dollar within there refl told one_of) (reads t))
+      (join (step plains state at (written sorts.Dollar spaced terminals.Dollar) terminals.Dollar within there refl
+      told one_of) (reads t))
       t.within
 
   pub text_seam_told : IsSpecial inner ended rest → IsSpecial inner ended (seam ∷ rest)
   text_seam_told more plains frames state at to within inside before (there, stand) shut =
       let n = seam_next state within in
       let t = more plains frames (past_white state sorts.Comment) (at + 1) to n.within inside
-              (record { before = ap in_text n.before ∙ before.before; word = n.word ∙ before.word; operand = ap ends_operand n.before ∙ before.operand })
-              stand shut in
+      (record {
+        before = ap in_text n.before ∙ before.before;
+        word = n.word
+            ∙ before.word;
+        operand = ap ends_operand n.before ∙ before.operand;
+      })
+      stand shut in
       told_by t.end (join (seam_step plains state at within there) (reads t)) t.within
 
-pub text_brace_told : (ended spaced : Bool) (rest : List Written) (sort : Sort) → is_raw_sign sort ≡ true → IsSpecial true false rest
+pub text_brace_told : (ended spaced : Bool) (rest : List Written) (sort : Sort) → is_raw_sign sort ≡ true
+    → IsSpecial true false rest
     → IsSpecial true ended (written sort spaced terminals.Raw ∷ rest)
 text_brace_told ended spaced rest sort r more plains frames state at to within inside before (there, stand) shut =
-    one_then state within true (written sort spaced terminals.Raw) terminals.Raw rest raw_item inside there stand shut (raw_sign_code sort r)
+    one_then state within true (written sort spaced terminals.Raw) terminals.Raw rest raw_item inside there stand
+    shut (raw_sign_code sort r)
     (raw_sign_here state within plains at sort r there.sort
     (ap (λ (f : List Frame). is_outer (innermost f)) within.frames_are ∙ inside.outer)
     (ap (λ (f : List Frame). is_brace (innermost f)) within.frames_are ∙ inside.brace)

@@ -18,7 +18,7 @@ use Rattle.sw_parse_lexemes.specs.Signs.{ends_operand, is_text, plus_signs, minu
 use Rattle.sw_parse_lexemes.specs.Brackets.{innermost, is_outer, is_brace, is_inner, is_custom, paren_in, sign_in_brackets}
 use Rattle.sw_parse_lexemes.specs.Terminals.{terminal_of}
 use Rattle.sw_convert_passing.specs.Written.{Within}
-use Rattle.sw_convert_passing.specs.Values.{is_raw, is_raw_sign}
+use Rattle.sw_convert_passing.specs.Kinds.{is_raw, is_raw_sign}
 use Rattle.sw_convert_passing.proofs.Facts.{no_and, and_no, both}
 use Rattle.sw_convert_passing.proofs.Tokens.{by_insert, by_paren, by_dollar, by_plus, by_minus, by_bracket, by_comma, behind}
 
@@ -48,19 +48,120 @@ pub record Loose (before : Terminal) : Type 0 where
   pub rule : (is before terminals.AtInsert || is before terminals.WordMinus) ≡ false
 
 pub loose : (before : Terminal) → in_text before ≡ true → Loose before
-loose terminals.RawParen e = record { dollar = refl; hash = refl; bang = refl; owned = refl; owner = refl; special = refl; as_ = refl; prefix = refl; rule = refl }
-loose terminals.RawBracket e = record { dollar = refl; hash = refl; bang = refl; owned = refl; owner = refl; special = refl; as_ = refl; prefix = refl; rule = refl }
-loose terminals.Raw e = record { dollar = refl; hash = refl; bang = refl; owned = refl; owner = refl; special = refl; as_ = refl; prefix = refl; rule = refl }
-loose terminals.SpecialComma e = record { dollar = refl; hash = refl; bang = refl; owned = refl; owner = refl; special = refl; as_ = refl; prefix = refl; rule = refl }
-loose terminals.RawParenEnd e = record { dollar = refl; hash = refl; bang = refl; owned = refl; owner = refl; special = refl; as_ = refl; prefix = refl; rule = refl }
-loose terminals.RawBracketEnd e = record { dollar = refl; hash = refl; bang = refl; owned = refl; owner = refl; special = refl; as_ = refl; prefix = refl; rule = refl }
-loose terminals.Number e = record { dollar = refl; hash = refl; bang = refl; owned = refl; owner = refl; special = refl; as_ = refl; prefix = refl; rule = refl }
-loose terminals.VariableName e = record { dollar = refl; hash = refl; bang = refl; owned = refl; owner = refl; special = refl; as_ = refl; prefix = refl; rule = refl }
-loose terminals.InsertEnd e = record { dollar = refl; hash = refl; bang = refl; owned = refl; owner = refl; special = refl; as_ = refl; prefix = refl; rule = refl }
-loose terminals.ParenEnd e = record { dollar = refl; hash = refl; bang = refl; owned = refl; owner = refl; special = refl; as_ = refl; prefix = refl; rule = refl }
+loose terminals.RawParen e = record {
+  dollar = refl;
+  hash = refl;
+  bang = refl;
+  owned = refl;
+  owner = refl;
+  special = refl;
+  as_ = refl;
+  prefix = refl;
+  rule = refl;
+}
+loose terminals.RawBracket e = record {
+  dollar = refl;
+  hash = refl;
+  bang = refl;
+  owned = refl;
+  owner = refl;
+  special = refl;
+  as_ = refl;
+  prefix = refl;
+  rule = refl;
+}
+loose terminals.Raw e = record {
+  dollar = refl;
+  hash = refl;
+  bang = refl;
+  owned = refl;
+  owner = refl;
+  special = refl;
+  as_ = refl;
+  prefix = refl;
+  rule = refl;
+}
+loose terminals.SpecialComma e = record {
+  dollar = refl;
+  hash = refl;
+  bang = refl;
+  owned = refl;
+  owner = refl;
+  special = refl;
+  as_ = refl;
+  prefix = refl;
+  rule = refl;
+}
+loose terminals.RawParenEnd e = record {
+  dollar = refl;
+  hash = refl;
+  bang = refl;
+  owned = refl;
+  owner = refl;
+  special = refl;
+  as_ = refl;
+  prefix = refl;
+  rule = refl;
+}
+loose terminals.RawBracketEnd e = record {
+  dollar = refl;
+  hash = refl;
+  bang = refl;
+  owned = refl;
+  owner = refl;
+  special = refl;
+  as_ = refl;
+  prefix = refl;
+  rule = refl;
+}
+loose terminals.Number e = record {
+  dollar = refl;
+  hash = refl;
+  bang = refl;
+  owned = refl;
+  owner = refl;
+  special = refl;
+  as_ = refl;
+  prefix = refl;
+  rule = refl;
+}
+loose terminals.VariableName e = record {
+  dollar = refl;
+  hash = refl;
+  bang = refl;
+  owned = refl;
+  owner = refl;
+  special = refl;
+  as_ = refl;
+  prefix = refl;
+  rule = refl;
+}
+loose terminals.InsertEnd e = record {
+  dollar = refl;
+  hash = refl;
+  bang = refl;
+  owned = refl;
+  owner = refl;
+  special = refl;
+  as_ = refl;
+  prefix = refl;
+  rule = refl;
+}
+loose terminals.ParenEnd e = record {
+  dollar = refl;
+  hash = refl;
+  bang = refl;
+  owned = refl;
+  owner = refl;
+  special = refl;
+  as_ = refl;
+  prefix = refl;
+  rule = refl;
+}
 loose _ e = absurd (cc)
 
-module _ {frames : List Frame} (state : State) (within : Within modes.Special frames state) (plains : List Plain) (at : ℕ) where
+module _ {frames : List Frame} (state : State) (within : Within modes.Special frames state) (plains : List Plain)
+    (at : ℕ) where
   text : is_text state.mode ≡ true
   text = ap is_text within.mode_is
 
@@ -71,14 +172,18 @@ module _ {frames : List Frame} (state : State) (within : Within modes.Special fr
       → terminal_of state plains at ≡ terminals.Raw
   unfolding terminal_of
   raw_here sorts.Dot r e f =
-      rw (e, terminal_of) (if_false (is state.before terminals.Owner && not (spaced_at plains at)) terminals.OwnerDot _ (no_and _ _ f.owner)
+      rw (e, terminal_of)
+      (if_false (is state.before terminals.Owner && not (spaced_at plains at)) terminals.OwnerDot _
+      (no_and _ _ f.owner)
       ∙ if_true (is_text state.mode) terminals.Raw _ text)
   raw_here sorts.Star r e f =
       rw (e, terminal_of) (if_false (is state.before terminals.As) terminals.Star _ f.as_
-      ∙ if_false (is state.before terminals.Prefix && not (spaced_at plains at)) terminals.PrefixStar _ (no_and _ _ f.prefix)
+      ∙ if_false (is state.before terminals.Prefix && not (spaced_at plains at)) terminals.PrefixStar _
+      (no_and _ _ f.prefix)
       ∙ if_true (is_text state.mode) terminals.Raw _ text)
   raw_here sorts.Exclamation r e f =
-      rw (e, terminal_of) (if_false (takes_flags state.mode && _) terminals.Ending _ (no_and _ _ (ap takes_flags within.mode_is))
+      rw (e, terminal_of)
+      (if_false (takes_flags state.mode && _) terminals.Ending _ (no_and _ _ (ap takes_flags within.mode_is))
       ∙ if_true (is_text state.mode) terminals.Raw _ text)
   raw_here sorts.Hex r e f = rw (e, terminal_of) (if_true (is_text state.mode) terminals.Raw _ text)
   raw_here sorts.Quoted r e f = rw (e, terminal_of) (if_true (is_text state.mode) terminals.Raw _ text)
@@ -105,30 +210,54 @@ module _ {frames : List Frame} (state : State) (within : Within modes.Special fr
   raw_here sorts.Greater r e f = rw (e, terminal_of) (if_true (is_text state.mode) terminals.Raw _ text)
   raw_here sorts.GreaterEquals r e f = rw (e, terminal_of) (if_true (is_text state.mode) terminals.Raw _ text)
   raw_here sorts.Other r e f = rw (e, terminal_of) (if_true (is_text state.mode) terminals.Raw _ text)
-  raw_here sorts.AtUse r e f = rw (e, terminal_of) (if_false state.start _ _ within.no_start ∙ if_true (is_text state.mode) terminals.Raw _ text)
-  raw_here sorts.AtForward r e f = rw (e, terminal_of) (if_false state.start _ _ within.no_start ∙ if_true (is_text state.mode) terminals.Raw _ text)
-  raw_here sorts.AtFunction r e f = rw (e, terminal_of) (if_false state.start _ _ within.no_start ∙ if_true (is_text state.mode) terminals.Raw _ text)
-  raw_here sorts.AtMixin r e f = rw (e, terminal_of) (if_false state.start _ _ within.no_start ∙ if_true (is_text state.mode) terminals.Raw _ text)
-  raw_here sorts.AtInclude r e f = rw (e, terminal_of) (if_false state.start _ _ within.no_start ∙ if_true (is_text state.mode) terminals.Raw _ text)
-  raw_here sorts.AtContent r e f = rw (e, terminal_of) (if_false state.start _ _ within.no_start ∙ if_true (is_text state.mode) terminals.Raw _ text)
-  raw_here sorts.AtReturn r e f = rw (e, terminal_of) (if_false state.start _ _ within.no_start ∙ if_true (is_text state.mode) terminals.Raw _ text)
-  raw_here sorts.AtWarn r e f = rw (e, terminal_of) (if_false state.start _ _ within.no_start ∙ if_true (is_text state.mode) terminals.Raw _ text)
-  raw_here sorts.AtDebug r e f = rw (e, terminal_of) (if_false state.start _ _ within.no_start ∙ if_true (is_text state.mode) terminals.Raw _ text)
-  raw_here sorts.AtError r e f = rw (e, terminal_of) (if_false state.start _ _ within.no_start ∙ if_true (is_text state.mode) terminals.Raw _ text)
-  raw_here sorts.AtIf r e f = rw (e, terminal_of) (if_false state.start _ _ within.no_start ∙ if_true (is_text state.mode) terminals.Raw _ text)
-  raw_here sorts.AtElse r e f = rw (e, terminal_of) (if_false state.start _ _ within.no_start ∙ if_true (is_text state.mode) terminals.Raw _ text)
-  raw_here sorts.AtElseIf r e f = rw (e, terminal_of) (if_false state.start _ _ within.no_start ∙ if_true (is_text state.mode) terminals.Raw _ text)
-  raw_here sorts.AtEach r e f = rw (e, terminal_of) (if_false state.start _ _ within.no_start ∙ if_true (is_text state.mode) terminals.Raw _ text)
-  raw_here sorts.AtFor r e f = rw (e, terminal_of) (if_false state.start _ _ within.no_start ∙ if_true (is_text state.mode) terminals.Raw _ text)
-  raw_here sorts.AtWhile r e f = rw (e, terminal_of) (if_false state.start _ _ within.no_start ∙ if_true (is_text state.mode) terminals.Raw _ text)
-  raw_here sorts.AtMedia r e f = rw (e, terminal_of) (if_false state.start _ _ within.no_start ∙ if_true (is_text state.mode) terminals.Raw _ text)
-  raw_here sorts.AtSupports r e f = rw (e, terminal_of) (if_false state.start _ _ within.no_start ∙ if_true (is_text state.mode) terminals.Raw _ text)
-  raw_here sorts.AtRoot r e f = rw (e, terminal_of) (if_false state.start _ _ within.no_start ∙ if_true (is_text state.mode) terminals.Raw _ text)
-  raw_here sorts.AtCharset r e f = rw (e, terminal_of) (if_false state.start _ _ within.no_start ∙ if_true (is_text state.mode) terminals.Raw _ text)
-  raw_here sorts.AtImport r e f = rw (e, terminal_of) (if_false state.start _ _ within.no_start ∙ if_true (is_text state.mode) terminals.Raw _ text)
-  raw_here sorts.AtExtend r e f = rw (e, terminal_of) (if_false state.start _ _ within.no_start ∙ if_true (is_text state.mode) terminals.Raw _ text)
-  raw_here sorts.AtName r e f = rw (e, terminal_of) (if_false state.start _ _ within.no_start ∙ if_true (is_text state.mode) terminals.Raw _ text)
-  raw_here sorts.At r e f = rw (e, terminal_of) (if_false state.start _ _ within.no_start ∙ if_true (is_text state.mode) terminals.Raw _ text)
+  raw_here sorts.AtUse r e f = rw (e, terminal_of)
+      (if_false state.start _ _ within.no_start ∙ if_true (is_text state.mode) terminals.Raw _ text)
+  raw_here sorts.AtForward r e f = rw (e, terminal_of)
+      (if_false state.start _ _ within.no_start ∙ if_true (is_text state.mode) terminals.Raw _ text)
+  raw_here sorts.AtFunction r e f = rw (e, terminal_of)
+      (if_false state.start _ _ within.no_start ∙ if_true (is_text state.mode) terminals.Raw _ text)
+  raw_here sorts.AtMixin r e f = rw (e, terminal_of)
+      (if_false state.start _ _ within.no_start ∙ if_true (is_text state.mode) terminals.Raw _ text)
+  raw_here sorts.AtInclude r e f = rw (e, terminal_of)
+      (if_false state.start _ _ within.no_start ∙ if_true (is_text state.mode) terminals.Raw _ text)
+  raw_here sorts.AtContent r e f = rw (e, terminal_of)
+      (if_false state.start _ _ within.no_start ∙ if_true (is_text state.mode) terminals.Raw _ text)
+  raw_here sorts.AtReturn r e f = rw (e, terminal_of)
+      (if_false state.start _ _ within.no_start ∙ if_true (is_text state.mode) terminals.Raw _ text)
+  raw_here sorts.AtWarn r e f = rw (e, terminal_of)
+      (if_false state.start _ _ within.no_start ∙ if_true (is_text state.mode) terminals.Raw _ text)
+  raw_here sorts.AtDebug r e f = rw (e, terminal_of)
+      (if_false state.start _ _ within.no_start ∙ if_true (is_text state.mode) terminals.Raw _ text)
+  raw_here sorts.AtError r e f = rw (e, terminal_of)
+      (if_false state.start _ _ within.no_start ∙ if_true (is_text state.mode) terminals.Raw _ text)
+  raw_here sorts.AtIf r e f = rw (e, terminal_of)
+      (if_false state.start _ _ within.no_start ∙ if_true (is_text state.mode) terminals.Raw _ text)
+  raw_here sorts.AtElse r e f = rw (e, terminal_of)
+      (if_false state.start _ _ within.no_start ∙ if_true (is_text state.mode) terminals.Raw _ text)
+  raw_here sorts.AtElseIf r e f = rw (e, terminal_of)
+      (if_false state.start _ _ within.no_start ∙ if_true (is_text state.mode) terminals.Raw _ text)
+  raw_here sorts.AtEach r e f = rw (e, terminal_of)
+      (if_false state.start _ _ within.no_start ∙ if_true (is_text state.mode) terminals.Raw _ text)
+  raw_here sorts.AtFor r e f = rw (e, terminal_of)
+      (if_false state.start _ _ within.no_start ∙ if_true (is_text state.mode) terminals.Raw _ text)
+  raw_here sorts.AtWhile r e f = rw (e, terminal_of)
+      (if_false state.start _ _ within.no_start ∙ if_true (is_text state.mode) terminals.Raw _ text)
+  raw_here sorts.AtMedia r e f = rw (e, terminal_of)
+      (if_false state.start _ _ within.no_start ∙ if_true (is_text state.mode) terminals.Raw _ text)
+  raw_here sorts.AtSupports r e f = rw (e, terminal_of)
+      (if_false state.start _ _ within.no_start ∙ if_true (is_text state.mode) terminals.Raw _ text)
+  raw_here sorts.AtRoot r e f = rw (e, terminal_of)
+      (if_false state.start _ _ within.no_start ∙ if_true (is_text state.mode) terminals.Raw _ text)
+  raw_here sorts.AtCharset r e f = rw (e, terminal_of)
+      (if_false state.start _ _ within.no_start ∙ if_true (is_text state.mode) terminals.Raw _ text)
+  raw_here sorts.AtImport r e f = rw (e, terminal_of)
+      (if_false state.start _ _ within.no_start ∙ if_true (is_text state.mode) terminals.Raw _ text)
+  raw_here sorts.AtExtend r e f = rw (e, terminal_of)
+      (if_false state.start _ _ within.no_start ∙ if_true (is_text state.mode) terminals.Raw _ text)
+  raw_here sorts.AtName r e f = rw (e, terminal_of)
+      (if_false state.start _ _ within.no_start ∙ if_true (is_text state.mode) terminals.Raw _ text)
+  raw_here sorts.At r e f = rw (e, terminal_of)
+      (if_false state.start _ _ within.no_start ∙ if_true (is_text state.mode) terminals.Raw _ text)
   raw_here _ r e f = absurd (cc)
 
   inner_raw : is_inner (innermost state.frames) ≡ true
@@ -143,7 +272,8 @@ module _ {frames : List Frame} (state : State) (within : Within modes.Special fr
       → is_inner (innermost state.frames) ≡ true → terminal_of state plains at ≡ terminals.Raw
   unfolding terminal_of
   raw_sign_here sorts.OpenBrace r e o b i =
-      rw (e, terminal_of) (if_false (is_custom state.mode && _) terminals.RawBrace _ (no_and _ _ (ap is_custom within.mode_is))
+      rw (e, terminal_of)
+      (if_false (is_custom state.mode && _) terminals.RawBrace _ (no_and _ _ (ap is_custom within.mode_is))
       ∙ if_false (is_outer (innermost state.frames)) terminals.Open _ o ∙ inner_raw i)
   raw_sign_here sorts.CloseBrace r e o b i =
       rw (e, terminal_of) (if_false (is_brace (innermost state.frames)) terminals.RawBraceEnd _ b
@@ -162,7 +292,8 @@ module _ {frames : List Frame} (state : State) (within : Within modes.Special fr
       by_insert state plains at e ∙ if_false (continues state plains at) terminals.PartInsert _ (no_and state.word _ w)
       ∙ ap (λ (m : Mode). insert_in (record state { mode = m }) plains at) within.mode_is
 
-  pub paren_in_text : sort_at plains at ≡ sorts.OpenParen → state.word ≡ false → is state.before terminals.Special ≡ false
+  pub paren_in_text : sort_at plains at ≡ sorts.OpenParen → state.word ≡ false
+      → is state.before terminals.Special ≡ false
       → terminal_of state plains at ≡ terminals.RawParen
   paren_in_text e w s =
       by_paren state plains at e ∙ if_false (is state.before terminals.Special) terminals.RawParen _ s
@@ -176,14 +307,16 @@ module _ {frames : List Frame} (state : State) (within : Within modes.Special fr
       → name_direct plains (at + 1) ≡ true → terminal_of state plains at ≡ terminals.Dollar
   dollar_in_text e o n =
       by_dollar state plains at e ∙ if_false (is_raw_mode state.mode) terminals.Raw _ raw_not
-      ∙ if_false (is state.before terminals.OwnerDot && not (spaced_at plains at)) terminals.OwnerDollar _ (no_and _ _ o)
+      ∙ if_false (is state.before terminals.OwnerDot && not (spaced_at plains at)) terminals.OwnerDollar _
+      (no_and _ _ o)
       ∙ if_true (is_text state.mode) _ _ text ∙ if_true (name_direct plains (at + 1)) terminals.Dollar _ n
 
   pub raw_dollar_here : sort_at plains at ≡ sorts.Dollar → is state.before terminals.OwnerDot ≡ false
       → name_direct plains (at + 1) ≡ false → terminal_of state plains at ≡ terminals.Raw
   raw_dollar_here e o n =
       by_dollar state plains at e ∙ if_false (is_raw_mode state.mode) terminals.Raw _ raw_not
-      ∙ if_false (is state.before terminals.OwnerDot && not (spaced_at plains at)) terminals.OwnerDollar _ (no_and _ _ o)
+      ∙ if_false (is state.before terminals.OwnerDot && not (spaced_at plains at)) terminals.OwnerDollar _
+      (no_and _ _ o)
       ∙ if_true (is_text state.mode) _ _ text ∙ if_false (name_direct plains (at + 1)) terminals.Dollar _ n
 
   pub raw_plus_here : sort_at plains at ≡ sorts.Plus → plus_signs state plains at ≡ false
@@ -196,7 +329,8 @@ module _ {frames : List Frame} (state : State) (within : Within modes.Special fr
       → terminal_of state plains at ≡ terminals.Sign
   plus_sign_here e s =
       by_plus state plains at e ∙ if_true (is_text state.mode) _ _ text
-      ∙ if_true (plus_signs state plains at && not (is_raw_mode state.mode)) terminals.Sign _ (both _ _ s (ap not raw_not))
+      ∙ if_true (plus_signs state plains at && not (is_raw_mode state.mode)) terminals.Sign _
+      (both _ _ s (ap not raw_not))
 
   minus_in_text : sort_at plains at ≡ sorts.Minus → state.word ≡ false
       → (is state.before terminals.AtInsert || is state.before terminals.WordMinus) ≡ false
@@ -217,11 +351,13 @@ module _ {frames : List Frame} (state : State) (within : Within modes.Special fr
       → minus_signs state plains at ≡ true → terminal_of state plains at ≡ terminals.Sign
   minus_sign_here e w f s =
       minus_in_text e w f.rule
-      ∙ if_true (minus_signs state plains at && not (is_raw_mode state.mode)) terminals.Sign _ (both _ _ s (ap not raw_not))
+      ∙ if_true (minus_signs state plains at && not (is_raw_mode state.mode)) terminals.Sign _
+      (both _ _ s (ap not raw_not))
 
   -- names
   module _ (named : is_name (sort_at plains at) ≡ true) (word : state.word ≡ false) where
-    by_special : behind_dollar state.before ≡ false → is state.before terminals.Hash ≡ false → is_bang state.before ≡ false
+    by_special : behind_dollar state.before ≡ false → is state.before terminals.Hash ≡ false
+        → is_bang state.before ≡ false
         → is_apart state plains at ≡ false → terminal_of state plains at ≡ name_in_special state plains at
     by_special d h b a =
         behind refl state within plains at named (no_and state.word _ word)
@@ -240,7 +376,8 @@ module _ {frames : List Frame} (state : State) (within : Within modes.Special fr
     raw_name_here f o p =
         loosely f ∙ if_false (is state.before terminals.OwnerDot) terminals.Word _ f.owned
         ∙ if_false (owns plains at) terminals.Owner _ o
-        ∙ if_false (is_direct plains (at + 1) sorts.OpenParen && not (stays_text (sort_at plains at))) terminals.Word _ p
+        ∙ if_false (is_direct plains (at + 1) sorts.OpenParen && not (stays_text (sort_at plains at))) terminals.Word
+        _ p
 
     pub call_name_here : Loose state.before → owns plains at ≡ false
         → (is_direct plains (at + 1) sorts.OpenParen && not (stays_text (sort_at plains at))) ≡ true
@@ -260,4 +397,5 @@ module _ {frames : List Frame} (state : State) (within : Within modes.Special fr
     owned_in_text b s =
         by_special (ap behind_dollar b) (ap (λ (t : Terminal). is t terminals.Hash) b) (ap is_bang b)
         (and_no (is state.before terminals.OwnerDot) _ s)
-        ∙ if_true (is state.before terminals.OwnerDot) terminals.Word _ (ap (λ (t : Terminal). is t terminals.OwnerDot) b)
+        ∙ if_true (is state.before terminals.OwnerDot) terminals.Word _
+        (ap (λ (t : Terminal). is t terminals.OwnerDot) b)

@@ -18,22 +18,24 @@ use Rattle.sw_parse_lexemes.specs.Ahead.{sort_in, sort_at}
 use Rattle.sw_parse_lexemes.specs.Brackets.{innermost}
 use Rattle.sw_parse_lexemes.specs.Names.{is}
 use Rattle.sw_parse_lexemes.specs.Terminals.{terminal_of}
-use Rattle.sw_parse_lexemes.specs.Steps.{opened_by, inner_mode, is_inserting, below_insert, begins_statement, in_word, from_word, mode_of, stepped, opened, popped, inserted, after_opening, passes, stays, after, past_white}
+use Rattle.sw_parse_lexemes.specs.Steps.{opened_by, inner_mode, is_inserting, below_insert, begins_statement, in_word, from_word, mode_of, stepped, opened, popped, inserted, after_opening, passes, stays, placed, after, past_white}
 use Rattle.sw_parse_lexemes.specs.Lexemes.{lexeme_of}
 use Rattle.sw_parse_lexemes.proofs.Passing.{passing_after}
 use Rattle.sw_parse_lexemes.proofs.Below.{below_end}
-use Rattle.sw_convert_passing.specs.Written.{Written, IsThere, Among, Passed, nothing, token, comment, Within}
+use Rattle.sw_convert_passing.specs.Written.{Written, IsThere, Among, Passed, nothing, token, begins, comment, Within}
 use Rattle.sw_convert_passing.specs.Values.{seam}
 
 -- tokens are read as some lexemes
 abbrev pub Reads : List Plain → State → ℕ → List Written → State → ℕ → Type 0
 Reads plains state at tokens end to = (lexemes : List Lexeme) × Passed plains state at tokens lexemes end to
 
-append : (plains : List Plain) {others : List Written} {more : List Lexeme} {end : State} {to : ℕ} {state middle : State} {at place : ℕ}
+append : (plains : List Plain) {others : List Written} {more : List Lexeme} {end : State} {to : ℕ}
+    {state middle : State} {at place : ℕ}
     {tokens : List Written} {lexemes : List Lexeme} → Passed plains state at tokens lexemes middle place
     → Passed plains middle place others more end to → Passed plains state at (tokens ++ others) (lexemes ++ more) end to
 append plains nothing q = q
 append plains (token plain one i c s g m p) q = token plain one i c s g m (append plains p q)
+append plains (begins plain one i c s g m p) q = begins plain one i c s g m (append plains p q)
 append plains (comment plain one i c s g p) q = comment plain one i c s g (append plains p q)
 
 pub join : {plains : List Plain} {state middle end : State} {at place to : ℕ} {tokens others : List Written}
@@ -53,7 +55,8 @@ plain_at plains at l = elim (slice_get_cases plains at).1 [
   | inl (x, m, is_x, same_x) ↦ (x, is_x)
 ]
 
-sort_is : (plains : List Plain) (at : ℕ) (plain : Plain) → slice_get plains at ≡ Some plain → sort_at plains at ≡ plain.sort
+sort_is : (plains : List Plain) (at : ℕ) (plain : Plain) → slice_get plains at ≡ Some plain
+    → sort_at plains at ≡ plain.sort
 unfolding sort_at
 sort_is plains at plain e = ap sort_in e
 
@@ -70,8 +73,23 @@ step plains state at one terminal within there code told among =
           (subst (λ (t : Terminal). Among t one.may_be) (sym told) among) nothing,
     )
 
+-- the same of the first token of a statement
+pub start_step : (plains : List Plain) (state : State) (at : ℕ) (one : Written) (terminal : Terminal)
+    → state.start ≡ true
+    → state.ignored ≡ 0 → IsThere plains at one → is_comment one.sort ≡ false
+    → terminal_of (placed state plains at) plains at ≡ terminal → Among terminal one.may_be
+    → Reads plains state at (one ∷ []) (after (placed state plains at) terminal) (at + 1)
+start_step plains state at one terminal start ignored there code told among =
+    let (plain, is_plain) = plain_at plains at there.within in
+    subst (λ (t : Terminal). Reads plains state at (one ∷ []) (after (placed state plains at) t) (at + 1)) told (
+      lexeme_of plain at (placed state plains at).commented (terminal_of (placed state plains at) plains at) ∷ [],
+      begins plain one is_plain (ap is_comment there.sort ∙ code) start ignored
+          (subst (λ (t : Terminal). Among t one.may_be) (sym told) among) nothing,
+    )
+
 -- an empty comment
-pub seam_step : {mode : Mode} {frames : List Frame} (plains : List Plain) (state : State) (at : ℕ) → Within mode frames state
+pub seam_step : {mode : Mode} {frames : List Frame} (plains : List Plain) (state : State) (at : ℕ)
+    → Within mode frames state
     → IsThere plains at seam → Reads plains state at (seam ∷ []) (past_white state sorts.Comment) (at + 1)
 seam_step plains state at within there =
     let (plain, is_plain) = plain_at plains at there.within in
@@ -85,7 +103,8 @@ pub record Seamed (mode : Mode) (frames : List Frame) (state : State) : Type 0 w
   pub rest : (past_white state sorts.Comment).before_that ≡ state.before_that
   pub within : Within mode frames (past_white state sorts.Comment)
 
-pub seam_next : {mode : Mode} {frames : List Frame} (state : State) → Within mode frames state → Seamed mode frames state
+pub seam_next : {mode : Mode} {frames : List Frame} (state : State) → Within mode frames state
+    → Seamed mode frames state
 unfolding past_white
 seam_next state within = record {
   before = refl;
@@ -100,22 +119,28 @@ seam_next state within = record {
 }
 
 -- the state behind a terminal
-pub record Next (mode : Mode) (frames : List Frame) (state : State) (terminal : Terminal) (goes_on : Bool) : Type 0 where
-  pub before : (after state terminal).before ≡ terminal
-  pub word : (after state terminal).word ≡ goes_on
-  pub within : Within mode frames (after state terminal)
+pub record Next (mode : Mode) (frames : List Frame) (state : State) (terminal : Terminal) (goes_on : Bool) : Type 0
+  where
+    pub before : (after state terminal).before ≡ terminal
+    pub word : (after state terminal).word ≡ goes_on
+    pub within : Within mode frames (after state terminal)
 
 -- one that opens and closes nothing
-pub next : {mode : Mode} {frames : List Frame} (state : State) → Within mode frames state → stays mode ≡ true
-    → (terminal : Terminal) → passes terminal ≡ true → begins_statement terminal ≡ false
+pub next_from : {mode : Mode} {frames : List Frame} (state : State) → state.mode ≡ mode → state.frames ≡ frames
+    → stays mode ≡ true → (terminal : Terminal) → passes terminal ≡ true → begins_statement terminal ≡ false
     → Next mode frames state terminal (in_word terminal)
-next {mode} {frames} state within steady terminal p b =
-    let e = passing_after state terminal p (ap stays within.mode_is ∙ steady) in record {
+next_from {mode} {frames} state mode_is frames_are steady terminal p b =
+    let e = passing_after state terminal p (ap stays mode_is ∙ steady) in record {
       before = ap (λ (s : State). s.before) e;
       word = ap (λ (s : State). s.word) e;
       within = subst (Within mode frames) (sym e)
-          (record { mode_is = within.mode_is; frames_are = within.frames_are; no_start = b; no_comment = refl });
+          (record { mode_is = mode_is; frames_are = frames_are; no_start = b; no_comment = refl });
     }
+
+pub next : {mode : Mode} {frames : List Frame} (state : State) → Within mode frames state → stays mode ≡ true
+    → (terminal : Terminal) → passes terminal ≡ true → begins_statement terminal ≡ false
+    → Next mode frames state terminal (in_word terminal)
+next state within steady terminal p b = next_from state within.mode_is within.frames_are steady terminal p b
 
 -- what a bracket opens
 abbrev pub framed : Bracket → Terminal → Mode → Frame
@@ -154,7 +179,8 @@ pub innermost_is : (frames : List Frame) (frame : Frame) → innermost (frames +
 innermost_is frames frame =
     ap (slice_get (frames ++ frame ∷ [])) (less frames frame) ∙ last_is frames frame
 
-outer_are : (frames : List Frame) (frame : Frame) → take (length (frames ++ frame ∷ []) - 1) (frames ++ frame ∷ []) ≡ frames
+outer_are : (frames : List Frame) (frame : Frame)
+    → take (length (frames ++ frame ∷ []) - 1) (frames ++ frame ∷ []) ≡ frames
 outer_are frames frame =
     ap (λ (n : ℕ). take n (frames ++ frame ∷ [])) (less frames frame) ∙ take-append_seam frames (frame ∷ [])
 
@@ -179,7 +205,8 @@ pops : {inner : Mode} {frames : List Frame} (frame : Frame) (state : State) → 
     → (is terminal terminals.InsertEnd && from_word (Some frame)) ≡ word
     → Popped frame.mode frames (popped state terminal) terminal word
 pops {inner} {frames} frame state within terminal word b w =
-    let here : innermost state.frames ≡ Some frame = ap innermost within.frames_are ∙ innermost_is frames frame in record {
+    let here : innermost state.frames ≡ Some frame = ap innermost within.frames_are
+    ∙ innermost_is frames frame in record {
       before = refl;
       word = ap (λ (x : Option Frame). is terminal terminals.InsertEnd && from_word x) here ∙ w;
       within = record {
@@ -202,7 +229,8 @@ closing_is state terminals.TemplateEnd c = (refl, refl, refl)
 closing_is state terminals.UrlEnd c = (refl, refl, refl)
 closing_is state _ c = absurd (cc)
 
-pub closes : {inner : Mode} {frames : List Frame} (frame : Frame) (state : State) → Within inner (frames ++ frame ∷ []) state
+pub closes : {inner : Mode} {frames : List Frame} (frame : Frame) (state : State)
+    → Within inner (frames ++ frame ∷ []) state
     → (terminal : Terminal) → is_closing terminal ≡ true → Next frame.mode frames state terminal false
 closes {inner} {frames} frame state within terminal c =
     let (e, b, i) = closing_is state terminal c in
@@ -222,7 +250,8 @@ pub closes_insert : {inner : Mode} {frames : List Frame} (opened_as : Terminal) 
 closes_insert {inner} {frames} opened_as mode state within word w =
     let frame = framed brackets.Insert opened_as mode in
     let here : is_inserting (innermost state.frames) ≡ true =
-    ap (λ (x : List Frame). is_inserting (innermost x)) within.frames_are ∙ ap is_inserting (innermost_is frames frame) in
+    ap (λ (x : List Frame). is_inserting (innermost x)) within.frames_are
+    ∙ ap is_inserting (innermost_is frames frame) in
     let same : Within inner (frames ++ frame ∷ []) (inserted state) = record {
       mode_is = within.mode_is;
       frames_are = below_end state.frames here ∙ within.frames_are;

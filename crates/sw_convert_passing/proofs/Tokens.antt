@@ -19,7 +19,7 @@ use Rattle.sw_parse_lexemes.specs.Terminals.{number_terminal, digits_terminal, s
 use Rattle.sw_parse_lexemes.proofs.NameLaws.{name_there}
 use Rattle.sw_convert_passing.specs.Written.{Within}
 use Rattle.sw_convert_passing.specs.Places.{is_value, may_precede}
-use Rattle.sw_convert_passing.specs.Values.{is_quoted, is_lone, lone, is_bound, ends_bound, is_keyword, keyword, is_part, is_separator, separator}
+use Rattle.sw_convert_passing.specs.Kinds.{is_quoted, is_lone, lone, is_bound, ends_bound, is_keyword, keyword, is_part, is_separator, separator}
 use Rattle.sw_convert_passing.proofs.Facts.{takes_calls, no_and, and_no, both, ValueMode, value_mode, Fresh, fresh, word_of, Keyword, keyword_is}
 
 -- which terminal a sort is given
@@ -36,7 +36,8 @@ module _ (state : State) (plains : List Plain) (at : ℕ) where
   unfolding terminal_of
   by_quoted e = rw (e, terminal_of) refl
 
-  pub by_unnamed : sort_at plains at ≡ sorts.Unnamed → terminal_of state plains at ≡ string_terminal state plains at false
+  pub by_unnamed : sort_at plains at ≡ sorts.Unnamed
+      → terminal_of state plains at ≡ string_terminal state plains at false
   unfolding terminal_of
   by_unnamed e = rw (e, terminal_of) refl
 
@@ -117,7 +118,8 @@ module _ (state : State) (plains : List Plain) (at : ℕ) where
     lone_by sorts.GreaterEquals l e = rw (e, terminal_of) (if_false (is_text state.mode) terminals.Raw _ code)
     lone_by _ l e = absurd (cc)
 
-    pub lone_here : (sort : Sort) → is_lone sort ≡ true → sort_at plains at ≡ sort → terminal_of state plains at ≡ lone sort
+    pub lone_here : (sort : Sort) → is_lone sort ≡ true → sort_at plains at ≡ sort
+        → terminal_of state plains at ≡ lone sort
     lone_here sort l e = lone_by sort l e
 
 -- a `#{` in a string or a url
@@ -126,7 +128,8 @@ insert_in_text : (mode : Mode) (state : State) (plains : List Plain) (at : ℕ) 
 insert_in_text mode state plains at e =
     ap (λ (m : Mode). insert_in (record state { mode = m }) plains at) e
 
-pub text_insert_here : {frames : List Frame} (state : State) (plains : List Plain) (at : ℕ) → Within modes.Text frames state
+pub text_insert_here : {frames : List Frame} (state : State) (plains : List Plain) (at : ℕ)
+    → Within modes.Text frames state
     → state.word ≡ false → sort_at plains at ≡ sorts.OpenInsert → terminal_of state plains at ≡ terminals.Insert
 text_insert_here state plains at within word e =
     by_insert state plains at e
@@ -246,7 +249,8 @@ module _ {mode : Mode} {frames : List Frame} (no_raw : is_raw mode ≡ false) (s
       → spaced_at plains at ≡ false → terminal_of state plains at ≡ terminals.OwnerDot
   owner_dot_here e o s =
       by_dot state plains at e
-      ∙ if_true (is state.before terminals.Owner && not (spaced_at plains at)) terminals.OwnerDot _ (both _ _ o (ap not s))
+      ∙ if_true (is state.before terminals.Owner && not (spaced_at plains at)) terminals.OwnerDot _
+      (both _ _ o (ap not s))
 
   module _ (named : is_name (sort_at plains at) ≡ true) where
     pub part_here : continues state plains at ≡ true → terminal_of state plains at ≡ terminals.Part
@@ -261,7 +265,8 @@ module _ {mode : Mode} {frames : List Frame} (no_raw : is_raw mode ≡ false) (s
         → spaced_at plains at ≡ false → terminal_of state plains at ≡ terminals.VariableName
     variable_name_here c d s =
         behind c
-        ∙ if_true (not (spaced_at plains at) && behind_dollar state.before) terminals.VariableName _ (both _ _ (ap not s) d)
+        ∙ if_true (not (spaced_at plains at) && behind_dollar state.before) terminals.VariableName _
+        (both _ _ (ap not s) d)
 
 -- one token of a value
 module _ {mode : Mode} {frames : List Frame} (value : is_value mode ≡ true) (state : State)
@@ -295,9 +300,11 @@ module _ {mode : Mode} {frames : List Frame} (value : is_value mode ≡ true) (s
   pub quoted_here : (sort : Sort) → is_quoted sort ≡ true → sort_at plains at ≡ sort → may_precede state.before ≡ true
       → terminal_of state plains at ≡ terminals.Quoted
   quoted_here sorts.Quoted q e b =
-      by_quoted state plains at e ∙ if_false (is_text state.mode) terminals.Raw _ facts.text ∙ quoted_by state.before _ b
+      by_quoted state plains at e ∙ if_false (is_text state.mode) terminals.Raw _ facts.text
+      ∙ quoted_by state.before _ b
   quoted_here sorts.Unnamed q e b =
-      by_unnamed state plains at e ∙ if_false (is_text state.mode) terminals.Raw _ facts.text ∙ quoted_by state.before _ b
+      by_unnamed state plains at e ∙ if_false (is_text state.mode) terminals.Raw _ facts.text
+      ∙ quoted_by state.before _ b
   quoted_here _ q e b = absurd (cc)
 
   pub insert_here : sort_at plains at ≡ sorts.OpenInsert → continues state plains at ≡ false
@@ -340,7 +347,8 @@ module _ {mode : Mode} {frames : List Frame} (value : is_value mode ≡ true) (s
   dollar_here e o r =
       choice (same (sort_at plains (code_from plains (at + 2))) sorts.Colon)
       (by_dollar state plains at e ∙ if_false (is_raw state.mode) terminals.Raw _ facts.raw
-      ∙ if_false (is state.before terminals.OwnerDot && not (spaced_at plains at)) terminals.OwnerDollar _ (no_and _ _ o)
+      ∙ if_false (is state.before terminals.OwnerDot && not (spaced_at plains at)) terminals.OwnerDollar _
+      (no_and _ _ o)
       ∙ if_false (is_text state.mode) _ _ facts.text
       ∙ if_false (is_behind_rest state) terminals.Other _ r)
     where
@@ -381,7 +389,8 @@ module _ {mode : Mode} {frames : List Frame} (value : is_value mode ≡ true) (s
       by_minus state plains at e
       ∙ if_false (continues state plains at) terminals.Part _ (and_no state.word _ (ap not s))
       ∙ if_false (is_text state.mode) _ _ facts.text
-      ∙ if_false (is_direct plains (at + 1) sorts.OpenInsert) _ _ (no_and (not (spaced_at plains (at + 1))) _ (ap not n))
+      ∙ if_false (is_direct plains (at + 1) sorts.OpenInsert) _ _
+      (no_and (not (spaced_at plains (at + 1))) _ (ap not n))
       ∙ if_false (minus_signs state plains at) terminals.Sign _
       (no_and (number_direct plains (at + 1)) _ (no_and (not (spaced_at plains (at + 1))) _ (ap not n)))
       ∙ if_true (ends_operand state.before) terminals.Minus terminals.PrefixMinus o
@@ -389,7 +398,8 @@ module _ {mode : Mode} {frames : List Frame} (value : is_value mode ≡ true) (s
   pub star_here : sort_at plains at ≡ sorts.Star → Fresh state.before → terminal_of state plains at ≡ terminals.Times
   star_here e f =
       by_star state plains at e ∙ if_false (is state.before terminals.As) terminals.Star _ f.as_
-      ∙ if_false (is state.before terminals.Prefix && not (spaced_at plains at)) terminals.PrefixStar _ (no_and _ _ f.prefix)
+      ∙ if_false (is state.before terminals.Prefix && not (spaced_at plains at)) terminals.PrefixStar _
+      (no_and _ _ f.prefix)
       ∙ if_false (is_text state.mode) terminals.Raw _ facts.text
 
   pub slash_here : sort_at plains at ≡ sorts.Slash → ends_operand state.before ≡ true
@@ -412,7 +422,8 @@ module _ {mode : Mode} {frames : List Frame} (value : is_value mode ≡ true) (s
   prefix_minus_here e c o n =
       by_minus state plains at e ∙ if_false (continues state plains at) terminals.Part _ c
       ∙ if_false (is_text state.mode) _ _ facts.text
-      ∙ if_false (is_direct plains (at + 1) sorts.OpenInsert) _ _ (no_and (not (spaced_at plains (at + 1))) _ (ap not n))
+      ∙ if_false (is_direct plains (at + 1) sorts.OpenInsert) _ _
+      (no_and (not (spaced_at plains (at + 1))) _ (ap not n))
       ∙ if_false (minus_signs state plains at) terminals.Sign _
       (no_and (number_direct plains (at + 1)) _ (no_and (not (spaced_at plains (at + 1))) _ (ap not n)))
       ∙ if_false (ends_operand state.before) terminals.Minus terminals.PrefixMinus o
@@ -431,7 +442,8 @@ module _ {mode : Mode} {frames : List Frame} (value : is_value mode ≡ true) (s
     hash_name_here c d h s =
         behind facts.raw state same_mode plains at named c
         ∙ if_false (not (spaced_at plains at) && behind_dollar state.before) terminals.VariableName _ (and_no _ _ d)
-        ∙ if_true (not (spaced_at plains at) && is state.before terminals.Hash) terminals.HashName _ (both _ _ (ap not s) h)
+        ∙ if_true (not (spaced_at plains at) && is state.before terminals.Hash) terminals.HashName _
+        (both _ _ (ap not s) h)
 
     pub flag_here : continues state plains at ≡ false → behind_dollar state.before ≡ false
         → is state.before terminals.Hash ≡ false → is_bang state.before ≡ true
@@ -450,14 +462,17 @@ module _ {mode : Mode} {frames : List Frame} (value : is_value mode ≡ true) (s
       by_itself : terminal_of state plains at ≡ name_in_expression state plains at
       by_itself =
           behind facts.raw state same_mode plains at named further
-          ∙ if_false (not (spaced_at plains at) && behind_dollar state.before) terminals.VariableName _ (and_no _ _ dollar)
-          ∙ if_false (not (spaced_at plains at) && is state.before terminals.Hash) terminals.HashName _ (and_no _ _ hash)
+          ∙ if_false (not (spaced_at plains at) && behind_dollar state.before) terminals.VariableName _
+          (and_no _ _ dollar)
+          ∙ if_false (not (spaced_at plains at) && is state.before terminals.Hash) terminals.HashName _
+          (and_no _ _ hash)
           ∙ if_false (is_bang state.before) (behind_bang (sort_at plains at)) _ bang
           ∙ if_false (is_apart state plains at) terminals.Other _ apart
           ∙ value_name state.mode state plains at is_value_here
           (ap (λ (m : Mode). ends_bound m (sort_at plains at) && is_bound_end plains at) within.mode_is ∙ bound)
 
-      pub mixed_word_here : is_direct plains (at + 1) sorts.OpenInsert ≡ true → terminal_of state plains at ≡ terminals.Word
+      pub mixed_word_here : is_direct plains (at + 1) sorts.OpenInsert ≡ true
+          → terminal_of state plains at ≡ terminals.Word
       mixed_word_here i = by_itself ∙ if_true (is_direct plains (at + 1) sorts.OpenInsert) terminals.Word _ i
 
       pub owned_here : is_direct plains (at + 1) sorts.OpenInsert ≡ false → is state.before terminals.OwnerDot ≡ true
@@ -481,7 +496,8 @@ module _ {mode : Mode} {frames : List Frame} (value : is_value mode ≡ true) (s
           by_itself ∙ if_false (is_direct plains (at + 1) sorts.OpenInsert) terminals.Word _ i
           ∙ if_false (is state.before terminals.OwnerDot) (constant_or_word (sort_at plains at)) _ o
           ∙ if_false (is_direct plains (at + 1) sorts.Dot) terminals.Owner _ d
-          ∙ if_true (is_special_name (sort_at plains at) && is_direct plains (at + 1) sorts.OpenParen) terminals.Special _ s
+          ∙ if_true (is_special_name (sort_at plains at) && is_direct plains (at + 1) sorts.OpenParen)
+          terminals.Special _ s
 
       pub name_here : is_direct plains (at + 1) sorts.OpenInsert ≡ false → is state.before terminals.OwnerDot ≡ false
           → is_direct plains (at + 1) sorts.Dot ≡ false
@@ -491,4 +507,5 @@ module _ {mode : Mode} {frames : List Frame} (value : is_value mode ≡ true) (s
           by_itself ∙ if_false (is_direct plains (at + 1) sorts.OpenInsert) terminals.Word _ i
           ∙ if_false (is state.before terminals.OwnerDot) (constant_or_word (sort_at plains at)) _ o
           ∙ if_false (is_direct plains (at + 1) sorts.Dot) terminals.Owner _ d
-          ∙ if_false (is_special_name (sort_at plains at) && is_direct plains (at + 1) sorts.OpenParen) terminals.Special _ s
+          ∙ if_false (is_special_name (sort_at plains at) && is_direct plains (at + 1) sorts.OpenParen)
+          terminals.Special _ s

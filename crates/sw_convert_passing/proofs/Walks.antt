@@ -19,13 +19,14 @@ ends_walk sorts.CommentTemplate c = absurd (cc)
 ends_walk sorts.CommentEnd c = absurd (cc)
 ends_walk _ c = refl
 
-walk_stays : (plains : List Plain) (n at : ℕ) → is_code (sort_at plains at) ≡ true → walk_by walks.Comments plains n 0 at ≡ at
+walk_stays : (plains : List Plain) (n at : ℕ) → is_code (sort_at plains at) ≡ true
+    → walk_by walks.Comments plains n 0 at ≡ at
 walk_stays plains zero at c = refl
 walk_stays plains (suc n) at c =
     ap (λ (more : Option ℕ). elim more as (λ _. ℕ) [ None ↦ at | Some k ↦ walk_by walks.Comments plains n k (at + 1) ])
     (ends_walk (sort_at plains at) c)
 
-code_stays : (plains : List Plain) (at : ℕ) → is_code (sort_at plains at) ≡ true → code_from plains at ≡ at
+pub code_stays : (plains : List Plain) (at : ℕ) → is_code (sort_at plains at) ≡ true → code_from plains at ≡ at
 unfolding walk_from
 code_stays plains at c = walk_stays plains (length plains - at) at c
 

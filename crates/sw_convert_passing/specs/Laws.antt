@@ -6,10 +6,10 @@ use Rattle.sw_parse_lexemes.specs.declared.state.Mode.{Mode}
 use Rattle.sw_parse_lexemes.specs.declared.state.Frame.{Frame}
 use Rattle.sw_parse_lexemes.specs.declared.state.State.{State}
 use Rattle.sw_parse_lexemes.specs.Names.{is}
-use Rattle.sw_parse_lexemes.specs.Signs.{ends_operand, is_params}
+use Rattle.sw_parse_lexemes.specs.Signs.{ends_operand, is_params, takes_flags}
 use Rattle.sw_convert_passing.specs.Written.{Written, Stand, Within}
 use Rattle.sw_convert_passing.specs.Places.{is_value, may_precede, Ready, IsClosed, Behind, Told}
-use Rattle.sw_convert_passing.specs.Values.{Value, Row}
+use Rattle.sw_convert_passing.specs.Values.{Value, Row, Flags}
 
 -- the tokens of a value are what they are written as, and a value ends behind them
 abbrev pub ValuesAreTold : Type 0
@@ -28,3 +28,10 @@ RowsAreTold =
     → ends_operand state.before ≡ false → is state.before terminals.Comma ≡ false → state.word ≡ false
     → Stand plains at tokens to → IsClosed plains to
     → (told : Told plains mode frames state at tokens to) × Behind ended told.end
+
+-- flags where these end a value
+abbrev pub FlagsAreTold : Type 0
+FlagsAreTold =
+    (mode : Mode) (tokens : List Written) → Flags tokens → (plains : List Plain) (frames : List Frame) (state : State)
+    (at to : ℕ) → is_value mode ≡ true → takes_flags mode ≡ true → Within mode frames state → Stand plains at tokens to
+    → Told plains mode frames state at tokens to

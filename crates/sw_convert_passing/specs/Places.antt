@@ -109,7 +109,8 @@ Behind true state = ends_operand state.before ≡ true
 Behind false state = (separates state.before ≡ true) × (state.word ≡ false)
 
 -- tokens are what they are written as, and behind them is read as before
-pub record Told (plains : List Plain) (mode : Mode) (frames : List Frame) (state : State) (at : ℕ) (tokens : List Written)
+pub record Told (plains : List Plain) (mode : Mode) (frames : List Frame) (state : State) (at : ℕ)
+    (tokens : List Written)
     (to : ℕ) : Type 0 where
   pub lexemes : List Lexeme
   pub end : State

@@ -11,7 +11,7 @@ use Rattle.sw_parse_lexemes.specs.declared.state.State.{State}
 use Rattle.sw_parse_lexemes.specs.Ahead.{sort_at, spaced_at}
 use Rattle.sw_parse_lexemes.specs.Classes.{is_comment}
 use Rattle.sw_parse_lexemes.specs.Terminals.{terminal_of}
-use Rattle.sw_parse_lexemes.specs.Steps.{after, past_white}
+use Rattle.sw_parse_lexemes.specs.Steps.{placed, after, past_white}
 use Rattle.sw_parse_lexemes.specs.Lexemes.{lexeme_of, lexemes_by}
 
 -- a token as it is written, and the terminals that it may be
@@ -49,14 +49,27 @@ Stand plains at (token ∷ tokens) to = IsThere plains at token × Stand plains 
 -- read from a state and a place on, tokens that stand as they are written are these lexemes, and then this is the state
 pub data Passed (plains : List Plain) : State → ℕ → List Written → List Lexeme → State → ℕ → Type 0 where
   nothing : {state : State} {at : ℕ} → Passed plains state at [] [] state at
-  token : {state end : State} {at to : ℕ} {tokens : List Written} {lexemes : List Lexeme} → (plain : Plain) (one : Written)
+  token : {state end : State} {at to : ℕ} {tokens : List Written} {lexemes : List Lexeme}
+      → (plain : Plain) (one : Written)
       → slice_get plains at ≡ Some plain → is_comment (sort_at plains at) ≡ false → state.start ≡ false
       → state.ignored ≡ 0 → Among (terminal_of state plains at) one.may_be
       → Passed plains (after state (terminal_of state plains at)) (at + 1) tokens lexemes end to
       → Passed plains state at (one ∷ tokens)
       (lexeme_of plain at state.commented (terminal_of state plains at) ∷ lexemes) end to
+  -- the first token of a statement is read as the statement's form says
+  begins : {state end : State} {at to : ℕ} {tokens : List Written} {lexemes : List Lexeme}
+      → (plain : Plain) (one : Written)
+      → slice_get plains at ≡ Some plain → is_comment (sort_at plains at) ≡ false → state.start ≡ true
+      → state.ignored ≡ 0 → Among (terminal_of (placed state plains at) plains at) one.may_be
+      → Passed plains (after (placed state plains at) (terminal_of (placed state plains at) plains at)) (at + 1) tokens
+      lexemes end to
+      → Passed plains state at (one ∷ tokens)
+      (lexeme_of plain at (placed state plains at).commented
+      (terminal_of (placed state plains at) plains at) ∷ lexemes) end
+      to
   -- a comment is white space
-  comment : {state end : State} {at to : ℕ} {tokens : List Written} {lexemes : List Lexeme} → (plain : Plain) (one : Written)
+  comment : {state end : State} {at to : ℕ} {tokens : List Written} {lexemes : List Lexeme}
+      → (plain : Plain) (one : Written)
       → slice_get plains at ≡ Some plain → sort_at plains at ≡ sorts.Comment → state.start ≡ false → state.ignored ≡ 0
       → Passed plains (past_white state plain.sort) (at + 1) tokens lexemes end to
       → Passed plains state at (one ∷ tokens) lexemes end to
@@ -64,7 +77,8 @@ pub data Passed (plains : List Plain) : State → ℕ → List Written → List 
 -- what is passed is what the grammar sees, and then comes what it sees of the rest
 abbrev pub PassedIsSeen : Type 0
 PassedIsSeen =
-    (plains : List Plain) (state : State) (at : ℕ) (tokens : List Written) (lexemes : List Lexeme) (end : State) (to : ℕ)
+    (plains : List Plain) (state : State) (at : ℕ) (tokens : List Written) (lexemes : List Lexeme) (end : State)
+    (to : ℕ)
     → Passed plains state at tokens lexemes end to → lexemes_by plains state at ≡ lexemes ++ lexemes_by plains end to
 
 -- tokens are read in a mode here, within what is open
