@@ -103,16 +103,16 @@ module _ (source written : Source) (n : ℕ) (operand : Again source written n s
   Is g = Reads written n g
 
   -- a value behind a colon
-  record ColonAgain (i j : ℕ) (w : List Part) : Type 0 where
-    value : Expr
-    is : w ≡ Values value ∷ []
-    colon : Old source i (just terminals.Colon)
-    tokens : List Tok
-    spells : Spells source (suc i) j value tokens
-    back : (p q : ℕ) → Stands written p (sign terminals.Colon ∷ tokens) q
+  pub record ColonAgain (i j : ℕ) (w : List Part) : Type 0 where
+    pub value : Expr
+    pub is : w ≡ Values value ∷ []
+    pub colon : Old source i (just terminals.Colon)
+    pub tokens : List Tok
+    pub spells : Spells source (suc i) j value tokens
+    pub back : (p q : ℕ) → Stands written p (sign terminals.Colon ∷ tokens) q
         → Found written n (colon_space written) value p q
 
-  colon_again : (i j : ℕ) (w : List Part) → Was (colon_space source) i j w → ColonAgain i j w
+  pub colon_again : (i j : ℕ) (w : List Part) → Was (colon_space source) i j w → ColonAgain i j w
   unfolding colon_space
   colon_again i j w (k, u, v, (m, e1, e2), d, e3) =
       let one = operand k j v d in record {

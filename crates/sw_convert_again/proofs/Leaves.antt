@@ -29,12 +29,13 @@ use Rattle.sw_convert_again.specs.Again.{Found, IsAgain, Again}
 use Rattle.sw_convert_again.proofs.Tokens.{old_of, is_of, old_begins, of_set, constant_same}
 
 -- texts are alike as they stand
-pieces_self : (texts : List (List ℕ)) → LikePieces (pieces_in texts) (pieces_in texts)
+pub pieces_self : (texts : List (List ℕ)) → LikePieces (pieces_in texts) (pieces_in texts)
 pieces_self [] = alike.no_pieces
 pieces_self ([] ∷ texts) = pieces_self texts
 pieces_self ((b ∷ bytes) ∷ texts) = alike.text (pieces_self texts)
 
-plain_self : (first : List ℕ) (rest : List (List ℕ)) → LikeParts (plain_parts_by first rest) (plain_parts_by first rest)
+pub plain_self : (first : List ℕ) (rest : List (List ℕ))
+    → LikeParts (plain_parts_by first rest) (plain_parts_by first rest)
 plain_self first [] = plain
 plain_self first (next ∷ rest) = alike.mixed (pieces_self (first ∷ next ∷ rest))
 

@@ -4,8 +4,11 @@ mod Whole
 pub mod Tokens
 pub mod Leaves
 pub mod Templates
+pub mod Words
 pub mod Chains
 pub mod Lists
 pub mod Around
 pub mod Enclosed
+pub mod Dollars
+pub mod Arguments
 mod Values

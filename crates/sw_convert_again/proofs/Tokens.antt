@@ -1,5 +1,5 @@
 -- Tokens that stand as they are written, and those that stood in the sheet.
-use Rattle.std.proofs.Common.{◌≡◌, ◌⊎◌, ℕ, zero, suc, ◌+◌, Bool, true, false, not, ◌&&◌, List, [], ◌∷◌, ◌++◌, Option, Some, None, inl, inr, refl, sym, ◌∙◌, ap, subst}
+use Rattle.std.proofs.Common.{◌≡◌, ◌⊎◌, ℕ, zero, suc, ◌+◌, ◌-◌, Bool, true, false, not, ◌&&◌, List, [], ◌∷◌, ◌++◌, Option, Some, None, inl, inr, refl, sym, ◌∙◌, ap, subst, arith}
 use Rattle.sw_parse_grammar.specs.Grammar.{member, disjoint}
 use Rattle.sw_parse_grammar.proofs.Sets.{apart}
 use Rattle.sw_parse_terminals.specs.declared.terminal.Terminal.{Terminal}
@@ -9,7 +9,7 @@ use Rattle.sw_tree.specs.declared.expr.Operator.{Operator}
 use Rattle.sw_tree.specs.declared.expr.Sign.{Sign}
 use Rattle.sw_tree.specs.declared.expr.Constant.{Constant}
 use Rattle.sw_parse_table.specs.declared.source.Source.{Source}
-use Rattle.sw_parse_table.specs.Sources.{lexeme_at, terminal_in, terminal_at}
+use Rattle.sw_parse_table.specs.Sources.{lexeme_at, terminal_in, terminal_at, from_at, to_at, bytes_from, bytes_at}
 use Rattle.sw_parse_table.specs.Operators.{operator_of, operator_in, operator_at, sign_of, sign_in, sign_at, constant_of, constant_in, constant_at}
 use Rattle.sw_parse_table.specs.Sets.{endings}
 use Rattle.sw_convert_again.specs.Tokens.{Tok, Among, Is, Stands, Old, calm, Begins}
@@ -30,10 +30,16 @@ unless : (b : Bool) → (b ≡ true → ⊥) → b ≡ false
 unless true n = absurd (n refl)
 unless false n = refl
 
-kind_is : (source : Source) (at : ℕ) (lexeme : Lexeme) → lexeme_at source at ≡ Some lexeme
+pub kind_is : (source : Source) (at : ℕ) (lexeme : Lexeme) → lexeme_at source at ≡ Some lexeme
     → terminal_at source at ≡ number_of lexeme.terminal
 unfolding terminal_at
 kind_is source at lexeme e = ap terminal_in e
+
+-- the text of one token
+pub one_byte : (source : Source) (p : ℕ)
+    → bytes_from source (from_at source p) (to_at source ((p + 1) - 1)) ≡ bytes_at source p
+one_byte source p =
+    ap (λ (k : ℕ). bytes_from source (from_at source p) (to_at source k)) (let z : (p + 1) - 1 ≡ p = omega arith in z)
 
 -- a token of a set that isn't past the end
 pub old_of : (source : Source) (at : ℕ) (set : List ℕ) → member 0 set ≡ false

@@ -17,10 +17,12 @@ use Rattle.sw_convert_again.specs.Alike as alike
 use Rattle.sw_convert_again.specs.Tokens.{Tok, tok, sign, Dashed, Bytes, Stands}
 use Rattle.sw_convert_again.specs.Spells.{Spells}
 use Rattle.sw_convert_again.specs.Spells as spells
-use Rattle.sw_convert_again.specs.Again.{Reads, Found, IsAgain, Again, called_by_owner, TextsAgain, ValuesAgain}
-use Rattle.sw_convert_again.proofs.Tokens.{old_of, is_of}
+use Rattle.sw_convert_again.specs.Again.{Reads, Found, IsAgain, Again, called_by_name, called_by_owner, TextsAgain, ValuesAgain}
+use Rattle.sw_convert_again.proofs.Tokens.{one_byte, old_of, is_of}
 use Rattle.sw_convert_again.proofs.Leaves.{number_again, quoted_again, hash_again, constant_again, url_again, variable_again, range_again, parent_again, important_again}
 use Rattle.sw_convert_again.proofs.Templates.{template_again}
+use Rattle.sw_convert_again.proofs.Words.{called_again}
+use Rattle.sw_convert_again.proofs.Arguments.{named_calls_again, owned_calls_again}
 use Rattle.sw_convert_again.proofs.Chains.{disjunction_again}
 use Rattle.sw_convert_again.proofs.Lists.{space_again, expr_again}
 use Rattle.sw_convert_again.proofs.Enclosed.{brackets_again, parens_again}
@@ -41,10 +43,6 @@ module _ (source written : Source) (n : ℕ) where
       alike = x.alike;
     };
   }
-
-  one_byte : (p : ℕ) → bytes_from written (from_at written p) (to_at written ((p + 1) - 1)) ≡ bytes_at written p
-  one_byte p = ap (λ (k : ℕ). bytes_from written (from_at written p) (to_at written k))
-      (let z : (p + 1) - 1 ≡ p = omega arith in z)
 
   like_qualified : (a b : Qualified) (s s' : Span) → a.namespace.name ≡ b.namespace.name → a.name ≡ b.name
       → Like (expression (exprs.Qualified a) s) (expression (exprs.Qualified b) s')
@@ -136,55 +134,61 @@ module _ (source written : Source) (n : ℕ) where
           );
           alike = like_qualified (qualified_of source i name) (qualified_of written p (suc (suc (suc p)))) span
               (span_between written p q)
-              (sym stand.0.said ∙ one_byte p) (sym stand.1.1.1.0.said);
+              (sym stand.0.said ∙ one_byte written p) (sym stand.1.1.1.0.said);
         };
       }
 
-  primary_again : TextsAgain source written n → Again source written n template → Again source written n parens
+  primary_again : ((m : ℕ) → n ≡ suc m → Again source written m expr) → TextsAgain source written n
+      → Again source written n called_by_name → Again source written n called_by_owner
+      → Again source written n template → Again source written n parens
       → Again source written n brackets → Again source written n primary
   unfolding primary literal other
-  primary_again texts strings round square i j w (inl (inl d)) =
+  primary_again deep texts calls owned_calls strings round square i j w (inl (inl d)) =
       into (number written) (primary written) (λ p q x r. inl (inl r)) i j w (number_again source written n i j w d)
-  primary_again texts strings round square i j w (inl (inr (inl d))) =
+  primary_again deep texts calls owned_calls strings round square i j w (inl (inr (inl d))) =
       into (quoted written) (primary written) (λ p q x r. inl (inr (inl r))) i j w
       (quoted_again source written n i j w d)
-  primary_again texts strings round square i j w (inl (inr (inr (inl d)))) =
+  primary_again deep texts calls owned_calls strings round square i j w (inl (inr (inr (inl d)))) =
       into (template written) (primary written) (λ p q x r. inl (inr (inr (inl r)))) i j w (strings i j w d)
-  primary_again texts strings round square i j w (inl (inr (inr (inr (inl d))))) =
+  primary_again deep texts calls owned_calls strings round square i j w (inl (inr (inr (inr (inl d))))) =
       into (hash written) (primary written) (λ p q x r. inl (inr (inr (inr (inl r))))) i j w
       (hash_again source written n i j w d)
-  primary_again texts strings round square i j w (inl (inr (inr (inr (inr (inl d)))))) =
+  primary_again deep texts calls owned_calls strings round square i j w (inl (inr (inr (inr (inr (inl d)))))) =
       into (constant written) (primary written) (λ p q x r. inl (inr (inr (inr (inr (inl r)))))) i j w
       (constant_again source written n i j w d)
-  primary_again texts strings round square i j w (inl (inr (inr (inr (inr (inr (inl d))))))) =
+  primary_again deep texts calls owned_calls strings round square i j w (inl (inr (inr (inr (inr (inr (inl d))))))) =
       into (url written) (primary written) (λ p q x r. inl (inr (inr (inr (inr (inr (inl r))))))) i j w
       (url_again source written n i j w d)
-  primary_again texts strings round square i j w (inl (inr (inr (inr (inr (inr (inr d))))))) =
+  primary_again deep texts calls owned_calls strings round square i j w (inl (inr (inr (inr (inr (inr (inr d))))))) =
       into (url_template written) (primary written) (λ p q x r. inl (inr (inr (inr (inr (inr (inr r))))))) i j w
       (texts.url_templates i j w d)
-  primary_again texts strings round square i j w (inr (inl d)) =
+  primary_again deep texts calls owned_calls strings round square i j w (inr (inl d)) =
       into (special written) (primary written) (λ p q x r. inr (inl r)) i j w (texts.specials i j w d)
-  primary_again texts strings round square i j w (inr (inr (inl d))) =
+  primary_again deep texts calls owned_calls strings round square i j w (inr (inr (inl d))) =
       into (variable written) (primary written) (λ p q x r. inr (inr (inl r))) i j w
       (variable_again source written n i j w d)
-  primary_again texts strings round square i j w (inr (inr (inr (inl d)))) =
+  primary_again deep texts calls owned_calls strings round square i j w (inr (inr (inr (inl d)))) =
       into (owned written) (primary written) (λ p q x r. inr (inr (inr (inl r)))) i j w
-      (owned_again texts.owned_calls i j w d)
-  primary_again texts strings round square i j w (inr (inr (inr (inr (inl d))))) =
-      into (called written) (primary written) (λ p q x r. inr (inr (inr (inr (inl r))))) i j w (texts.words i j w d)
-  primary_again texts strings round square i j w (inr (inr (inr (inr (inr (inl d)))))) =
+      (owned_again owned_calls i j w d)
+  primary_again deep texts calls owned_calls strings round square i j w (inr (inr (inr (inr (inl d))))) =
+      into (called written) (primary written) (λ p q x r. inr (inr (inr (inr (inl r))))) i j w
+      (called_again source written n deep calls i j w d)
+  primary_again deep texts calls owned_calls strings round square i j w (inr (inr (inr (inr (inr (inl d)))))) =
       into (range written) (primary written) (λ p q x r. inr (inr (inr (inr (inr (inl r)))))) i j w
       (range_again source written n i j w d)
-  primary_again texts strings round square i j w (inr (inr (inr (inr (inr (inr (inl d))))))) =
+  primary_again deep texts calls owned_calls strings round square i j w (inr (inr (inr (inr (inr (inr (inl d))))))) =
       into (parent written) (primary written) (λ p q x r. inr (inr (inr (inr (inr (inr (inl r))))))) i j w
       (parent_again source written n i j w d)
-  primary_again texts strings round square i j w (inr (inr (inr (inr (inr (inr (inr (inl d)))))))) =
+  primary_again deep texts calls owned_calls strings round square i j w
+      (inr (inr (inr (inr (inr (inr (inr (inl d)))))))) =
       into (important written) (primary written) (λ p q x r. inr (inr (inr (inr (inr (inr (inr (inl r)))))))) i j w
       (important_again source written n i j w d)
-  primary_again texts strings round square i j w (inr (inr (inr (inr (inr (inr (inr (inr (inl d))))))))) =
+  primary_again deep texts calls owned_calls strings round square i j w
+      (inr (inr (inr (inr (inr (inr (inr (inr (inl d))))))))) =
       into (parens written) (primary written) (λ p q x r. inr (inr (inr (inr (inr (inr (inr (inr (inl r))))))))) i j
       w (round i j w d)
-  primary_again texts strings round square i j w (inr (inr (inr (inr (inr (inr (inr (inr (inr d))))))))) =
+  primary_again deep texts calls owned_calls strings round square i j w
+      (inr (inr (inr (inr (inr (inr (inr (inr (inr d))))))))) =
       into (brackets written) (primary written) (λ p q x r. inr (inr (inr (inr (inr (inr (inr (inr (inr r))))))))) i
       j w (square i j w d)
 
@@ -197,7 +201,9 @@ module _ (source written : Source)
       → Again source written m expr = λ m e. expr_again source written m (deep m e) in
       space_again source written n
       (disjunction_again source written n
-      (primary_again source written n (texts n deep_expr) (template_again source written n deep_expr)
+      (primary_again source written n deep_expr (texts n deep_expr)
+      (named_calls_again source written n deep_expr deep) (owned_calls_again source written n deep_expr deep)
+      (template_again source written n deep_expr)
       (parens_again source written n deep) (brackets_again source written n deep_expr)))
 
   spaces : (n : ℕ) → Again source written n space

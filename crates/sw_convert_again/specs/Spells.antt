@@ -1,12 +1,14 @@
 -- What is written of a value that was read, and of which tokens it was read: the tokens of each kind of value, by those
 -- that the sheet has from a place on up to another.
-use Rattle.std.specs.Prelude.{◌≡◌, ◌⊎◌, ℕ, suc, Bool, true, false, if◌then◌else◌, List, [], ◌∷◌, ◌++◌, Option, Some, None}
+use Rattle.std.specs.Prelude.{◌≡◌, ◌⊎◌, ℕ, suc, ◌+◌, ◌-◌, Bool, true, false, if◌then◌else◌, List, [], ◌∷◌, ◌++◌, Option, Some, None}
 use Rattle.sw_fixed.specs.Arithmetic.{is_below_zero}
 use Rattle.sw_text.specs.Names.{dashed}
 use Rattle.sw_text.specs.declared.place.Span.{Span}
 use Rattle.sw_tree.specs.declared.text.Parts.TheVariants.{Plain as PlainParts, Mixed}
+use Rattle.sw_tree.specs.declared.text.Parts.{Parts}
 use Rattle.sw_tree.specs.declared.text.Piece.{Piece}
 use Rattle.sw_tree.specs.declared.text.Piece.TheVariants as pieces
+use Rattle.sw_tree.specs.declared.expr.Argument.{Argument}
 use Rattle.sw_tree.specs.declared.expr.Expr.{Expr}
 use Rattle.sw_tree.specs.declared.expr.ExprKind.TheVariants as exprs
 use Rattle.sw_tree.specs.declared.expr.Link.{Link}
@@ -20,12 +22,13 @@ use Rattle.sw_parse_terminals.specs.declared.terminal.Terminal.TheVariants as te
 use Rattle.sw_parse_terminals.specs.Numbers.{just}
 use Rattle.sw_parse_table.specs.declared.source.Source.{Source}
 use Rattle.sw_parse_table.specs.declared.operator.Precedence.{Precedence}
-use Rattle.sw_parse_table.specs.Sources.{bytes_at, bytes_between, decoded_at, parts_between}
+use Rattle.sw_parse_table.specs.Parts.{Part, Inserts}
+use Rattle.sw_parse_table.specs.Sources.{from_at, to_at, bytes_at, bytes_between, decoded_at, parts_between}
 use Rattle.sw_parse_table.specs.Numerals.{numeral}
 use Rattle.sw_parse_table.specs.Operators.{operator_at, sign_at, constant_at}
 use Rattle.sw_parse_table.specs.Sets.{constants, dollars, bangs, parens_opening, prefixes, operators}
-use Rattle.sw_parse_table.specs.Values.{expression, comma_list, in_parens, in_brackets, qualified_of}
-use Rattle.sw_convert_again.specs.Tokens.{Said, Nothing, Dashed, Decoded, Bytes, Numeral, Plain, Tok, tok, sign, Old}
+use Rattle.sw_parse_table.specs.Values.{expression, comma_list, in_parens, in_brackets, qualified_of, argument_of, callee_of, namespaced}
+use Rattle.sw_convert_again.specs.Tokens.{Said, Nothing, Dashed, Decoded, Bytes, Numeral, Plain, Before, All, Between, Behind, text_up_to, text_to_end, Tok, tok, sign, Old}
 
 abbrev pub below_zero : Number → Bool
 below_zero number = elim (number.value) as (λ _. Bool) [ None ↦ false | Some value ↦ is_below_zero value ]
@@ -46,6 +49,38 @@ paren = record { kinds = terminals.Paren ∷ terminals.ConditionParen ∷ []; sa
 -- tokens in brackets
 abbrev pub within : Tok → List Tok → Terminal → List Tok
 within opening tokens closing = opening ∷ (tokens ++ sign closing ∷ [])
+
+-- a `$` whose name a `:` follows
+abbrev pub is_named : Terminal → Bool
+is_named terminals.DollarNamed = true
+is_named _ = false
+
+abbrev pub without_named : List Terminal → List Terminal
+without_named [] = []
+without_named (terminal ∷ rest) =
+    if is_named terminal then without_named rest else terminal ∷ without_named rest
+
+-- tokens of which the first is none, as those of an argument by its place
+abbrev pub undollared : List Tok → List Tok
+undollared [] = []
+undollared (token ∷ tokens) = record { kinds = without_named token.kinds; said = token.said } ∷ tokens
+
+-- the arguments of a call
+abbrev pub call_tokens : List Tok → List Tok
+call_tokens tokens = within (sign terminals.CallParen) tokens terminals.ParenEnd
+
+-- what a `#{}` says of the text behind it, where these values are inserted in it, and so many tokens stand before the
+-- next one or the end
+abbrev pub behind_insert : Source → ℕ → List Part → ℕ → Said
+behind_insert source at [] count =
+    Behind count (text_to_end source (to_at source (suc at - 1)) (suc at - 1) (suc at + count))
+behind_insert source at (insert ∷ inserts) count =
+    Between count (text_up_to source (to_at source (suc at - 1)) (suc at - 1) (suc at + count))
+
+-- the same of the first token of a text
+abbrev pub from_start : Source → ℕ → List Part → ℕ → Said
+from_start source at [] count = All count (text_to_end source (from_at source at) at (at + count))
+from_start source at (insert ∷ inserts) count = Before count (text_up_to source (from_at source at) at (at + count))
 
 mutual
   pub data Spells (source : Source) : ℕ → ℕ → Expr → List Tok → Type 0 where
@@ -81,6 +116,22 @@ mutual
     range : {i : ℕ} → (span : Span) → Old source i (just terminals.Range)
         → Spells source i (suc i) (expression (exprs.Word (PlainParts (bytes_between source i (suc i)))) span)
         (tok terminals.Range (Bytes 1 (bytes_between source i (suc i))) ∷ [])
+    word : {i j : ℕ} {parts : Parts} {tokens : List Tok} → (span : Span) → SpellsWord source i j parts tokens
+        → Spells source i j (expression (exprs.Word parts) span) tokens
+    call : {i k c : ℕ} {parts : Parts} {args : List Argument} {tokens others : List Tok} → (span name_span : Span)
+        → SpellsWord source i k parts tokens → Old source k (just terminals.CallParen)
+        → SpellsArguments source (suc k) c args others → Old source c (just terminals.ParenEnd)
+        → Spells source i (suc c)
+        (expression (exprs.Call (callee_of None (record { parts = parts; span = name_span })) args) span)
+        (tokens ++ call_tokens others)
+    owned_call : {i k c : ℕ} {parts : Parts} {args : List Argument} {tokens others : List Tok} → (span name_span : Span)
+        → Old source i (just terminals.Owner) → Old source (suc i) (just terminals.OwnerDot)
+        → SpellsWord source (suc (suc i)) k parts tokens → Old source k (just terminals.CallParen)
+        → SpellsArguments source (suc k) c args others → Old source c (just terminals.ParenEnd)
+        → Spells source i (suc c)
+        (expression
+        (exprs.Call (callee_of (Some (namespaced source i)) (record { parts = parts; span = name_span })) args) span)
+        (tok terminals.Owner (Bytes 1 (bytes_at source i)) ∷ sign terminals.OwnerDot ∷ (tokens ++ call_tokens others))
     parent : {i : ℕ} → (span : Span) → Old source i (just terminals.Ampersand)
         → Spells source i (suc i) (expression exprs.Parent span) (sign terminals.Ampersand ∷ [])
     important : {i : ℕ} → (span : Span) → Old source i bangs → Old source (suc i) (just terminals.Important)
@@ -181,3 +232,68 @@ mutual
         → Old source k (just terminals.InsertEnd) → SpellsPieces source (suc k) j texts others
         → SpellsPieces source i j (pieces.Inserted value ∷ texts)
         (sign terminals.Insert ∷ (tokens ++ sign terminals.InsertEnd ∷ others))
+
+  -- a word: a name, or a `#{}` with a `-` before it or not, and what goes on with it
+  pub data SpellsWord (source : Source) : ℕ → ℕ → Parts → List Tok → Type 0 where
+    named : {i j count : ℕ} {inserts : List Part} {tokens : List Tok} → Old source i (just terminals.Word)
+        → SpellsRow source (suc i) j inserts count tokens
+        → SpellsWord source i j (parts_between source i j inserts)
+        (tok terminals.Word (from_start source i inserts (suc count)) ∷ tokens)
+    begun : {i c j count : ℕ} {value : Expr} {inserts : List Part} {tokens others : List Tok}
+        → Old source i (just terminals.WordInsert) → Spells source (suc i) c value tokens
+        → Old source c (just terminals.InsertEnd) → SpellsRow source (suc c) j inserts count others
+        → SpellsWord source i j (parts_between source i j (Inserts i (suc c) value ∷ inserts))
+        (tok terminals.WordInsert (Before 0 (text_up_to source (from_at source i) i (i + 0)))
+        ∷ (tokens ++ tok terminals.InsertEnd (behind_insert source c inserts count) ∷ others))
+    begun_minus : {i c j count : ℕ} {value : Expr} {inserts : List Part} {tokens others : List Tok}
+        → Old source i (just terminals.WordMinus) → Old source (suc i) (just terminals.WordInsert)
+        → Spells source (suc (suc i)) c value tokens → Old source c (just terminals.InsertEnd)
+        → SpellsRow source (suc c) j inserts count others
+        → SpellsWord source i j (parts_between source i j (Inserts (suc i) (suc c) value ∷ inserts))
+        (tok terminals.WordMinus (Before 1 (text_up_to source (from_at source i) i (i + 1)))
+        ∷ sign terminals.WordInsert
+        ∷ (tokens ++ tok terminals.InsertEnd (behind_insert source c inserts count) ∷ others))
+
+  -- what goes on with a word, with these values inserted: so many tokens stand before the first of them or the end
+  pub data SpellsRow (source : Source) : ℕ → ℕ → List Part → ℕ → List Tok → Type 0 where
+    row_end : {i : ℕ} → SpellsRow source i i [] 0 []
+    row_part : {i j count : ℕ} {inserts : List Part} {tokens : List Tok} → Old source i (just terminals.Part)
+        → SpellsRow source (suc i) j inserts count tokens
+        → SpellsRow source i j inserts (suc count) (sign terminals.Part ∷ tokens)
+    row_insert : {i c j count : ℕ} {value : Expr} {inserts : List Part} {tokens others : List Tok}
+        → Old source i (just terminals.PartInsert) → Spells source (suc i) c value tokens
+        → Old source c (just terminals.InsertEnd) → SpellsRow source (suc c) j inserts count others
+        → SpellsRow source i j (Inserts i (suc c) value ∷ inserts) 0
+        (sign terminals.PartInsert
+        ∷ (tokens ++ tok terminals.InsertEnd (behind_insert source c inserts count) ∷ others))
+
+  -- an argument: by its name, by its place, and with `...` behind it
+  pub data SpellsArgument (source : Source) : ℕ → ℕ → Argument → List Tok → Type 0 where
+    named_argument : {i j : ℕ} {value : Expr} {tokens : List Tok} → Old source i (just terminals.DollarNamed)
+        → Old source (suc i) (just terminals.VariableName) → Old source (suc (suc i)) (just terminals.Colon)
+        → Spells source (suc (suc (suc i))) j value tokens
+        → SpellsArgument source i j (argument_of (Some (dashed (bytes_at source (suc i)))) value false)
+        (sign terminals.DollarNamed ∷ tok terminals.VariableName (Dashed (dashed (bytes_at source (suc i))))
+        ∷ sign terminals.Colon ∷ tokens)
+    placed_argument : {i j : ℕ} {value : Expr} {tokens : List Tok} → Spells source i j value tokens
+        → SpellsArgument source i j (argument_of None value false) (undollared tokens)
+    spread_argument : {i k : ℕ} {value : Expr} {tokens : List Tok} → Spells source i k value tokens
+        → Old source k (just terminals.Ellipsis)
+        → SpellsArgument source i (suc k) (argument_of None value true)
+        (undollared tokens ++ sign terminals.Ellipsis ∷ [])
+
+  -- arguments with a comma before each
+  pub data SpellsMore (source : Source) : ℕ → ℕ → List Argument → List Tok → Type 0 where
+    no_more : {i : ℕ} → SpellsMore source i i [] []
+    more : {i k j : ℕ} {arg : Argument} {args : List Argument} {tokens others : List Tok}
+        → Old source i (just terminals.Comma) → SpellsArgument source (suc i) k arg tokens
+        → SpellsMore source k j args others
+        → SpellsMore source i j (arg ∷ args) (sign terminals.Comma ∷ (tokens ++ others))
+
+  -- those of a call, which lose a comma behind them
+  pub data SpellsArguments (source : Source) : ℕ → ℕ → List Argument → List Tok → Type 0 where
+    no_arguments : {i : ℕ} → SpellsArguments source i i [] []
+    arguments : {i k m j : ℕ} {arg : Argument} {args : List Argument} {tokens others : List Tok}
+        → SpellsArgument source i k arg tokens → SpellsMore source k m args others
+        → (j ≡ m) ⊎ ((j ≡ suc m) × Old source m (just terminals.Comma))
+        → SpellsArguments source i j (arg ∷ args) (tokens ++ others)

@@ -1,5 +1,5 @@
 -- The tokens that are written of a value, as the grammar sees them.
-use Rattle.std.specs.Prelude.{◌≡◌, ◌⊎◌, ℕ, suc, ◌+◌, Bool, true, false, not, ◌&&◌, List, [], ◌∷◌, Some}
+use Rattle.std.specs.Prelude.{◌≡◌, ◌⊎◌, ℕ, suc, ◌+◌, ◌-◌, Bool, true, false, not, ◌&&◌, List, [], ◌∷◌, Some}
 use Rattle.sw_parse_grammar.specs.Grammar.{member}
 use Rattle.sw_text.specs.Names.{dashed}
 use Rattle.sw_tree.specs.declared.expr.Number.{Number}
@@ -9,7 +9,7 @@ use Rattle.sw_parse_terminals.specs.declared.terminal.Terminal.TheVariants as te
 use Rattle.sw_parse_terminals.specs.declared.lexeme.Lexeme.{Lexeme}
 use Rattle.sw_parse_terminals.specs.Numbers.{number_of}
 use Rattle.sw_parse_table.specs.declared.source.Source.{Source}
-use Rattle.sw_parse_table.specs.Sources.{lexeme_at, bytes_at, bytes_between, decoded_at, parts_between}
+use Rattle.sw_parse_table.specs.Sources.{Texts, lexeme_at, from_at, to_at, texts, bytes_at, bytes_between, decoded_at, parts_between}
 use Rattle.sw_parse_table.specs.Numerals.{numeral}
 use Rattle.sw_parse_table.specs.Sets.{endings}
 
@@ -26,6 +26,12 @@ pub data Said : Type 0 where
   Numeral : ℕ → Number → Said
   -- so many tokens are a text without `#{}`
   Plain : ℕ → Parts → Said
+  -- of a text with `#{}`: so many tokens are its text up to the first, or all of it
+  Before : ℕ → Texts → Said
+  All : ℕ → Texts → Said
+  -- behind a `#{}`: so many tokens further are its text up to the next, or to its end
+  Between : ℕ → Texts → Said
+  Behind : ℕ → Texts → Said
 
 -- a token as it is written: the terminals that it may be, and what it says
 pub record Tok : Type 0 where
@@ -38,6 +44,15 @@ tok terminal said = record { kinds = terminal ∷ []; said = said }
 abbrev pub sign : Terminal → Tok
 sign terminal = tok terminal Nothing
 
+-- the text from an offset and a token on, up to the token at a place, and up to the end of the one before it
+abbrev pub text_up_to : Source → ℕ → ℕ → ℕ → Texts
+text_up_to source from first stop =
+    texts source (record { from = from; to = from_at source stop; first = first; end = stop })
+
+abbrev pub text_to_end : Source → ℕ → ℕ → ℕ → Texts
+text_to_end source from first stop =
+    texts source (record { from = from; to = to_at source (stop - 1); first = first; end = stop - 1 })
+
 abbrev pub Says : Source → ℕ → Said → Type 0
 Says source at Nothing = Unit {0}
 Says source at (Dashed name) = dashed (bytes_at source at) ≡ name
@@ -45,6 +60,12 @@ Says source at (Decoded text) = decoded_at source at ≡ text
 Says source at (Bytes count text) = bytes_between source at (at + count) ≡ text
 Says source at (Numeral count number) = numeral (bytes_between source at (at + count)) ≡ number
 Says source at (Plain count parts) = parts_between source at (at + count) [] ≡ parts
+Says source at (Before count text) = text_up_to source (from_at source at) at (at + count) ≡ text
+Says source at (All count text) = text_to_end source (from_at source at) at (at + count) ≡ text
+Says source at (Between count text) =
+    text_up_to source (to_at source (suc at - 1)) (suc at - 1) (suc at + count) ≡ text
+Says source at (Behind count text) =
+    text_to_end source (to_at source (suc at - 1)) (suc at - 1) (suc at + count) ≡ text
 
 abbrev pub Among : Terminal → List Terminal → Type 0
 Among terminal [] = ⊥
