@@ -1,25 +1,20 @@
 -- A token of code that was read before one text is read before another that goes on with no token.
-use Rattle.std.proofs.Common.{◌≡◌, ℕ, zero, suc, ◌+◌, ◌-◌, ◌≤◌, ◌<◌, Bool, true, false, not, ◌&&◌, ◌||◌, ◌⊎◌, inl, inr, if◌then◌else◌, List, [], ◌∷◌, ◌++◌, length, take, drop, refl, sym, ◌∙◌, ap, subst, arith, Option, Some, None, length-append, length-drop}
+use Rattle.std.proofs.Common.{◌≡◌, ℕ, zero, suc, ◌+◌, ◌-◌, ◌≤◌, ◌<◌, Bool, true, false, ◌&&◌, ◌||◌, ◌⊎◌, inl, inr, if◌then◌else◌, List, ◌++◌, length, take, drop, refl, sym, ◌∙◌, ap, subst, arith, length-drop}
 use Rattle.std.specs.Prelude.{◌==◌, nat_lt, slice_range}
 use Rattle.std.proofs.lemmas.Bool.Decides.{nat_tests}
 use Rattle.std.proofs.lemmas.List.{drop-append-le, take-append-le}
 use Rattle.sw_text_scan.specs.declared.runs.Class.{Class}
 use Rattle.sw_text_scan.specs.declared.runs.Class.TheVariants as classes
 use Rattle.sw_text_scan.specs.declared.signs.TheConstants.{END, CARRIAGE_RETURN, LINE_FEED}
-use Rattle.sw_text_scan.specs.Bytes.{sign, byte, is_break, is_white, is_digit, is_letter, is_hex_digit, is_name_byte, is_quote, starts_plainly, opens_at, begins_silent, begins_loud, ends_loud}
-use Rattle.sw_text_scan.specs.Runs.{next, run_from, run_end, escape_end, text_next, is_word_byte, starts_at, begins_name}
-use Rattle.sw_text_scan.specs.Words.{begins_number, begins_range, begins_url, url_close, unit_start, unit_end}
-use Rattle.sw_text_scan.proofs.Bounds.{if_true, if_false, and_left, and_right, or_left, or_right, not_true, next_from, run_step, run_stop, run_forward, run_onward}
-use Rattle.sw_text_scan.proofs.Progress.{run_on, run_stops, name_taken}
+use Rattle.sw_text_scan.specs.Bytes.{byte, is_break, is_white, is_hex_digit, is_name_byte}
+use Rattle.sw_text_scan.specs.Runs.{next, run_from, run_end}
+use Rattle.sw_text_scan.proofs.Bounds.{and_left, and_right, run_step, run_stop, run_forward}
 use Rattle.sw_text_locality.specs.Names.{is_unclosed, unclosed_from, ends_unclosed}
-use Rattle.sw_text_locality.proofs.Lexical.{equal, split, in_or}
-use Rattle.sw_text_locality.proofs.Characters.{is_pair, hex_not_white, Character, Known, known, character_next, character_test, hex_some}
+use Rattle.sw_text_locality.proofs.Characters.{is_pair, hex_not_white, Character, known, character_next, character_test, hex_some}
 use Rattle.sw_text_locality.proofs.Characters.Character.{plain, escaped, closed, paired, unclosed}
 use Rattle.sw_text_locality.proofs.Kept.{Alike, hex_end_alike}
-use Rattle.sw_text_locality.proofs.Begins.{begins_kept, escape_goes}
 use Rattle.sw_text_locality.proofs.Written.{byte_before, byte_behind, no_name}
-use Rattle.sw_text_locality.proofs.Runs.{Steps, name_steps, text_steps, run_again}
-use Rattle.sw_convert_spelling.proofs.MovedRuns as moved
+use Rattle.sw_text_locality.proofs.Runs.{Steps, name_steps, run_again}
 
 -- ---- two texts that begin with the same bytes
 

@@ -1,5 +1,5 @@
 -- Texts that stand at a place of another.
-use Rattle.std.proofs.Common.{◌≡◌, ℕ, ◌+◌, ◌<◌, List, [], ◌∷◌, ◌++◌, length, refl, sym, ◌∙◌, ap, subst, arith, append_assoc, length-append}
+use Rattle.std.proofs.Common.{◌≡◌, ℕ, ◌+◌, List, [], ◌∷◌, ◌++◌, length, ◌∙◌, ap, subst, arith, append_assoc, length-append}
 use Rattle.sw_text_scan.specs.Bytes.{byte}
 use Rattle.sw_convert_spelling.proofs.MovedRuns.{byte_behind, first_byte}
 

@@ -1,5 +1,5 @@
 -- Behind any other text, runs, names, numbers and urls reach as far as in a text by itself.
-use Rattle.std.proofs.Common.{◌≡◌, ℕ, zero, suc, ◌+◌, ◌-◌, ◌<◌, Bool, true, false, not, ◌&&◌, ◌||◌, if◌then◌else◌, List, ◌∷◌, ◌++◌, length, drop, take, refl, ◌∙◌, ap, arith, get_or, sym, Option, Some, None, length-append}
+use Rattle.std.proofs.Common.{◌≡◌, ℕ, zero, suc, ◌+◌, ◌-◌, Bool, true, false, not, ◌&&◌, ◌||◌, if◌then◌else◌, List, ◌∷◌, ◌++◌, length, drop, take, refl, ◌∙◌, ap, arith, get_or, sym, Option, Some, None, length-append}
 use Rattle.std.specs.Prelude.{◌==◌, nat_lt, slice_get, slice_range, unwrap_or}
 use Rattle.std.proofs.Math.Seq.{drop-append-add}
 use Rattle.std.proofs.lemmas.Bool.Decides.{nat_tests}

@@ -1,6 +1,8 @@
 -- A number that is written with its unit is one token.
-use Rattle.std.proofs.Common.{◌≡◌, ℕ, zero, suc, ◌+◌, ◌-◌, ◌/◌, ◌%◌, ◌^◌, ◌≤◌, ◌<◌, Bool, true, false, not, ◌&&◌, ◌||◌, if◌then◌else◌, List, [], ◌∷◌, ◌++◌, length, pos, Option, Some, None, decimal, refl, sym, ◌∙◌, ap, arith, lit<, lit≤, append_assoc, length-append}
-use Rattle.std.specs.Prelude.{◌==◌, nat_le}
+use Rattle.std.proofs.Common.{◌≡◌, ℕ, ◌+◌, ◌/◌, ◌%◌, ◌^◌, ◌≤◌, ◌<◌, Bool, true, false, not, ◌&&◌, ◌||◌, if◌then◌else◌, List, [], ◌∷◌, ◌++◌, length, pos, Some, decimal, refl, sym, ◌∙◌, ap, arith, lit<, lit≤, append_assoc, length-append}
+use Rattle.std.specs.Prelude.{◌==◌}
+use Rattle.std.specs.Prelude.{nat_lt}
+use Rattle.std.specs.List.{list_all}
 use Rattle.std.proofs.lemmas.Bool.Decides.{nat_tests}
 use Rattle.std.proofs.lemmas.Nat.{mod_below}
 use Rattle.sw_fixed.specs.Arithmetic.{scale, limit}
@@ -9,8 +11,8 @@ use Rattle.sw_fixed.specs.Text.{decimals, fraction_text}
 use Rattle.sw_fixed.proofs.DigitRuns.{AreDigits_parts}
 use Rattle.sw_text_scan.specs.declared.runs.Class.TheVariants as classes
 use Rattle.sw_text_scan.specs.Bytes.{sign, byte, is_white, is_quote, is_digit, starts_plainly, opens_at, begins_silent, begins_loud}
-use Rattle.sw_text_scan.specs.Runs.{next, run_end}
-use Rattle.sw_text_scan.specs.Words.{fraction_end, is_exponent, is_plus_or_minus, exponent_end, unit_start, unit_end, begins_number}
+use Rattle.sw_text_scan.specs.Runs.{next, run_end, escape_end, goes_in_unit}
+use Rattle.sw_text_scan.specs.Words.{fraction_end, is_exponent, exponent_end, unit_start, unit_end, begins_number}
 use Rattle.sw_text_scan.proofs.Bounds.{if_true, if_false, and_left, and_right, not_true, run_step, run_stop}
 use Rattle.sw_tokens.specs.declared.pieces.Before.{Before}
 use Rattle.sw_tokens.specs.declared.pieces.Change.TheVariants as changes
@@ -19,7 +21,7 @@ use Rattle.sw_tokens.specs.declared.skips.Inside.TheVariants as insides
 use Rattle.sw_tokens.specs.declared.token.TokenKind.{TokenKind}
 use Rattle.sw_tokens.specs.declared.token.TokenKind.TheVariants as kinds
 use Rattle.sw_tokens.specs.Pieces.{made, number_kind, number_piece, after_hash, word_piece, in_interpolation, code_piece, piece}
-use Rattle.sw_convert_spelling.specs.Numerals.{begins_exponent, no_exponent, numeral_text, ends_number, numeral_kind, IsNumeralToken}
+use Rattle.sw_convert_spelling.specs.Numerals.{begins_exponent, no_exponent, numeral_text, ends_number, numeral_kind, IsNumeralToken, IsLetterUnit}
 use Rattle.sw_convert_spelling.specs.Spelt.{is_sheet_code}
 use Rattle.sw_convert_spelling.proofs.MovedRuns as moved
 use Rattle.sw_convert_spelling.proofs.Numerals.{Whole, whole_small, decimals_write}
@@ -303,3 +305,87 @@ numeral_token value unit inside before after within ends code hash = in_code ins
     in_code insides.Comment c = absurd (cc)
     in_code insides.Url c = absurd (cc)
     in_code insides.UrlInside c = absurd (cc)
+
+-- ---- units of letters
+
+unit_run : (unit after : List ℕ) → list_all starts_plainly unit ≡ true → next classes.Unit after 0 ≤ 0 → run_end classes.Unit (unit ++ after) 0 ≡ length unit
+unit_run [] after all stops = run_stop after classes.Unit 0 stops
+unit_run (b ∷ unit) after all stops =
+    let bs = b ∷ (unit ++ after) in
+    let first : starts_plainly (byte bs 0) ≡ true = ap starts_plainly (moved.first_byte b (unit ++ after)) ∙ and_left (starts_plainly b) _ all in
+    let goes : next classes.Unit bs 0 ≡ 1 = if_true (goes_in_unit bs 0) (0 + 1) (escape_end bs 0) (either_true (starts_plainly (byte bs 0)) _ first) in
+    sym (run_step bs classes.Unit 0 (omega (arith, goes))) ∙ ap (run_end classes.Unit bs) goes
+    ∙ moved.run_moved (b ∷ []) (unit ++ after) classes.Unit 0
+    ∙ ap (λ (n : ℕ). 1 + n) (unit_run unit after (and_right (starts_plainly b) _ all) stops)
+    ∙ (let e : 1 + length unit ≡ length (b ∷ unit) = omega arith in e)
+
+letter_digit : (b : ℕ) → starts_plainly b ≡ true → is_digit b ≡ false
+letter_digit b e = grind (arith, nat_tests)
+
+letter_point : (b : ℕ) → starts_plainly b ≡ true → (b == sign ".") ≡ false
+letter_point b e = grind (arith, nat_tests)
+
+letter_percent : (b : ℕ) → starts_plainly b ≡ true → (b == sign "%") ≡ false
+letter_percent b e = grind (arith, nat_tests)
+
+letter_sign : (b : ℕ) → starts_plainly b ≡ true → is_plus_or_minus b ≡ false
+letter_sign b e = grind (arith, nat_tests)
+
+-- where no unit goes on no digit stands
+no_unit_digit : (bs : List ℕ) → next classes.Unit bs 0 ≤ 0 → is_digit (byte bs 0) ≡ false
+no_unit_digit bs stops = go (is_digit (byte bs 0)) refl
+  where
+    taken : (a d c : Bool) → d ≡ true → (a || (d || c)) ≡ true
+    taken true d c e = refl
+    taken false true c e = refl
+    taken false false c e = e
+
+    go : (t : Bool) → is_digit (byte bs 0) ≡ t → t ≡ false
+    go false t = refl
+    go true t =
+        let on : next classes.Unit bs 0 ≡ 0 + 1 = if_true (goes_in_unit bs 0) (0 + 1) (escape_end bs 0) (taken (starts_plainly (byte bs 0)) (is_digit (byte bs 0)) _ t) in
+        absurd (omega (arith, on, stops))
+
+-- the byte behind the first letter is no digit and no sign
+second_of : (unit after : List ℕ) → list_all starts_plainly unit ≡ true → next classes.Unit after 0 ≤ 0 → is_plus_or_minus (byte after 0) ≡ false
+    → (is_digit (byte (unit ++ after) 0) ≡ false) × (is_plus_or_minus (byte (unit ++ after) 0) ≡ false)
+second_of [] after all stops dark = (no_unit_digit after stops, dark)
+second_of (c ∷ unit) after all stops dark =
+    let plain = and_left (starts_plainly c) _ all in
+    (ap is_digit (moved.first_byte c (unit ++ after)) ∙ letter_digit c plain, ap is_plus_or_minus (moved.first_byte c (unit ++ after)) ∙ letter_sign c plain)
+
+four : (a b c d : Bool) → a ≡ false → b ≡ false → c ≡ true → d ≡ true → (not a && (not b && (c && d))) ≡ true
+four false false true true e f g h = refl
+four true b c d e f g h = absurd (cc)
+four false true c d e f g h = absurd (cc)
+four false false false d e f g h = absurd (cc)
+four false false true false e f g h = absurd (cc)
+
+or_true : (a b : Bool) → b ≡ true → (a || b) ≡ true
+or_true true b e = refl
+or_true false b e = e
+
+same : (a b : ℕ) → a ≡ b → (a == b) ≡ true
+same a b e = grind (arith, nat_tests)
+
+pub letters_end : (unit after : List ℕ) → IsLetterUnit unit after
+letters_end [] after all some stops dark = absurd (omega (arith, some))
+letters_end (b ∷ unit) after all some stops dark =
+    let bs = b ∷ (unit ++ after) in
+    let plain = and_left (starts_plainly b) _ all in
+    let first = moved.first_byte b (unit ++ after) in
+    let second = second_of unit after (and_right (starts_plainly b) _ all) (at_most_by after stops) dark in
+    let digit : is_digit (byte bs 1) ≡ false = ap is_digit (second_byte b (unit ++ after)) ∙ second.0 in
+    let plus : is_plus_or_minus (byte bs 1) ≡ false = ap is_plus_or_minus (second_byte b (unit ++ after)) ∙ second.1 in
+    let power : exponent_end bs 0 ≡ 0 =
+    if_false (is_exponent (byte bs 0) && is_digit (byte bs (0 + 1))) _ _ (right_no (is_exponent (byte bs 0)) _ digit)
+    ∙ if_false (is_exponent (byte bs 0) && (is_plus_or_minus (byte bs (0 + 1)) && is_digit (byte bs (0 + 2)))) _ 0 (right_no (is_exponent (byte bs 0)) _ (left_no (is_plus_or_minus (byte bs 1)) _ plus)) in
+    let end : unit_end bs 0 ≡ length (b ∷ unit) =
+    if_false (byte bs 0 == sign "%") (0 + 1) _ (ap (λ (c : ℕ). c == sign "%") first ∙ letter_percent b plain)
+    ∙ if_true (starts_plainly (byte bs 0)) (run_end classes.Unit bs 0) 0 (ap starts_plainly first ∙ plain)
+    ∙ unit_run (b ∷ unit) after all (at_most_by after stops) in
+    four (is_digit (byte bs 0)) _ _ _ (ap is_digit first ∙ letter_digit b plain) (left_no (byte bs 0 == sign ".") _ (ap (λ (c : ℕ). c == sign ".") first ∙ letter_point b plain))
+    (or_true (begins_exponent (b ∷ unit)) _ (same (exponent_end bs 0) 0 power)) (same (unit_end bs 0) (length (b ∷ unit)) end)
+  where
+    at_most_by : (bs : List ℕ) → nat_lt 0 (next classes.Unit bs 0) ≡ false → next classes.Unit bs 0 ≤ 0
+    at_most_by bs e = grind (arith, nat_tests)

@@ -1,17 +1,17 @@
 -- The text of a number is read as the number.
-use Rattle.std.proofs.Common.{◌≡◌, ℕ, zero, suc, ◌+◌, ◌-◌, ◌*◌, ◌/◌, ◌%◌, ◌^◌, ◌<◌, ◌≤◌, Bool, true, false, ◌&&◌, ◌||◌, if◌then◌else◌, List, [], ◌∷◌, ◌++◌, length, ℤ, pos, negsuc, Option, Some, None, Result, Ok, Err, decimal, refl, sym, ◌∙◌, ap, arith, lit<, lit≤, append_assoc, append-nil, zero-mul, codes}
+use Rattle.std.proofs.Common.{◌≡◌, ℕ, zero, suc, ◌+◌, ◌-◌, ◌*◌, ◌/◌, ◌%◌, ◌^◌, ◌<◌, ◌≤◌, Bool, true, false, ◌&&◌, ◌||◌, if◌then◌else◌, List, [], ◌∷◌, ◌++◌, length, ℤ, pos, negsuc, Option, Some, None, Ok, decimal, refl, sym, ◌∙◌, ap, arith, lit<, append_assoc, append-nil, zero-mul}
 use Rattle.std.specs.Prelude.{◌==◌, nat_le}
 use Rattle.std.proofs.lemmas.Bool.Decides.{nat_tests}
 use Rattle.std.proofs.lemmas.Nat.{div_below, mod_below, div-mul-add, pow-add}
 use Rattle.std.proofs.lemmas.Fmt.{decimal_is_IsNumeral_wide}
 use Rattle.std.proofs.lemmas.Str.Parse.{IsDigitsTest, IsNumeralModel, FoldsDigits, numerals_by_fold}
 use Rattle.std.proofs.Math.Nat.{one-le-pow, pow-suc, div-add-mod}
-use Rattle.sw_fixed.specs.Arithmetic.{scale, limit, signed, nearest_natural, IsWithin}
+use Rattle.sw_fixed.specs.Arithmetic.{scale, limit, signed, nearest_natural}
 use Rattle.sw_fixed.specs.Reading.{is_digit, digits_of, after_digits, more_digits, AreDigits, has_minus, after_sign, decimals_of, is_empty, after_decimals, exponent_of, mantissa_of, held_magnitude, value_of, body_value, number_in}
-use Rattle.sw_fixed.specs.Text.{decimals, fraction_text, magnitude_text, text_of}
+use Rattle.sw_fixed.specs.Text.{decimals, fraction_text, magnitude_text}
 use Rattle.sw_fixed.proofs.DigitRuns.{AreDigits-nil, AreDigits_parts, more_digits-nil, more_digits-cons, more_digits-append, more_digits_split}
 use Rattle.sw_text_scan.proofs.Bounds.{if_true, if_false}
-use Rattle.sw_convert_spelling.specs.Numerals.{begins_exponent, no_exponent, value_text, IsReadBack}
+use Rattle.sw_convert_spelling.specs.Numerals.{begins_exponent, no_exponent, IsReadBack}
 
 -- ---- digits
 

@@ -2,7 +2,6 @@
 use Rattle.std.proofs.Common.{◌≡◌, ℕ, zero, suc, ◌+◌, ◌-◌, ◌≤◌, ◌<◌, Bool, true, false, not, ◌&&◌, ◌||◌, ◌⊎◌, inl, inr, if◌then◌else◌, List, [], ◌∷◌, ◌++◌, length, refl, sym, ◌∙◌, ap, subst, arith, Option, Some, None, is_some, append-nil}
 use Rattle.std.specs.Prelude.{◌==◌, nat_lt, slice_range}
 use Rattle.std.proofs.lemmas.Bool.Decides.{nat_tests}
-use Rattle.sw_text_scan.specs.declared.runs.Class.{Class}
 use Rattle.sw_text_scan.specs.declared.runs.Class.TheVariants as classes
 use Rattle.sw_text_scan.specs.declared.signs.TheConstants.{END, CARRIAGE_RETURN, LINE_FEED}
 use Rattle.sw_text_scan.specs.Bytes.{sign, byte, is_break, is_white, is_digit, is_letter, is_name_byte, is_quote, starts_plainly, opens_at, begins_silent, begins_loud, ends_loud}
@@ -19,14 +18,14 @@ use Rattle.sw_tokens.specs.declared.skips.Inside.TheVariants as insides
 use Rattle.sw_tokens.specs.declared.token.TokenKind.{TokenKind}
 use Rattle.sw_tokens.specs.declared.token.TokenKind.TheVariants as kinds
 use Rattle.sw_tokens.specs.Decoded.{decoded}
-use Rattle.sw_tokens.specs.Pieces.{made, made_white, quote_piece, sign_of, sign_piece, letter_kind, dash_kind, name_piece, is_hex_form, number_kind, number_piece, url_class, url_inside, is_open_ended, opens_url, after_dollar, after_hash, word_piece, loud_piece, in_interpolation, code_piece, piece}
+use Rattle.sw_tokens.specs.Pieces.{made, made_white, quote_piece, sign_of, sign_piece, letter_kind, dash_kind, name_piece, is_hex_form, number_kind, number_piece, url_class, url_inside, is_open_ended, opens_url, after_dollar, after_hash, word_piece, loud_piece, in_interpolation, code_piece}
 use Rattle.sw_text_locality.specs.Names.{ends_unclosed}
-use Rattle.sw_text_locality.proofs.Lexical.{split, in_or}
-use Rattle.sw_text_locality.proofs.Kept.{Alike, first}
+use Rattle.sw_text_locality.proofs.Lexical.{split}
+use Rattle.sw_text_locality.proofs.Kept.{first}
 use Rattle.sw_text_locality.proofs.Begins.{begins_kept, escape_goes}
 use Rattle.sw_text_locality.proofs.Written.{byte_before, no_name}
 use Rattle.sw_text_locality.proofs.Runs.{Steps, text_steps}
-use Rattle.sw_convert_spelling.specs.Neighbours.{joins_sign, parts_sign, parts_name, parts_kind, is_parted, begins_other, may_stand_behind, StaysToken, StandsAlone}
+use Rattle.sw_convert_spelling.specs.Neighbours.{joins_sign, parts_sign, parts_name, parts_kind, is_parted, begins_other, StaysToken, StandsAlone}
 use Rattle.sw_convert_spelling.specs.Spelt.{Spelt, is_sheet_code, IsToken}
 use Rattle.sw_convert_spelling.proofs.MovedRuns as moved
 use Rattle.sw_convert_spelling.proofs.Again as texts

@@ -1,5 +1,5 @@
 -- What is written of a text as a string stands for the text, and is one token.
-use Rattle.std.proofs.Common.{◌≡◌, ℕ, zero, suc, ◌+◌, ◌-◌, ◌*◌, ◌/◌, ◌%◌, ◌≤◌, ◌<◌, Bool, true, false, not, ◌&&◌, ◌||◌, if◌then◌else◌, List, [], ◌∷◌, ◌++◌, length, take, drop, refl, sym, ◌∙◌, ap, subst, arith, lit<, append_assoc, append-nil, length-append, encode_utf8, codes}
+use Rattle.std.proofs.Common.{◌≡◌, ℕ, zero, suc, ◌+◌, ◌-◌, ◌*◌, ◌/◌, ◌%◌, ◌≤◌, ◌<◌, Bool, true, false, not, ◌&&◌, ◌||◌, if◌then◌else◌, List, [], ◌∷◌, ◌++◌, length, take, refl, sym, ◌∙◌, ap, subst, arith, lit<, append_assoc, append-nil, length-append, encode_utf8, codes}
 use Rattle.std.specs.Prelude.{◌==◌, nat_lt, nat_le, slice_range}
 use Rattle.std.specs.Char.{digit_char}
 use Rattle.std.specs.List.{list_all}
@@ -9,7 +9,6 @@ use Rattle.std.proofs.lemmas.Bool.Decides.{nat_tests}
 use Rattle.std.proofs.lemmas.Nat.{div_below, mod_below}
 use Rattle.std.proofs.lemmas.Str.{encode_ascii}
 use Rattle.sw_text_scan.specs.declared.runs.Class.TheVariants as classes
-use Rattle.sw_text_scan.specs.declared.runs.TheConstants.{MOST_HEX_DIGITS}
 use Rattle.sw_text_scan.specs.declared.signs.TheConstants.{END, CARRIAGE_RETURN, LINE_FEED}
 use Rattle.sw_text_scan.specs.Bytes.{sign, byte, is_break, is_white, is_quote, is_hex_digit, opens_at}
 use Rattle.sw_text_scan.specs.Runs.{hex_from, hex_end, white_end, escape_end, text_next, next, run_end}
@@ -22,7 +21,7 @@ use Rattle.sw_tokens.specs.declared.token.TokenKind.TheVariants as kinds
 use Rattle.sw_tokens.specs.Decoded.{digit_value, value_from, hex_value, char_of, told_at, told_end, decoded_from, decoded_rest, decoded, is_surrogate, is_beyond, replacement}
 use Rattle.sw_tokens.specs.Pieces.{made, text_piece, quote_piece, code_piece}
 use Rattle.sw_tokens.proofs.Decoding.{told_onward, decoded_past}
-use Rattle.sw_convert_spelling.specs.Strings.{is_coded, hex_of, joins_escape, escape_close, begins_brace, is_escaped, escape, escaped, string_text, are_bytes, StandsFor, IsStringToken, IsTemplateToken, IsTextToken}
+use Rattle.sw_convert_spelling.specs.Strings.{is_coded, hex_of, joins_escape, escape_close, begins_brace, is_escaped, escape, escaped, string_text, are_bytes, StandsFor, IsStringToken, IsTemplateToken, IsTextToken, IsInsertToken, IsEndToken}
 use Rattle.sw_convert_spelling.proofs.Here.{Here, here_left, here_right, here_both, stands}
 use Rattle.sw_convert_spelling.proofs.MovedRuns.{at_byte, opens_moved, range_same}
 
@@ -573,3 +572,11 @@ text_token text before after l some e =
     ∙ ap (λ (xs : List ℕ). made (kinds.Text (decoded xs)) (length es) changes.Keep)
     (ap (λ (n : ℕ). take n bs) (let z : length es - 0 ≡ length es = omega arith in z) ∙ take-append_seam es after)
     ∙ ap (λ (xs : List ℕ). made (kinds.Text xs) (length es) changes.Keep) (stands_for text l)
+
+pub insert_token : (before : Before) (after : List ℕ) → IsInsertToken before after
+unfolding text_piece byte
+insert_token before after = refl
+
+pub end_token : (before : Before) (after : List ℕ) → IsEndToken before after
+unfolding text_piece byte
+end_token before after = refl

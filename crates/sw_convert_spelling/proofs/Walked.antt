@@ -1,11 +1,10 @@
 -- The scan of a text takes one written token after another.
-use Rattle.std.proofs.Common.{◌≡◌, ℕ, zero, suc, ◌+◌, ◌-◌, ◌<◌, ◌≤◌, Bool, true, false, not, ◌&&◌, List, [], ◌∷◌, ◌++◌, length, take, refl, sym, ◌∙◌, ap, subst, arith, Option, Some, None, Result, Ok, Err, append_assoc, append-nil, length-append, get_or}
+use Rattle.std.proofs.Common.{◌≡◌, ℕ, ◌+◌, ◌-◌, ◌<◌, Bool, true, false, not, ◌&&◌, List, [], ◌∷◌, ◌++◌, length, take, refl, sym, ◌∙◌, ap, subst, arith, Option, Some, None, Ok, append_assoc, append-nil, length-append}
 use Rattle.std.specs.Prelude.{◌==◌, slice_get, nat_lt}
 use Rattle.std.specs.List.{list_all}
 use Rattle.std.proofs.Math.Seq.{get_or-append_seam, take-append_seam}
 use Rattle.std.proofs.lemmas.Bool.Decides.{nat_tests}
 use Rattle.std.proofs.lemmas.Option.{slice_get-get_or}
-use Rattle.sw_text.specs.Places.{mark_length}
 use Rattle.sw_text_scan.specs.declared.runs.Class.TheVariants as classes
 use Rattle.sw_text_scan.specs.Bytes.{sign, byte, is_white, is_url_byte, opens_at}
 use Rattle.sw_text_scan.specs.Runs.{next, run_end, escape_end, goes_in_url, goes_in_inner_url}
@@ -22,9 +21,9 @@ use Rattle.sw_tokens.specs.declared.token.Syntax.TheVariants as syntaxes
 use Rattle.sw_tokens.specs.declared.token.Token.{Token}
 use Rattle.sw_tokens.specs.Ends.{tokens_by, tokens_in}
 use Rattle.sw_tokens.specs.Pieces.{made_white, url_piece, piece}
-use Rattle.sw_tokens.specs.Tokens.{top, inside_of, changed, before_of, is_spaced, behind, first_start, finished, rest, pieces_of}
+use Rattle.sw_tokens.specs.Tokens.{top, inside_of, changed, before_of, is_spaced, behind, finished, rest, pieces_of}
 use Rattle.sw_tokens.proofs.Walks.{rest_end, rest_step, gap_piece}
-use Rattle.sw_convert_spelling.specs.Spelt.{Spelt, text_of, behind_gap, end_of, placed_behind, placed, innermost, opened, takes_gap, is_gap, IsToken, AreTokens, HasThese}
+use Rattle.sw_convert_spelling.specs.Spelt.{Spelt, text_of, behind_gap, end_of, placed_behind, innermost, opened, takes_gap, is_gap, IsToken, AreTokens, HasThese}
 use Rattle.sw_convert_spelling.proofs.MovedRuns.{first_byte, run_moved}
 use Rattle.sw_convert_spelling.proofs.MovedPieces.{moved, piece_moved}
 

@@ -3,14 +3,14 @@ use Rattle.std.specs.Prelude.{◌≡◌, ◌<◌, ℕ, ◌-◌, List, [], ◌∷
 use Rattle.sw_text_scan.specs.declared.runs.Class.TheVariants as classes
 use Rattle.sw_text_scan.specs.declared.signs.TheConstants.{END, CARRIAGE_RETURN, LINE_FEED}
 use Rattle.sw_text_scan.specs.Bytes.{sign, byte, is_break, is_digit, is_white}
-use Rattle.sw_text_scan.specs.Runs.{next, run_end, starts_at, begins_name}
+use Rattle.sw_text_scan.specs.Runs.{next, starts_at, begins_name}
 use Rattle.sw_text_scan.specs.Words.{begins_range, begins_url}
 use Rattle.sw_text_locality.specs.Names.{ends_unclosed}
 use Rattle.sw_tokens.specs.declared.pieces.Before.{Before}
 use Rattle.sw_tokens.specs.declared.skips.Inside.{Inside}
 use Rattle.sw_tokens.specs.declared.token.TokenKind.{TokenKind}
 use Rattle.sw_tokens.specs.declared.token.TokenKind.TheVariants as kinds
-use Rattle.sw_tokens.specs.Pieces.{made, is_hex_form, after_dollar, after_hash, piece}
+use Rattle.sw_tokens.specs.Pieces.{is_hex_form, after_dollar, after_hash}
 use Rattle.sw_convert_spelling.specs.Spelt.{Spelt, is_sheet_code, IsToken}
 
 -- a sign with which what stands behind it is one token, or begins one

@@ -1,12 +1,15 @@
 -- Numbers as a sheet is written with them: the digits of the value, and the unit (CSS Syntax Level 3, "Consume a number"
 -- and "Consume a numeric token").
-use Rattle.std.specs.Prelude.{◌≡◌, ◌≤◌, ℕ, ◌%◌, List, [], ◌∷◌, ◌++◌, length, Bool, true, false, not, ◌&&◌, ◌||◌, ◌==◌, if◌then◌else◌, codes, Option, Some, None, ℤ, pos, Ok, Err}
+use Rattle.std.specs.Prelude.{◌≡◌, ◌≤◌, ◌<◌, nat_lt, ℕ, ◌%◌, List, [], ◌∷◌, ◌++◌, length, Bool, true, false, not, ◌&&◌, ◌||◌, ◌==◌, if◌then◌else◌, codes, Option, Some, None, ℤ, pos, Ok, Err}
 use Rattle.sw_fixed.specs.Arithmetic.{scale, limit, IsWithin}
 use Rattle.sw_fixed.specs.Reading.{number_in}
 use Rattle.sw_fixed.specs.Text.{fraction_text, text_of}
 use Rattle.sw_fixed.specs.declared.fault.ReadFault.TheVariants.{NumberRange}
-use Rattle.sw_text_scan.specs.Bytes.{sign, byte, is_digit}
-use Rattle.sw_text_scan.specs.Words.{is_exponent, exponent_end, unit_end}
+use Rattle.std.specs.List.{list_all}
+use Rattle.sw_text_scan.specs.declared.runs.Class.TheVariants as classes
+use Rattle.sw_text_scan.specs.Bytes.{sign, byte, is_digit, starts_plainly}
+use Rattle.sw_text_scan.specs.Runs.{next}
+use Rattle.sw_text_scan.specs.Words.{is_exponent, is_plus_or_minus, exponent_end, unit_end}
 use Rattle.sw_tokens.specs.declared.pieces.Before.{Before}
 use Rattle.sw_tokens.specs.declared.pieces.Change.TheVariants as changes
 use Rattle.sw_tokens.specs.declared.skips.Inside.{Inside}
@@ -61,3 +64,9 @@ IsNumeralToken value unit inside before after =
     value ≤ limit → ends_number unit after ≡ true → is_sheet_code inside ≡ true → after_hash before ≡ false
     → piece (numeral_text (Some (pos value)) unit ++ after) inside before 0
     ≡ made (numeral_kind value unit) (length (numeral_text (Some (pos value)) unit)) changes.Keep
+
+-- behind a unit of letters neither a unit nor, for a unit that is one `e`, an exponent goes on
+abbrev pub IsLetterUnit : List ℕ → List ℕ → Type 0
+IsLetterUnit unit after =
+    list_all starts_plainly unit ≡ true → 0 < length unit → nat_lt 0 (next classes.Unit after 0) ≡ false
+    → is_plus_or_minus (byte after 0) ≡ false → ends_number unit after ≡ true

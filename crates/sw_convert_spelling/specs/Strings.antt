@@ -87,3 +87,13 @@ IsTextToken text before after =
     are_bytes text ≡ true → 0 < length text → (opens_at after 0 || (byte after 0 == sign "\"")) ≡ true
     → piece (escaped text ++ after) (insides.Quotes (sign "\"")) before 0
     ≡ made (kinds.Text text) (length (escaped text)) changes.Keep
+
+-- in such a string `#{` and the closing quote are one token each, whatever stands behind them
+abbrev pub IsInsertToken : Before → List ℕ → Type 0
+IsInsertToken before after =
+    piece (codes "#{" ++ after) (insides.Quotes (sign "\"")) before 0
+    ≡ made kinds.OpenInterpolation 2 (changes.Push insides.Interpolation)
+
+abbrev pub IsEndToken : Before → List ℕ → Type 0
+IsEndToken before after =
+    piece (codes "\"" ++ after) (insides.Quotes (sign "\"")) before 0 ≡ made kinds.TemplateEnd 1 changes.Pop

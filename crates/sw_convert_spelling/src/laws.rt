@@ -3,7 +3,7 @@ ghost use Rattle.std.specs.Prelude.{◌≡◌, List, ℕ, ℤ, Option};
 ghost use Rattle.sw_convert_spelling.specs.Neighbours.{StandsAlone, StaysToken};
 ghost use Rattle.sw_convert_spelling.specs.Numerals.{IsNumeralToken, IsReadBack};
 ghost use Rattle.sw_convert_spelling.specs.Spelt.{Spelt, HasThese};
-ghost use Rattle.sw_convert_spelling.specs.Strings.{IsStringToken, IsTemplateToken, IsTextToken, StandsFor};
+ghost use Rattle.sw_convert_spelling.specs.Strings.{IsEndToken, IsInsertToken, IsStringToken, IsTemplateToken, IsTextToken, StandsFor};
 ghost use Rattle.sw_tokens.specs.declared.pieces.Before.{Before};
 ghost use Rattle.sw_tokens.specs.declared.skips.Inside.{Inside};
 
@@ -45,4 +45,6 @@ pub fn strings_are_tokens()
     ensures opens { (text : List ℕ) (inside : Inside) (before : Before) (after : List ℕ)
         → IsTemplateToken text inside before after }
     ensures text { (text : List ℕ) (before : Before) (after : List ℕ) → IsTextToken text before after }
+    ensures insert { (before : Before) (after : List ℕ) → IsInsertToken before after }
+    ensures end { (before : Before) (after : List ℕ) → IsEndToken before after }
 {}
