@@ -4,3 +4,6 @@ pub mod Strings
 pub mod Pieces
 pub mod Signs
 pub mod Expressions
+pub mod Rules
+pub mod Heads
+pub mod Statements

@@ -54,7 +54,8 @@ fn put_escape_end(out: &mut Vec<u8>, rest: &[u8]) -> Result<(), Memory>
     }
 }
 
-fn begins_with(byte: u8, rest: &[u8]) -> bool
+/// Whether a text begins with a byte.
+pub fn begins_with(byte: u8, rest: &[u8]) -> bool
     ensures { result ≡ begins_with byte rest.now }
 {
     match rest {
