@@ -4,7 +4,9 @@ mod Whole
 pub mod Tokens
 pub mod Leaves
 pub mod Templates
+pub mod Rows
 pub mod Words
+pub mod Urls
 pub mod Chains
 pub mod Lists
 pub mod Around

@@ -21,6 +21,7 @@ use Rattle.sw_convert_again.specs.Again.{Reads, Found, IsAgain, Again, called_by
 use Rattle.sw_convert_again.proofs.Tokens.{one_byte, old_of, is_of}
 use Rattle.sw_convert_again.proofs.Leaves.{number_again, quoted_again, hash_again, constant_again, url_again, variable_again, range_again, parent_again, important_again}
 use Rattle.sw_convert_again.proofs.Templates.{template_again}
+use Rattle.sw_convert_again.proofs.Urls.{url_template_again}
 use Rattle.sw_convert_again.proofs.Words.{called_again}
 use Rattle.sw_convert_again.proofs.Arguments.{named_calls_again, owned_calls_again}
 use Rattle.sw_convert_again.proofs.Chains.{disjunction_again}
@@ -161,7 +162,7 @@ module _ (source written : Source) (n : ℕ) where
       (url_again source written n i j w d)
   primary_again deep texts calls owned_calls strings round square i j w (inl (inr (inr (inr (inr (inr (inr d))))))) =
       into (url_template written) (primary written) (λ p q x r. inl (inr (inr (inr (inr (inr (inr r))))))) i j w
-      (texts.url_templates i j w d)
+      (url_template_again source written n deep i j w d)
   primary_again deep texts calls owned_calls strings round square i j w (inr (inl d)) =
       into (special written) (primary written) (λ p q x r. inr (inl r)) i j w (texts.specials i j w d)
   primary_again deep texts calls owned_calls strings round square i j w (inr (inr (inl d))) =

@@ -9,7 +9,7 @@ use Rattle.sw_parse_table.specs.Parts.{Part, Form, Values}
 use Rattle.sw_parse_table.specs.Sources.{text_of}
 use Rattle.sw_parse_table.specs.Table.{forms}
 use Rattle.sw_parse_table.specs.Values.{to_called, to_owned}
-use Rattle.sw_parse_table.specs.Expressions.{url_template, special, word, arguments_in, owned_call, expr}
+use Rattle.sw_parse_table.specs.Expressions.{special, word, arguments_in, owned_call, expr}
 use Rattle.sw_convert_again.specs.Alike.{Like}
 use Rattle.sw_convert_again.specs.Tokens.{Tok, Stands, Begins}
 use Rattle.sw_convert_again.specs.Spells.{Spells}
@@ -52,9 +52,8 @@ called_by_owner source =
 abbrev pub called_by_name : Source → Grammar Part Form
 called_by_name source = build (to_called source) (seq (word source) (arguments_in source))
 
--- urls with `#{}` and special functions
+-- special functions
 pub record TextsAgain (source written : Source) (n : ℕ) : Type 0 where
-  pub url_templates : Again source written n url_template
   pub specials : Again source written n special
 
 -- where these are read again over values with fewer brackets that are, all values are, through any number of brackets

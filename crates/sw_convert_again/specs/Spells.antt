@@ -103,6 +103,12 @@ mutual
     url : {i : ℕ} → (span : Span) → Old source i (just terminals.Url)
         → Spells source i (suc i) (expression (exprs.Url (parts_between source i (suc i) [])) span)
         (tok terminals.Url (Plain 1 (parts_between source i (suc i) [])) ∷ [])
+    url_template : {i k count : ℕ} {inserts : List Part} {tokens : List Tok} → (span : Span)
+        → Old source i (just terminals.UrlTemplate)
+        → SpellsRow source terminals.Piece terminals.Insert 1 (suc i) k inserts count tokens
+        → Old source k (just terminals.UrlEnd)
+        → Spells source i (suc k) (expression (exprs.Url (parts_between source i (suc k) inserts)) span)
+        (within (tok terminals.UrlTemplate (from_start source i inserts (suc count))) tokens terminals.UrlEnd)
     variable : {i : ℕ} → (span : Span) → Old source i dollars → Old source (suc i) (just terminals.VariableName)
         → Spells source i (suc (suc i)) (expression (exprs.Variable (dashed (bytes_at source (suc i)))) span)
         (dollar ∷ tok terminals.VariableName (Dashed (dashed (bytes_at source (suc i)))) ∷ [])
@@ -236,36 +242,38 @@ mutual
   -- a word: a name, or a `#{}` with a `-` before it or not, and what goes on with it
   pub data SpellsWord (source : Source) : ℕ → ℕ → Parts → List Tok → Type 0 where
     named : {i j count : ℕ} {inserts : List Part} {tokens : List Tok} → Old source i (just terminals.Word)
-        → SpellsRow source (suc i) j inserts count tokens
+        → SpellsRow source terminals.Part terminals.PartInsert 0 (suc i) j inserts count tokens
         → SpellsWord source i j (parts_between source i j inserts)
         (tok terminals.Word (from_start source i inserts (suc count)) ∷ tokens)
     begun : {i c j count : ℕ} {value : Expr} {inserts : List Part} {tokens others : List Tok}
         → Old source i (just terminals.WordInsert) → Spells source (suc i) c value tokens
-        → Old source c (just terminals.InsertEnd) → SpellsRow source (suc c) j inserts count others
+        → Old source c (just terminals.InsertEnd) → SpellsRow source terminals.Part terminals.PartInsert 0 (suc c) j inserts count others
         → SpellsWord source i j (parts_between source i j (Inserts i (suc c) value ∷ inserts))
         (tok terminals.WordInsert (Before 0 (text_up_to source (from_at source i) i (i + 0)))
         ∷ (tokens ++ tok terminals.InsertEnd (behind_insert source c inserts count) ∷ others))
     begun_minus : {i c j count : ℕ} {value : Expr} {inserts : List Part} {tokens others : List Tok}
         → Old source i (just terminals.WordMinus) → Old source (suc i) (just terminals.WordInsert)
         → Spells source (suc (suc i)) c value tokens → Old source c (just terminals.InsertEnd)
-        → SpellsRow source (suc c) j inserts count others
+        → SpellsRow source terminals.Part terminals.PartInsert 0 (suc c) j inserts count others
         → SpellsWord source i j (parts_between source i j (Inserts (suc i) (suc c) value ∷ inserts))
         (tok terminals.WordMinus (Before 1 (text_up_to source (from_at source i) i (i + 1)))
         ∷ sign terminals.WordInsert
         ∷ (tokens ++ tok terminals.InsertEnd (behind_insert source c inserts count) ∷ others))
 
-  -- what goes on with a word, with these values inserted: so many tokens stand before the first of them or the end
-  pub data SpellsRow (source : Source) : ℕ → ℕ → List Part → ℕ → List Tok → Type 0 where
-    row_end : {i : ℕ} → SpellsRow source i i [] 0 []
-    row_part : {i j count : ℕ} {inserts : List Part} {tokens : List Tok} → Old source i (just terminals.Part)
-        → SpellsRow source (suc i) j inserts count tokens
-        → SpellsRow source i j inserts (suc count) (sign terminals.Part ∷ tokens)
-    row_insert : {i c j count : ℕ} {value : Expr} {inserts : List Part} {tokens others : List Tok}
-        → Old source i (just terminals.PartInsert) → Spells source (suc i) c value tokens
-        → Old source c (just terminals.InsertEnd) → SpellsRow source (suc c) j inserts count others
-        → SpellsRow source i j (Inserts i (suc c) value ∷ inserts) 0
-        (sign terminals.PartInsert
-        ∷ (tokens ++ tok terminals.InsertEnd (behind_insert source c inserts count) ∷ others))
+  -- what a text goes on with, by its tokens and by values that are inserted: so many tokens stand before the first of
+  -- these or its end, which is so many tokens behind the last
+  pub data SpellsRow (source : Source) : Terminal → Terminal → ℕ → ℕ → ℕ → List Part → ℕ → List Tok → Type 0 where
+    row_end : {part opening : Terminal} {extra i : ℕ} → SpellsRow source part opening extra i i [] extra []
+    row_part : {part opening : Terminal} {extra i j count : ℕ} {inserts : List Part} {tokens : List Tok}
+        → Old source i (just part)
+        → SpellsRow source part opening extra (suc i) j inserts count tokens
+        → SpellsRow source part opening extra i j inserts (suc count) (sign part ∷ tokens)
+    row_insert : {part opening : Terminal} {extra i c j count : ℕ} {value : Expr} {inserts : List Part}
+        {tokens others : List Tok}
+        → Old source i (just opening) → Spells source (suc i) c value tokens
+        → Old source c (just terminals.InsertEnd) → SpellsRow source part opening extra (suc c) j inserts count others
+        → SpellsRow source part opening extra i j (Inserts i (suc c) value ∷ inserts) 0
+        (sign opening ∷ (tokens ++ tok terminals.InsertEnd (behind_insert source c inserts count) ∷ others))
 
   -- an argument: by its name, by its place, and with `...` behind it
   pub data SpellsArgument (source : Source) : ℕ → ℕ → Argument → List Tok → Type 0 where

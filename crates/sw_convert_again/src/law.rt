@@ -16,7 +16,7 @@ pub fn whole_sheets_are_read()
 {}
 
 /// A law: what is written of a value that was read is read again as a value like it, through any number of brackets in
-/// each other, where special functions and urls with `#{}` are.
+/// each other, where special functions are.
 pub fn values_are_read_again()
     ensures { ValuesAgain }
 {}
