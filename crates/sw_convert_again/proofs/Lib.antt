@@ -1,0 +1,16 @@
+pub mod Lasts
+mod Ends
+mod Whole
+pub mod Tokens
+pub mod Leaves
+pub mod Templates
+pub mod Rows
+pub mod Words
+pub mod Urls
+pub mod Chains
+pub mod Lists
+pub mod Around
+pub mod Enclosed
+pub mod Dollars
+pub mod Arguments
+mod Values

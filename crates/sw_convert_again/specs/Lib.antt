@@ -1,0 +1,5 @@
+pub mod Closed
+pub mod Lasts
+pub mod Tokens
+pub mod Spells
+pub mod Again

@@ -1,0 +1,22 @@
+// From a derivation to another, and to the answer of the reader.
+ghost use Rattle.std.specs.Prelude.{◌≡◌, ◌≤◌, ℕ, suc, List, length};
+ghost use Rattle.sw_parse_grammar.specs.Grammar.{Derives, Got};
+ghost use Rattle.sw_parse_table.specs.declared.source.Source.{Source};
+ghost use Rattle.sw_parse_table.specs.Parts.{Part, Whole};
+ghost use Rattle.sw_parse_table.specs.Sources.{text_of};
+ghost use Rattle.sw_parse_table.specs.Table.{forms};
+ghost use Rattle.sw_parse_table.specs.Reads.{reader};
+ghost use Rattle.sw_convert_again.specs.Again.{ValuesAgain};
+
+/// A law: where all tokens of a text derive a sheet with so many levels of brackets, the reader answers it.
+pub fn whole_sheets_are_read()
+    ensures { (source : Source) (levels : ℕ) (parts : List Part)
+        → Derives (forms source) (text_of source) (suc levels) Whole 0 (length source.lexemes.now) parts
+        → reader source levels (forms source Whole) 0 ≡ Got parts (length source.lexemes.now) }
+{}
+
+/// A law: what is written of a value that was read is read again as a value like it, through any number of brackets in
+/// each other, where special functions are.
+pub fn values_are_read_again()
+    ensures { ValuesAgain }
+{}

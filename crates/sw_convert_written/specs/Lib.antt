@@ -1,0 +1,5 @@
+pub mod Escapes
+pub mod Names
+pub mod Pieces
+pub mod Signs
+pub mod Expressions

@@ -1,0 +1,9 @@
+pub mod Lexical
+pub mod Unclosed
+pub mod Characters
+pub mod Kept
+pub mod Begins
+pub mod Written
+pub mod Stands
+pub mod Runs
+pub mod Local
