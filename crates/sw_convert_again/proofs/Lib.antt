@@ -13,4 +13,8 @@ pub mod Around
 pub mod Enclosed
 pub mod Dollars
 pub mod Arguments
+mod Owned
+mod Extents
+mod Special
 mod Values
+mod RawTexts

@@ -28,7 +28,7 @@ same_text a b e =
 pub same_plain : (a b : Texts) → a ≡ b → LikeParts (plain_parts a) (plain_parts b)
 same_plain a b e = subst (λ (x : Texts). LikeParts (plain_parts a) (plain_parts x)) e (plain_self a.first a.rest)
 
-texts_then : (texts : List (List ℕ)) (xs ys : List Piece) → LikePieces xs ys
+pub texts_then : (texts : List (List ℕ)) (xs ys : List Piece) → LikePieces xs ys
     → LikePieces (pieces_in texts ++ xs) (pieces_in texts ++ ys)
 texts_then [] xs ys l = l
 texts_then ([] ∷ texts) xs ys l = texts_then texts xs ys l

@@ -1,5 +1,5 @@
 -- What is written of a value that was read is read again, as a value like it.
-use Rattle.std.specs.Prelude.{◌≡◌, ℕ, suc, List, [], ◌∷◌}
+use Rattle.std.specs.Prelude.{◌≡◌, ℕ, List, [], ◌∷◌}
 use Rattle.sw_parse_grammar.specs.Grammar.{Grammar, keep, skip, seq, build, DerivesIn, Derives}
 use Rattle.sw_parse_terminals.specs.declared.terminal.Terminal.TheVariants as terminals
 use Rattle.sw_parse_terminals.specs.Numbers.{just}
@@ -9,7 +9,7 @@ use Rattle.sw_parse_table.specs.Parts.{Part, Form, Values}
 use Rattle.sw_parse_table.specs.Sources.{text_of}
 use Rattle.sw_parse_table.specs.Table.{forms}
 use Rattle.sw_parse_table.specs.Values.{to_called, to_owned}
-use Rattle.sw_parse_table.specs.Expressions.{special, word, arguments_in, owned_call, expr}
+use Rattle.sw_parse_table.specs.Expressions.{word, arguments_in, owned_call, expr}
 use Rattle.sw_convert_alike.specs.Expressions.{Like}
 use Rattle.sw_convert_again.specs.Tokens.{Tok, Stands, Begins}
 use Rattle.sw_convert_again.specs.Spells.{Spells}
@@ -52,13 +52,6 @@ called_by_owner source =
 abbrev pub called_by_name : Source → Grammar Part Form
 called_by_name source = build (to_called source) (seq (word source) (arguments_in source))
 
--- special functions
-pub record TextsAgain (source written : Source) (n : ℕ) : Type 0 where
-  pub specials : Again source written n special
-
--- where these are read again over values with fewer brackets that are, all values are, through any number of brackets
+-- all values are read again, through any number of brackets
 abbrev pub ValuesAgain : Type 0
-ValuesAgain =
-    (source written : Source)
-    → ((n : ℕ) → ((m : ℕ) → n ≡ suc m → Again source written m expr) → TextsAgain source written n)
-    → (n : ℕ) → Again source written n expr
+ValuesAgain = (source written : Source) (n : ℕ) → Again source written n expr

@@ -3,3 +3,4 @@ pub mod Lasts
 pub mod Tokens
 pub mod Spells
 pub mod Again
+pub mod RawTexts

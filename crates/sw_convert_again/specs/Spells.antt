@@ -1,6 +1,6 @@
 -- What is written of a value that was read, and of which tokens it was read: the tokens of each kind of value, by those
 -- that the sheet has from a place on up to another.
-use Rattle.std.specs.Prelude.{◌≡◌, ◌⊎◌, ℕ, suc, ◌+◌, ◌-◌, Bool, true, false, if◌then◌else◌, List, [], ◌∷◌, ◌++◌, Some, None}
+use Rattle.std.specs.Prelude.{◌≡◌, ◌⊎◌, ℕ, suc, ◌+◌, ◌-◌, Bool, true, false, if◌then◌else◌, List, [], ◌∷◌, ◌++◌, length, Some, None}
 use Rattle.sw_fixed.specs.Arithmetic.{is_below_zero}
 use Rattle.sw_text.specs.Names.{dashed}
 use Rattle.sw_text.specs.declared.place.Span.{Span}
@@ -22,13 +22,13 @@ use Rattle.sw_parse_terminals.specs.declared.terminal.Terminal.TheVariants as te
 use Rattle.sw_parse_terminals.specs.Numbers.{just}
 use Rattle.sw_parse_table.specs.declared.source.Source.{Source}
 use Rattle.sw_parse_table.specs.declared.operator.Precedence.{Precedence}
-use Rattle.sw_parse_table.specs.Parts.{Part, Inserts}
-use Rattle.sw_parse_table.specs.Sources.{from_at, to_at, bytes_at, bytes_between, decoded_at, parts_between}
+use Rattle.sw_parse_table.specs.Parts.{Part, Inserts, Stands}
+use Rattle.sw_parse_table.specs.Sources.{from_at, to_at, bytes_at, bytes_between, decoded_at, stretch_between, parts_between}
 use Rattle.sw_parse_table.specs.Numerals.{numeral}
 use Rattle.sw_parse_table.specs.Operators.{operator_at, sign_at, constant_at}
-use Rattle.sw_parse_table.specs.Sets.{constants, dollars, bangs, parens_opening, prefixes, operators}
+use Rattle.sw_parse_table.specs.Sets.{constants, dollars, bangs, parens_opening, prefixes, operators, special_texts}
 use Rattle.sw_parse_table.specs.Values.{expression, comma_list, in_parens, in_brackets, qualified_of, argument_of, callee_of, namespaced}
-use Rattle.sw_convert_again.specs.Tokens.{Said, Nothing, Dashed, Decoded, Bytes, Numeral, Plain, Before, All, Between, Behind, text_up_to, text_to_end, Tok, tok, sign, Old}
+use Rattle.sw_convert_again.specs.Tokens.{Said, Nothing, Dashed, Decoded, Bytes, Numeral, Plain, Before, All, Between, Behind, text_up_to, text_to_end, Tok, tok, sign, Old, Parted, Extent, extent, shifted, around}
 
 abbrev pub below_zero : Number → Bool
 below_zero number = elim (number.value) as (λ _. Bool) [ None ↦ false | Some value ↦ is_below_zero value ]
@@ -82,6 +82,19 @@ abbrev pub from_start : Source → ℕ → List Part → ℕ → Said
 from_start source at [] count = All count (text_to_end source (from_at source at) at (at + count))
 from_start source at (insert ∷ inserts) count = Before count (text_up_to source (from_at source at) at (at + count))
 
+-- where values stood in a text that was read
+abbrev pub extents_of : List Part → List Extent
+extents_of [] = []
+extents_of (Inserts from behind value ∷ parts) = extent from behind ∷ extents_of parts
+extents_of (Stands from behind value ∷ parts) = extent from behind ∷ extents_of parts
+extents_of (_ ∷ parts) = extents_of parts
+
+-- what the first token of a text of so many tokens says, of which this was read, and in which values stand so
+abbrev pub text_said : Source → ℕ → ℕ → List Part → List Extent → ℕ → Said
+text_said source at place parts [] count = Plain count (parts_between source at place [])
+text_said source at place parts (one ∷ extents) count =
+    Parted count (one ∷ extents) (around source (stretch_between source at place) (extents_of parts))
+
 mutual
   pub data Spells (source : Source) : ℕ → ℕ → Expr → List Tok → Type 0 where
     number : {i j : ℕ} → (number : Number) (span : Span) → numeral (bytes_between source i j) ≡ number
@@ -109,6 +122,21 @@ mutual
         → Old source k (just terminals.UrlEnd)
         → Spells source i (suc k) (expression (exprs.Url (parts_between source i (suc k) inserts)) span)
         (within (tok terminals.UrlTemplate (from_start source i inserts (suc count))) tokens terminals.UrlEnd)
+    special : {i k : ℕ} {inserts : List Part} {tokens : List Tok} {extents : List Extent} → (span : Span)
+        → Old source i (just terminals.Special) → Old source (suc i) (just terminals.RawParen)
+        → SpellsText source (suc (suc i)) k inserts tokens extents → Old source k (just terminals.RawParenEnd)
+        → Spells source i (suc k) (expression (exprs.Special (parts_between source i (suc k) inserts)) span)
+        (tok terminals.Special (text_said source i (suc k) inserts (shifted 2 extents) (3 + length tokens))
+        ∷ within (sign terminals.RawParen) tokens terminals.RawParenEnd)
+    -- a number in the text of a special function, which stays as it is written
+    stays_number : {i : ℕ} → (span : Span) → Old source i (just terminals.Number)
+        → Spells source i (suc i) (expression (exprs.Special (PlainParts (bytes_between source i (suc i)))) span)
+        (tok terminals.Number (Bytes 1 (bytes_between source i (suc i))) ∷ [])
+    stays_signed : {i : ℕ} → (span : Span) → Old source i (just terminals.Sign)
+        → Old source (suc i) (just terminals.Number)
+        → Spells source i (suc (suc i))
+        (expression (exprs.Special (PlainParts (bytes_between source i (suc (suc i))))) span)
+        (tok terminals.Sign (Bytes 2 (bytes_between source i (suc (suc i)))) ∷ sign terminals.Number ∷ [])
     variable : {i : ℕ} → (span : Span) → Old source i dollars → Old source (suc i) (just terminals.VariableName)
         → Spells source i (suc (suc i)) (expression (exprs.Variable (dashed (bytes_at source (suc i)))) span)
         (dollar ∷ tok terminals.VariableName (Dashed (dashed (bytes_at source (suc i)))) ∷ [])
@@ -274,6 +302,35 @@ mutual
         → Old source c (just terminals.InsertEnd) → SpellsRow source part opening extra (suc c) j inserts count others
         → SpellsRow source part opening extra i j (Inserts i (suc c) value ∷ inserts) 0
         (sign opening ∷ (tokens ++ tok terminals.InsertEnd (behind_insert source c inserts count) ∷ others))
+
+  -- an item of the text of a special function: a token, a value in `#{}`, a value by itself, or brackets around items;
+  -- and where values stand in its tokens
+  pub data SpellsItem (source : Source) : ℕ → ℕ → List Part → List Tok → List Extent → Type 0 where
+    item_token : {i : ℕ} → (old : Old source i special_texts)
+        → SpellsItem source i (suc i) [] (sign old.lexeme.terminal ∷ []) []
+    item_insert : {i c : ℕ} {value : Expr} {tokens : List Tok} → Old source i (just terminals.Insert)
+        → Spells source (suc i) c value tokens → Old source c (just terminals.InsertEnd)
+        → SpellsItem source i (suc c) (Inserts i (suc c) value ∷ [])
+        (within (sign terminals.Insert) tokens terminals.InsertEnd) (extent 0 (2 + length tokens) ∷ [])
+    item_value : {i k : ℕ} {value : Expr} {tokens : List Tok} → Spells source i k value tokens
+        → SpellsItem source i k (Stands i k value ∷ []) tokens (extent 0 (length tokens) ∷ [])
+    item_parens : {i c : ℕ} {parts : List Part} {tokens : List Tok} {extents : List Extent}
+        → Old source i (just terminals.RawParen) → SpellsText source (suc i) c parts tokens extents
+        → Old source c (just terminals.RawParenEnd)
+        → SpellsItem source i (suc c) parts (within (sign terminals.RawParen) tokens terminals.RawParenEnd)
+        (shifted 1 extents)
+    item_brackets : {i c : ℕ} {parts : List Part} {tokens : List Tok} {extents : List Extent}
+        → Old source i (just terminals.RawBracket) → SpellsText source (suc i) c parts tokens extents
+        → Old source c (just terminals.RawBracketEnd)
+        → SpellsItem source i (suc c) parts (within (sign terminals.RawBracket) tokens terminals.RawBracketEnd)
+        (shifted 1 extents)
+
+  -- items one behind the other
+  pub data SpellsText (source : Source) : ℕ → ℕ → List Part → List Tok → List Extent → Type 0 where
+    text_end : {i : ℕ} → SpellsText source i i [] [] []
+    text_more : {i k j : ℕ} {parts more : List Part} {tokens others : List Tok} {extents further : List Extent}
+        → SpellsItem source i k parts tokens extents → SpellsText source k j more others further
+        → SpellsText source i j (parts ++ more) (tokens ++ others) (extents ++ shifted (length tokens) further)
 
   -- an argument: by its name, by its place, and with `...` behind it
   pub data SpellsArgument (source : Source) : ℕ → ℕ → Argument → List Tok → Type 0 where

@@ -4,13 +4,35 @@ use Rattle.sw_parse_grammar.specs.Grammar.{member}
 use Rattle.sw_text.specs.Names.{dashed}
 use Rattle.sw_tree.specs.declared.expr.Number.{Number}
 use Rattle.sw_tree.specs.declared.text.Parts.{Parts}
+use Rattle.sw_tree.specs.declared.text.Piece.{Piece}
 use Rattle.sw_parse_terminals.specs.declared.terminal.Terminal.{Terminal}
 use Rattle.sw_parse_terminals.specs.declared.lexeme.Lexeme.{Lexeme}
 use Rattle.sw_parse_terminals.specs.Numbers.{number_of}
 use Rattle.sw_parse_table.specs.declared.source.Source.{Source}
-use Rattle.sw_parse_table.specs.Sources.{Texts, lexeme_at, from_at, to_at, texts, bytes_at, bytes_between, decoded_at, parts_between}
+use Rattle.sw_parse_table.specs.declared.gap.Stretch.{Stretch}
+use Rattle.sw_parse_table.specs.Sources.{Texts, text_pieces, lexeme_at, from_at, to_at, texts, bytes_at, bytes_between, decoded_at, stretch_between, up_to, behind, parts_between}
 use Rattle.sw_parse_table.specs.Numerals.{numeral}
 use Rattle.sw_parse_table.specs.Sets.{endings}
+
+-- where a value stands in a text: from so many tokens on up to so many
+pub record Extent : Type 0 where
+  pub first : ℕ
+  pub behind : ℕ
+
+abbrev pub extent : ℕ → ℕ → Extent
+extent first behind = record { first = first; behind = behind }
+
+-- the same counted from so many tokens before
+abbrev pub shifted : ℕ → List Extent → List Extent
+shifted by [] = []
+shifted by (one ∷ extents) = extent (by + one.first) (by + one.behind) ∷ shifted by extents
+
+-- the pieces before, between and behind the values of a text
+abbrev pub around : Source → Stretch → List Extent → List (List Piece)
+around source stretch [] = text_pieces (texts source stretch) ∷ []
+around source stretch (one ∷ extents) =
+    text_pieces (texts source (up_to source stretch one.first))
+    ∷ around source (behind source stretch one.behind) extents
 
 -- what of the text that begins with a token is kept in a tree
 pub data Said : Type 0 where
@@ -31,6 +53,8 @@ pub data Said : Type 0 where
   -- behind a `#{}`: so many tokens further are its text up to the next, or to its end
   Between : ℕ → Texts → Said
   Behind : ℕ → Texts → Said
+  -- so many tokens are a text in which values stand so, and these pieces stand before, between and behind them
+  Parted : ℕ → List Extent → List (List Piece) → Said
 
 -- a token as it is written: the terminals that it may be, and what it says
 pub record Tok : Type 0 where
@@ -63,6 +87,8 @@ Says source at (Before count text) = text_up_to source (from_at source at) at (a
 Says source at (All count text) = text_to_end source (from_at source at) at (at + count) ≡ text
 Says source at (Between count text) =
     text_up_to source (to_at source (suc at - 1)) (suc at - 1) (suc at + count) ≡ text
+Says source at (Parted count extents parts) =
+    around source (stretch_between source at (at + count)) (shifted at extents) ≡ parts
 Says source at (Behind count text) =
     text_to_end source (to_at source (suc at - 1)) (suc at - 1) (suc at + count) ≡ text
 

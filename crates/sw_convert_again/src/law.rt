@@ -7,6 +7,7 @@ ghost use Rattle.sw_parse_table.specs.Sources.{text_of};
 ghost use Rattle.sw_parse_table.specs.Table.{forms};
 ghost use Rattle.sw_parse_table.specs.Reads.{reader};
 ghost use Rattle.sw_convert_again.specs.Again.{ValuesAgain};
+ghost use Rattle.sw_convert_again.specs.RawTexts.{RawTextsAgain};
 
 /// A law: where all tokens of a text derive a sheet with so many levels of brackets, the reader answers it.
 pub fn whole_sheets_are_read()
@@ -16,7 +17,13 @@ pub fn whole_sheets_are_read()
 {}
 
 /// A law: what is written of a value that was read is read again as a value like it, through any number of brackets in
-/// each other, where special functions are.
+/// each other.
 pub fn values_are_read_again()
     ensures { ValuesAgain }
+{}
+
+/// A law: wherever the tokens of raw text that was read stand, with the same text before, between and behind the values
+/// in them, they are read as a raw text like it, through any number of brackets in each other.
+pub fn raw_texts_are_read_again()
+    ensures { RawTextsAgain }
 {}

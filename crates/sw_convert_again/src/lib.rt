@@ -4,4 +4,4 @@
 
 mod law;
 
-pub use law::{values_are_read_again, whole_sheets_are_read};
+pub use law::{raw_texts_are_read_again, values_are_read_again, whole_sheets_are_read};
