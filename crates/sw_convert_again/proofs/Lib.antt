@@ -1,6 +1,6 @@
 pub mod Lasts
 mod Ends
-mod Whole
+pub mod Whole
 pub mod Tokens
 pub mod Leaves
 pub mod Templates
@@ -18,3 +18,9 @@ mod Extents
 mod Special
 mod Values
 mod RawTexts
+mod Statements
+mod Variables
+mod Branches
+mod Declarations
+mod Nested
+mod Blocks

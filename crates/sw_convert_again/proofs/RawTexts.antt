@@ -9,8 +9,8 @@ use Rattle.sw_parse_table.specs.Parts.{Part, RawInside, Inserts}
 use Rattle.sw_parse_table.specs.Values.{to_text}
 use Rattle.sw_parse_table.specs.Expressions.{insert}
 use Rattle.sw_parse_table.specs.Statements.{raw_item, raw_inside, raw}
-use Rattle.sw_convert_again.specs.Tokens.{Extent, extent, shifted, Tok, sign, Stands}
-use Rattle.sw_convert_again.specs.Spells.{within}
+use Rattle.sw_convert_again.specs.Tokens.{Said, Nothing, Says, Extent, extent, shifted, Tok, sign, Stands, saying}
+use Rattle.sw_convert_again.specs.Spells.{text_said, within}
 use Rattle.sw_convert_again.specs.Again.{Reads}
 use Rattle.sw_convert_again.specs.RawTexts.{Brackets, parens, squares, braces, SpellsRawItem, SpellsRawText, raw_token, raw_insert, raw_brackets, raw_end, raw_more, IsRawAgain, RawTextsAgain}
 use Rattle.sw_convert_again.proofs.Tokens.{old_of, is_of, split}
@@ -18,11 +18,30 @@ use Rattle.sw_convert_again.proofs.Rows.{Plainly, insert_again}
 use Rattle.sw_convert_again.proofs.Extents.{LikeValues, none, inserted, shift, both, like_text, tokens_long}
 use Rattle.sw_convert_again.proofs.Values.{values_again}
 
+-- the first of these tokens says nothing
+abbrev Unsaid : List Tok → Type 0
+Unsaid [] = ⊥
+Unsaid (token ∷ tokens) = token.said ≡ Nothing
+
+unsaid_more : (tokens others : List Tok) → Unsaid tokens → Unsaid (tokens ++ others)
+unsaid_more [] others u = absurd u
+unsaid_more (token ∷ tokens) others u = u
+
+-- what it says where it says something
+unsaid : (source : Source) (said : Said) (tokens : List Tok) → Unsaid tokens → (p q : ℕ)
+    → Stands source p (saying said tokens) q → Stands source p tokens q × Says source p said
+unsaid source said [] u p q s = absurd u
+unsaid source said (token ∷ tokens) u p q (is, more) = (
+  (record { lexeme = is.lexeme; there = is.there; kind = is.kind; said = subst (Says source p) (sym u) tt }, more),
+  is.said,
+)
+
 module _ (source written : Source) where
   record ItemAgain (n i k : ℕ) (u : List Part) : Type 0 where
     tokens : List Tok
     extents : List Extent
     spells : SpellsRawItem source i k u tokens extents
+    unsaid : Unsaid tokens
     back : (p q : ℕ) → Stands written p tokens q
         → (found : List Part) × Reads written n (raw_item written) p q found × LikeValues p u found extents
 
@@ -78,6 +97,7 @@ module _ (source written : Source) where
         extents = shifted 1 text.extents;
         spells = subst (λ (x : ℕ). SpellsRawItem source i x u tokens (shifted 1 text.extents)) (sym e)
             (raw_brackets kind opened text.spells closed);
+        unsaid = refl;
         back = λ p q stand.
             let (place, left, right) = split written q text.tokens (sign closing ∷ []) (suc p) stand.1 in
             let (f, reads, liked) = text.back (suc p) place left in
@@ -104,6 +124,7 @@ module _ (source written : Source) where
         extents = [];
         spells = subst (λ (x : List Part). SpellsRawItem source i k x (token ∷ []) []) (sym e2)
             (subst (λ (x : ℕ). SpellsRawItem source i x [] (token ∷ []) []) (sym e1) (raw_token old));
+        unsaid = refl;
         back = λ p q stand. (
           [],
           inl (is_of written p token (just terminals.Raw) stand.0 refl, sym stand.1, refl),
@@ -128,6 +149,7 @@ module _ (source written : Source) where
         spells = subst (λ (x : List Part). SpellsRawItem source i k x tokens extents) (sym one.is)
             (subst (λ (x : ℕ). SpellsRawItem source i x (Inserts i (suc one.c) one.value ∷ []) tokens extents) (sym one.end)
             (raw_insert one.opened one.spells one.closed));
+        unsaid = refl;
         back = λ p q stand.
             let (place, left, right) = split written q one.tokens (sign terminals.InsertEnd ∷ []) (suc p) stand.1 in
             let (f, reads, liked) = one.back p place left
@@ -159,7 +181,9 @@ module _ (source written : Source) where
         tokens = one.tokens ++ rest.tokens;
         extents = one.extents ++ shifted (length one.tokens) rest.extents;
         spells = raw_more one.spells rest.spells;
-        back = λ p q stand said.
+        back = λ p q told.
+            let (stand, said) = unsaid written (text_said source i j values (one.extents ++ shifted (length one.tokens) rest.extents)
+            (length (one.tokens ++ rest.tokens))) (one.tokens ++ rest.tokens) (unsaid_more one.tokens rest.tokens one.unsaid) p q told in
             let (place, left, right) = split written q one.tokens rest.tokens p stand in
             let (f, reads, liked) = one.back p place left in
             let (g, others, more) = rest.back place q right in

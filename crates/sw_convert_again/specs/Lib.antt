@@ -4,3 +4,4 @@ pub mod Tokens
 pub mod Spells
 pub mod Again
 pub mod RawTexts
+pub mod Statements

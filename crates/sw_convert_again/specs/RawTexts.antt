@@ -10,7 +10,7 @@ use Rattle.sw_parse_table.specs.Parts.{Part, Inserts, Texts}
 use Rattle.sw_parse_table.specs.Sources.{parts_between, text_between}
 use Rattle.sw_parse_table.specs.Statements.{raw}
 use Rattle.sw_convert_alike.specs.Expressions.{LikeParts}
-use Rattle.sw_convert_again.specs.Tokens.{Extent, extent, shifted, Tok, sign, Says, Stands, Old}
+use Rattle.sw_convert_again.specs.Tokens.{Extent, extent, shifted, Tok, sign, Stands, Old, saying}
 use Rattle.sw_convert_again.specs.Spells.{Spells, text_said, within}
 use Rattle.sw_convert_again.specs.Again.{Reads}
 
@@ -41,6 +41,10 @@ mutual
         → SpellsRawItem source i k parts tokens extents → SpellsRawText source k j more others further
         → SpellsRawText source i j (parts ++ more) (tokens ++ others) (extents ++ shifted (length tokens) further)
 
+-- the tokens of a raw text, of which the first says what the text is
+abbrev pub raw_tokens : Source → ℕ → ℕ → List Part → List Extent → List Tok → List Tok
+raw_tokens source i j values extents tokens = saying (text_said source i j values extents (length tokens)) tokens
+
 -- what was read is one raw text, it has tokens, and where these stand with its text they are read as one like it
 pub record IsRawAgain (source written : Source) (n i j : ℕ) (w : List Part) : Type 0 where
   pub values : List Part
@@ -48,7 +52,7 @@ pub record IsRawAgain (source written : Source) (n i j : ℕ) (w : List Part) : 
   pub tokens : List Tok
   pub extents : List Extent
   pub spells : SpellsRawText source i j values tokens extents
-  pub back : (p q : ℕ) → Stands written p tokens q → Says written p (text_said source i j values extents (length tokens))
+  pub back : (p q : ℕ) → Stands written p (raw_tokens source i j values extents tokens) q
       → (found : List Part) × Reads written n (raw written) p q (Texts (text_between written p q found) ∷ [])
       × LikeParts (parts_between source i j values) (parts_between written p q found)
 

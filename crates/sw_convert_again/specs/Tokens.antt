@@ -123,3 +123,8 @@ calm (terminal ∷ rest) = not (member (number_of terminal) endings) && calm res
 abbrev pub Begins : List Tok → Type 0
 Begins [] = ⊥
 Begins (token ∷ tokens) = calm token.kinds ≡ true
+
+-- the same tokens, of which the first says this
+abbrev pub saying : Said → List Tok → List Tok
+saying said [] = []
+saying said (token ∷ tokens) = record { kinds = token.kinds; said = said } ∷ tokens

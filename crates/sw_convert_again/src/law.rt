@@ -8,6 +8,7 @@ ghost use Rattle.sw_parse_table.specs.Table.{forms};
 ghost use Rattle.sw_parse_table.specs.Reads.{reader};
 ghost use Rattle.sw_convert_again.specs.Again.{ValuesAgain};
 ghost use Rattle.sw_convert_again.specs.RawTexts.{RawTextsAgain};
+ghost use Rattle.sw_convert_again.specs.Statements.{BlocksAgain, LinesAgain, NestedAgain, SheetsAgain, StatementsAgain};
 
 /// A law: where all tokens of a text derive a sheet with so many levels of brackets, the reader answers it.
 pub fn whole_sheets_are_read()
@@ -26,4 +27,20 @@ pub fn values_are_read_again()
 /// in them, they are read as a raw text like it, through any number of brackets in each other.
 pub fn raw_texts_are_read_again()
     ensures { RawTextsAgain }
+{}
+
+/// A law: statements that are made of one value, of raw text or of neither are read again, as statements like them; those
+/// with a block where their blocks are.
+pub fn statements_are_read_again()
+    ensures lines { (source written : Source) (levels : ℕ) → LinesAgain source written levels }
+    ensures nested { (source written : Source) (levels : ℕ) → BlocksAgain source written levels
+        → NestedAgain source written levels }
+{}
+
+/// A law: a block is read again where its statements are, and so is a whole sheet: where all tokens of a text are those
+/// that are written of it, the reader answers a sheet like it.
+pub fn sheets_are_read_again()
+    ensures blocks { (source written : Source) (levels : ℕ)
+        → ((fewer : ℕ) → levels ≡ suc fewer → StatementsAgain source written fewer) → BlocksAgain source written levels }
+    ensures sheets { SheetsAgain }
 {}
