@@ -253,20 +253,20 @@ module _ (source written : Source) (n : ℕ) (operand : Again source written n s
 
 -- calls
 module _ (source written : Source) where
-  record CallAgain (n : ℕ) (k j : ℕ) (w : List Part) : Type 0 where
-    values : List Argument
-    is : w ≡ Arguments values ∷ []
-    c : ℕ
-    end : j ≡ suc c
-    opened : Old source k (just terminals.CallParen)
-    closed : Old source c (just terminals.ParenEnd)
-    tokens : List Tok
-    spells : SpellsArguments source (suc k) c values tokens
-    back : (p q : ℕ) → Stands written p (call_tokens tokens) q
+  pub record CallAgain (n : ℕ) (k j : ℕ) (w : List Part) : Type 0 where
+    pub values : List Argument
+    pub is : w ≡ Arguments values ∷ []
+    pub c : ℕ
+    pub end : j ≡ suc c
+    pub opened : Old source k (just terminals.CallParen)
+    pub closed : Old source c (just terminals.ParenEnd)
+    pub tokens : List Tok
+    pub spells : SpellsArguments source (suc k) c values tokens
+    pub back : (p q : ℕ) → Stands written p (call_tokens tokens) q
         → (found : List Argument) × Reads written n (arguments_in written) p q (Arguments found ∷ [])
         × LikeArguments values found
 
-  call_again : (n : ℕ) → ((m : ℕ) → n ≡ suc m → Again source written m space) → (k j : ℕ) (w : List Part)
+  pub call_again : (n : ℕ) → ((m : ℕ) → n ≡ suc m → Again source written m space) → (k j : ℕ) (w : List Part)
       → Reads source n (arguments_in source) k j w → CallAgain n k j w
   unfolding arguments_in
   call_again zero deep k j w (m1, c, d, m2, e) = absurd d

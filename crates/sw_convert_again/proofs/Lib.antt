@@ -20,6 +20,13 @@ mod Values
 mod RawTexts
 mod Statements
 mod Variables
+mod Customs
+mod Contents
+mod Loops
+mod AtRules
+mod Params
+mod Callables
+mod Includes
 mod Branches
 mod Declarations
 mod Nested

@@ -18,7 +18,7 @@ use Rattle.sw_parse_table.specs.Parts.{Part, Form, Behind, Blocks, States, Texts
 use Rattle.sw_parse_table.specs.Sources.{terminal_at, span_between, text_between}
 use Rattle.sw_parse_table.specs.Actions.{to_behind, to_while, to_supports, to_rule, to_import, to_extend, to_return, to_say}
 use Rattle.sw_parse_table.specs.Expressions.{expr}
-use Rattle.sw_parse_table.specs.Statements.{finish, set, raw, rule, supports, import, extend, charset, return, warn, debug, error, while_}
+use Rattle.sw_parse_table.specs.Statements.{finish, set, assigned, custom, content, raw, rule, supports, import, extend, charset, assigned, return, warn, debug, error, while_}
 use Rattle.sw_convert_alike.specs.Expressions.{Like}
 use Rattle.sw_convert_alike.specs.Statements.{LikeStatement, LikeRaw, LikeBlock}
 use Rattle.sw_convert_alike.specs.Statements as alike
@@ -189,10 +189,15 @@ module _ (source written : Source) (n : ℕ) where
         };
       }
 
-  pub lines_again : StatementAgain source written n set → LinesAgain source written n
+  pub lines_again : StatementAgain source written n set → StatementAgain source written n assigned
+      → StatementAgain source written n custom
+      → StatementAgain source written n content → LinesAgain source written n
   unfolding return warn debug error import extend
-  lines_again variables = record {
+  lines_again variables assignments customs contents = record {
     variables = variables;
+    assignments = assignments;
+    customs = customs;
+    contents = contents;
     returns = value_again to_return terminals.AtReturn (record { here = refl; own = refl })
         (λ e s. statements.Return (record { value = e; span = s })) (λ s at behind e. refl) (λ a b s t l. alike.return l)
         (λ i k j e tokens s o x z. return_line s o x z);

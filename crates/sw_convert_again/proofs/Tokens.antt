@@ -23,7 +23,7 @@ not_true : (b : Bool) → not b ≡ true → b ≡ false
 not_true true e = absurd (cc)
 not_true false e = refl
 
-unless : (b : Bool) → (b ≡ true → ⊥) → b ≡ false
+pub unless : (b : Bool) → (b ≡ true → ⊥) → b ≡ false
 unless true n = absurd (n refl)
 unless false n = refl
 
@@ -125,6 +125,10 @@ module _ (source written : Source) (i p : ℕ) (set : List ℕ) (old : Old sourc
   pub of_set : member (terminal_at written p) set ≡ true
   of_set =
       ap (λ (k : ℕ). member k set) (kind_is written p is.lexeme is.there ∙ ap number_of terminal_same) ∙ old.kind
+
+  pub number_same : terminal_at written p ≡ terminal_at source i
+  number_same =
+      kind_is written p is.lexeme is.there ∙ ap number_of terminal_same ∙ sym (kind_is source i old.lexeme old.there)
 
   pub operator_same : operator_at written p ≡ operator_at source i
   operator_same = ap operator_in is.there ∙ ap operator_of terminal_same ∙ sym (ap operator_in old.there)

@@ -101,3 +101,6 @@ module _ (source written : Source) where
 
 pub values_again : ValuesAgain
 values_again source written n = expr_again source written n (claims source written n).spaces
+
+pub spaces_again : (source written : Source) (n : ℕ) → Again source written n space
+spaces_again source written n = (claims source written n).spaces

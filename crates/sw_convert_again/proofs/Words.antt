@@ -25,10 +25,10 @@ module _ (source written : Source) where
 
   module _ (n : ℕ) (deep : (m : ℕ) → n ≡ suc m → Again source written m expr) where
     -- what goes on with a word
-    abbrev WordRow : ℕ → ℕ → List Part → Type 0
+    abbrev pub WordRow : ℕ → ℕ → List Part → Type 0
     WordRow s j w = RowAgain source written terminals.Part terminals.PartInsert (λ x. x) 0 n s j w
 
-    go_on : {s j : ℕ} {w : List Part} → Row (Reads source n (word_part source)) s j w → WordRow s j w
+    pub go_on : {s j : ℕ} {w : List Part} → Row (Reads source n (word_part source)) s j w → WordRow s j w
     unfolding word_part part_insert
     go_on row =
         row_again source written terminals.Part terminals.PartInsert (record { here = refl; own = refl })

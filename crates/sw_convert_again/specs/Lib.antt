@@ -4,4 +4,5 @@ pub mod Tokens
 pub mod Spells
 pub mod Again
 pub mod RawTexts
+pub mod Params
 pub mod Statements

@@ -1,10 +1,15 @@
--- What is written of a statement that was read, and of which tokens it was read: of those that are made of one value, of
--- raw text, or of neither, with a block or without one.
-use Rattle.std.specs.Prelude.{◌≡◌, ℕ, suc, List, [], ◌∷◌, ◌++◌, map, length, Bool, true, false, Option, Some, None}
+-- What is written of a statement that was read, and of which tokens it was read: of those that are made of names, of
+-- values and of raw text, with a block or without one.
+use Rattle.std.specs.Prelude.{◌≡◌, ℕ, suc, ◌+◌, List, [], ◌∷◌, ◌++◌, map, length, Bool, true, false, Option, Some, None}
 use Rattle.sw_parse_grammar.specs.Grammar.{Grammar, Row, Derives, Got}
 use Rattle.sw_text.specs.declared.place.Span.{Span}
+use Rattle.sw_tree.specs.declared.callable.Kind.TheVariants as kinds
+use Rattle.sw_tree.specs.declared.callable.Params.{Params}
+use Rattle.sw_tree.specs.declared.expr.Argument.{Argument}
 use Rattle.sw_tree.specs.declared.expr.Expr.{Expr}
+use Rattle.sw_tree.specs.declared.expr.Namespaced.{Namespaced}
 use Rattle.sw_tree.specs.declared.text.Parts.{Parts}
+use Rattle.sw_tree.specs.declared.text.Text.{Text}
 use Rattle.sw_tree.specs.declared.statement.Branch.{Branch}
 use Rattle.sw_tree.specs.declared.statement.Flags.{Flags}
 use Rattle.sw_tree.specs.declared.statement.Level.{Level}
@@ -15,16 +20,18 @@ use Rattle.sw_parse_terminals.specs.declared.terminal.Terminal.{Terminal}
 use Rattle.sw_parse_terminals.specs.declared.terminal.Terminal.TheVariants as terminals
 use Rattle.sw_parse_terminals.specs.Numbers.{just, these}
 use Rattle.sw_parse_table.specs.declared.source.Source.{Source}
-use Rattle.sw_parse_table.specs.Parts.{Part, Form, Whole, Blocks, States}
-use Rattle.sw_parse_table.specs.Sources.{text_of, text_between}
+use Rattle.sw_parse_table.specs.Parts.{Part, Form, Whole, Inserts, Blocks, States}
+use Rattle.sw_parse_table.specs.Sources.{text_of, bytes_at, from_at, parts_between, text_between}
 use Rattle.sw_parse_table.specs.Sets.{dollars, endings}
-use Rattle.sw_parse_table.specs.Actions.{branch_of, name_at, flags_at}
-use Rattle.sw_parse_table.specs.Statements.{block, set, declaration, rule, supports, at_root, import, extend, charset, return, warn, debug, error, if_, while_, statement}
+use Rattle.sw_parse_table.specs.Values.{qualified_of}
+use Rattle.sw_parse_table.specs.Actions.{branch_of, mixin_of, name_at, names_at, stands_at, flags_at}
+use Rattle.sw_parse_table.specs.Statements.{block, set, assigned, declaration, custom, rule, supports, at_root, import, extend, charset, return, warn, debug, error, if_, each, for_, while_, at, function, mixin, include, content, statement}
 use Rattle.sw_parse_table.specs.Table.{forms}
 use Rattle.sw_parse_table.specs.Reads.{reader}
 use Rattle.sw_convert_alike.specs.Statements.{LikeStatement, LikeBlock}
-use Rattle.sw_convert_again.specs.Tokens.{Dashed, Extent, Tok, tok, sign, Stands, Old}
-use Rattle.sw_convert_again.specs.Spells.{Spells, SpellsWord, within}
+use Rattle.sw_convert_again.specs.Tokens.{Dashed, Bytes, Before, Extent, text_up_to, Tok, tok, sign, Stands, Old}
+use Rattle.sw_convert_again.specs.Spells.{Spells, SpellsWord, SpellsRow, SpellsArguments, behind_insert, from_start, call_tokens, within}
+use Rattle.sw_convert_again.specs.Params.{dollar_tokens, SpellsHeadParams, SpellsOptionalParams, SpellsMixinName, SpellsUsing}
 use Rattle.sw_convert_again.specs.RawTexts.{SpellsRawText, raw_tokens}
 use Rattle.sw_convert_again.specs.Again.{Reads}
 
@@ -37,12 +44,69 @@ pub data Ended (source : Source) : ℕ → ℕ → Type 0 where
 abbrev pub ended : List Tok → List Tok
 ended tokens = tokens ++ sign terminals.Semicolon ∷ []
 
--- flags behind a value, by the places of their names
-pub data OldFlags (source : Source) : ℕ → ℕ → List ℕ → Type 0 where
-  no_flags : {i : ℕ} → OldFlags source i i []
-  more_flags : {i j : ℕ} {places : List ℕ} → Old source i endings
-      → Old source (suc i) (these (terminals.Default ∷ terminals.Global ∷ []))
-      → OldFlags source (suc (suc i)) j places → OldFlags source i j (suc i ∷ places)
+-- a name that begins with a token of its own, and goes on as a word does
+pub data SpellsName (source : Source) (first : Terminal) : ℕ → ℕ → Parts → List Tok → Type 0 where
+  name_row : {i j count : ℕ} {inserts : List Part} {tokens : List Tok} → Old source i (just first)
+      → SpellsRow source terminals.Part terminals.PartInsert 0 (suc i) j inserts count tokens
+      → SpellsName source first i j (parts_between source i j inserts)
+      (tok first (from_start source i inserts (suc count)) ∷ tokens)
+
+-- the name of an at-rule: with its `@`, or an `@` before a `#{}`, with a `-` between them or not
+pub data SpellsAtName (source : Source) : ℕ → ℕ → Parts → List Tok → Type 0 where
+  at_word : {i j : ℕ} {parts : Parts} {tokens : List Tok} → SpellsName source terminals.AtOther i j parts tokens
+      → SpellsAtName source i j parts tokens
+  at_insert : {i c j count : ℕ} {value : Expr} {inserts : List Part} {tokens others : List Tok}
+      → Old source i (just terminals.AtInsert) → Old source (suc i) (just terminals.WordInsert)
+      → Spells source (suc (suc i)) c value tokens → Old source c (just terminals.InsertEnd)
+      → SpellsRow source terminals.Part terminals.PartInsert 0 (suc c) j inserts count others
+      → SpellsAtName source i j (parts_between source i j (Inserts (suc i) (suc c) value ∷ inserts))
+      (tok terminals.AtInsert (Before 1 (text_up_to source (from_at source i) i (i + 1))) ∷ sign terminals.WordInsert
+      ∷ (tokens ++ tok terminals.InsertEnd (behind_insert source c inserts count) ∷ others))
+  at_minus : {i c j count : ℕ} {value : Expr} {inserts : List Part} {tokens others : List Tok}
+      → Old source i (just terminals.AtInsert) → Old source (suc i) (just terminals.WordMinus)
+      → Old source (suc (suc i)) (just terminals.WordInsert)
+      → Spells source (suc (suc (suc i))) c value tokens → Old source c (just terminals.InsertEnd)
+      → SpellsRow source terminals.Part terminals.PartInsert 0 (suc c) j inserts count others
+      → SpellsAtName source i j (parts_between source i j (Inserts (suc (suc i)) (suc c) value ∷ inserts))
+      (tok terminals.AtInsert (Before 2 (text_up_to source (from_at source i) i (i + 2))) ∷ sign terminals.WordMinus
+      ∷ sign terminals.WordInsert
+      ∷ (tokens ++ tok terminals.InsertEnd (behind_insert source c inserts count) ∷ others))
+
+-- raw text, where there is any
+pub data SpellsOptionalRaw (source : Source) : ℕ → ℕ → Option Text → List Tok → Type 0 where
+  no_raw : {i : ℕ} → SpellsOptionalRaw source i i None []
+  some_raw : {i j : ℕ} {values : List Part} {tokens : List Tok} {extents : List Extent}
+      → SpellsRawText source i j values tokens extents
+      → SpellsOptionalRaw source i j (Some (text_between source i j values))
+      (raw_tokens source i j values extents tokens)
+
+-- arguments in parentheses, where there are any
+pub data SpellsGiven (source : Source) : ℕ → ℕ → List Argument → List Tok → Type 0 where
+  no_parens : {i : ℕ} → SpellsGiven source i i [] []
+  empty_parens : {i : ℕ} → Old source i (just terminals.CallParen) → Old source (suc i) (just terminals.ParenEnd)
+      → SpellsGiven source i (suc (suc i)) [] []
+  some_given : {i c : ℕ} {argument : Argument} {arguments : List Argument} {tokens : List Tok}
+      → Old source i (just terminals.CallParen)
+      → SpellsArguments source (suc i) c (argument ∷ arguments) tokens → Old source c (just terminals.ParenEnd)
+      → SpellsGiven source i (suc c) (argument ∷ arguments) (call_tokens tokens)
+
+-- names of variables with a comma before each, by their places
+pub data SpellsNames (source : Source) : ℕ → ℕ → List ℕ → List Tok → Type 0 where
+  no_names : {i : ℕ} → SpellsNames source i i [] []
+  more_names : {i j : ℕ} {places : List ℕ} {tokens : List Tok} → Old source i (just terminals.Comma)
+      → Old source (suc i) dollars → Old source (suc (suc i)) (just terminals.VariableName)
+      → SpellsNames source (suc (suc (suc i))) j places tokens
+      → SpellsNames source i j (suc (suc i) ∷ places)
+      (sign terminals.Comma ∷ (dollar_tokens (name_at source (suc (suc i))) ++ tokens))
+
+-- flags behind a value, by the places of their names, which are of a set
+pub data OldFlags (source : Source) (names : List ℕ) : ℕ → ℕ → List ℕ → Type 0 where
+  no_flags : {i : ℕ} → OldFlags source names i i []
+  more_flags : {i j : ℕ} {places : List ℕ} → Old source i endings → Old source (suc i) names
+      → OldFlags source names (suc (suc i)) j places → OldFlags source names i j (suc i ∷ places)
+
+abbrev pub any_flag : List ℕ
+any_flag = these (terminals.Default ∷ terminals.Global ∷ [])
 
 -- each is written once
 abbrev pub flag_if : Bool → Terminal → List Tok
@@ -75,7 +139,7 @@ mutual
     variable_line : {i k f j : ℕ} {value : Expr} {tokens : List Tok} {places : List ℕ} → (span : Span)
         → Old source i dollars → Old source (suc i) (just terminals.VariableName)
         → Old source (suc (suc i)) (just terminals.Colon) → Spells source (suc (suc (suc i))) k value tokens
-        → OldFlags source k f places → Ended source f j
+        → OldFlags source any_flag k f places → Ended source f j
         → SpellsStatement source i j
         (statements.Variable (record {
           name = name_at source (suc i);
@@ -85,6 +149,24 @@ mutual
         }))
         (ended (sign terminals.DollarNamed ∷ tok terminals.VariableName (Dashed (name_at source (suc i)))
         ∷ sign terminals.Colon ∷ (tokens ++ flag_tokens (flags_at source places))))
+    assignment_line : {i k f j : ℕ} {value : Expr} {tokens : List Tok} {places : List ℕ} → (span target_span : Span)
+        → Old source i (just terminals.Owner) → Old source (suc i) (just terminals.OwnerDot)
+        → Old source (suc (suc i)) (just terminals.OwnerDollar)
+        → Old source (suc (suc (suc i))) (just terminals.VariableName)
+        → Old source (suc (suc (suc (suc i)))) (just terminals.Colon)
+        → Spells source (suc (suc (suc (suc (suc i))))) k value tokens
+        → OldFlags source (just terminals.Default) k f places → Ended source f j
+        → SpellsStatement source i j
+        (statements.Assignment (record {
+          target = qualified_of source i (suc (suc (suc i)));
+          target_span = target_span;
+          value = value;
+          flags = flags_at source places;
+          span = span;
+        }))
+        (ended (tok terminals.Owner (Bytes 1 (bytes_at source i)) ∷ sign terminals.OwnerDot ∷ sign terminals.OwnerDollar
+        ∷ tok terminals.VariableName (Dashed (name_at source (suc (suc (suc i))))) ∷ sign terminals.Colon
+        ∷ (tokens ++ flag_if (flags_at source places).default terminals.Default)))
     import_line : {i k j : ℕ} {values : List Part} {tokens : List Tok} {extents : List Extent} → (span : Span)
         → Old source i (just terminals.AtImport) → SpellsRawText source (suc i) k values tokens extents
         → Ended source k j
@@ -97,6 +179,11 @@ mutual
         → SpellsStatement source i j
         (statements.Extend (record { text = text_between source (suc i) k values; span = span }))
         (ended (sign terminals.AtExtend ∷ raw_tokens source (suc i) k values extents tokens))
+    content_line : {i k j : ℕ} {arguments : List Argument} {tokens : List Tok} → (span : Span)
+        → Old source i (just terminals.AtContent) → SpellsGiven source (suc i) k arguments tokens → Ended source k j
+        → SpellsStatement source i j
+        (statements.Content (record { arguments = arguments; span = span }))
+        (ended (sign terminals.AtContent ∷ tokens))
     charset_line : {i j : ℕ} → (span : Span) → Old source i (just terminals.AtCharset)
         → Old source (suc i) (just terminals.Plain) → Ended source (suc (suc i)) j
         → SpellsStatement source i j (statements.Charset span)
@@ -108,6 +195,66 @@ mutual
         (statements.Declaration
         (record { property = record { parts = parts; span = text_span }; value = value; span = span }))
         (ended (tokens ++ sign terminals.Colon ∷ others))
+    custom_line : {i c k j : ℕ} {parts : Parts} {value : Option Text} {tokens others : List Tok}
+        → (span text_span : Span) → SpellsName source terminals.Custom i c parts tokens
+        → Old source c (just terminals.Colon) → SpellsOptionalRaw source (suc c) k value others → Ended source k j
+        → SpellsStatement source i j
+        (statements.Custom (record { property = record { parts = parts; span = text_span }; value = value; span = span }))
+        (ended (tokens ++ sign terminals.Colon ∷ others))
+    function_block : {i k j : ℕ} {params : Params} {block : List Statement} {tokens others : List Tok} → (span : Span)
+        → Old source i (just terminals.AtFunction) → Old source (suc i) (just terminals.Named)
+        → SpellsHeadParams source (suc (suc i)) k params tokens → SpellsBlock source k j block others
+        → SpellsStatement source i j
+        (statements.Callable (record {
+          kind = kinds.Function;
+          name = name_at source (suc i);
+          params = params;
+          block = block;
+          span = span;
+        }))
+        (sign terminals.AtFunction ∷ tok terminals.Named (Dashed (name_at source (suc i))) ∷ (tokens ++ others))
+    mixin_block : {i k j : ℕ} {params : Params} {block : List Statement} {tokens others : List Tok} → (span : Span)
+        → Old source i (just terminals.AtMixin) → Old source (suc i) (just terminals.Named)
+        → SpellsOptionalParams source (suc (suc i)) k params tokens → SpellsBlock source k j block others
+        → SpellsStatement source i j
+        (statements.Callable (record {
+          kind = kinds.Mixin;
+          name = name_at source (suc i);
+          params = params;
+          block = block;
+          span = span;
+        }))
+        (sign terminals.AtMixin ∷ tok terminals.Named (Dashed (name_at source (suc i))) ∷ (tokens ++ others))
+    include_line : {i c m k j : ℕ} {namespace : Option Namespaced} {name : ℕ} {arguments : List Argument} {params : Params}
+        {tokens others more : List Tok} → (span name_span : Span) → Old source i (just terminals.AtInclude)
+        → SpellsMixinName source (suc i) c namespace name tokens → SpellsGiven source c m arguments others
+        → SpellsUsing source m k params more → Ended source k j
+        → SpellsStatement source i j
+        (statements.Include (mixin_of source namespace name name_span arguments) None span)
+        (ended (sign terminals.AtInclude ∷ (tokens ++ others)))
+    include_block : {i c m k j : ℕ} {namespace : Option Namespaced} {name : ℕ} {arguments : List Argument} {params : Params}
+        {block : List Statement} {tokens others more last : List Tok} → (span name_span : Span)
+        → Old source i (just terminals.AtInclude)
+        → SpellsMixinName source (suc i) c namespace name tokens → SpellsGiven source c m arguments others
+        → SpellsUsing source m k params more → SpellsBlock source k j block last
+        → SpellsStatement source i j
+        (statements.Include (mixin_of source namespace name name_span arguments)
+        (Some (record { params = params; block = block })) span)
+        (sign terminals.AtInclude ∷ (tokens ++ (others ++ (more ++ last))))
+    at_rule_line : {i c k j : ℕ} {parts : Parts} {prelude : Option Text} {tokens others : List Tok}
+        → (span text_span : Span) → SpellsAtName source i c parts tokens
+        → SpellsOptionalRaw source c k prelude others → Ended source k j
+        → SpellsStatement source i j
+        (statements.AtRule
+        (record { name = record { parts = parts; span = text_span }; prelude = prelude; block = None; span = span }))
+        (ended (tokens ++ others))
+    at_rule_block : {i c k j : ℕ} {parts : Parts} {prelude : Option Text} {block : List Statement}
+        {tokens others more : List Tok} → (span text_span : Span) → SpellsAtName source i c parts tokens
+        → SpellsOptionalRaw source c k prelude others → SpellsBlock source k j block more
+        → SpellsStatement source i j
+        (statements.AtRule (record
+        { name = record { parts = parts; span = text_span }; prelude = prelude; block = Some block; span = span }))
+        (tokens ++ (others ++ more))
     properties_block : {i c j : ℕ} {parts : Parts} {block : List Statement} {tokens others : List Tok}
         → (span text_span : Span) → SpellsWord source i c parts tokens → Old source c (just terminals.Colon)
         → SpellsBlock source (suc c) j block others
@@ -135,6 +282,37 @@ mutual
         (statements.AtRoot
         (record { selector = Some (text_between source (suc i) k values); block = block; span = span }))
         (sign terminals.AtRoot ∷ (raw_tokens source (suc i) k values extents tokens ++ others))
+    each_block : {i c k j : ℕ} {places : List ℕ} {value : Expr} {block : List Statement}
+        {tokens others more : List Tok} → (span : Span)
+        → Old source i (just terminals.AtEach) → Old source (suc i) dollars
+        → Old source (suc (suc i)) (just terminals.VariableName)
+        → SpellsNames source (suc (suc (suc i))) c places tokens → Old source c (just terminals.In)
+        → Spells source (suc c) k value others → SpellsBlock source k j block more
+        → SpellsStatement source i j
+        (statements.Each (record {
+          names = names_at source (suc (suc i) ∷ places);
+          value = value;
+          block = block;
+          span = span;
+        }))
+        (sign terminals.AtEach ∷ (dollar_tokens (name_at source (suc (suc i)))
+        ++ (tokens ++ sign terminals.In ∷ (others ++ more))))
+    for_block : {i c k j : ℕ} {from to : Expr} {block : List Statement} {tokens others more : List Tok} → (span : Span)
+        → Old source i (just terminals.AtFor) → Old source (suc i) dollars
+        → Old source (suc (suc i)) (just terminals.VariableName)
+        → Old source (suc (suc (suc i))) (just terminals.From)
+        → Spells source (suc (suc (suc (suc i)))) c from tokens
+        → (old : Old source c (these (terminals.Through ∷ terminals.To ∷ [])))
+        → Spells source (suc c) k to others → SpellsBlock source k j block more
+        → SpellsStatement source i j
+        (statements.For (record {
+          name = name_at source (suc (suc i));
+          bounds = record { from = from; to = to; through = stands_at source c terminals.Through };
+          block = block;
+          span = span;
+        }))
+        (sign terminals.AtFor ∷ (dollar_tokens (name_at source (suc (suc i)))
+        ++ sign terminals.From ∷ (tokens ++ sign old.lexeme.terminal ∷ (others ++ more))))
     while_block : {i k j : ℕ} {value : Expr} {block : List Statement} {tokens others : List Tok} → (span : Span)
         → Old source i (just terminals.AtWhile) → Spells source (suc i) k value tokens
         → SpellsBlock source k j block others
@@ -224,6 +402,9 @@ BlocksAgain source written n =
 -- statements without a block
 pub record LinesAgain (source written : Source) (n : ℕ) : Type 0 where
   pub variables : StatementAgain source written n set
+  pub assignments : StatementAgain source written n assigned
+  pub customs : StatementAgain source written n custom
+  pub contents : StatementAgain source written n content
   pub returns : StatementAgain source written n return
   pub warns : StatementAgain source written n warn
   pub debugs : StatementAgain source written n debug
@@ -235,11 +416,17 @@ pub record LinesAgain (source written : Source) (n : ℕ) : Type 0 where
 -- statements with one
 pub record NestedAgain (source written : Source) (n : ℕ) : Type 0 where
   pub ifs : StatementAgain source written n if_
+  pub eaches : StatementAgain source written n each
+  pub fors : StatementAgain source written n for_
   pub whiles : StatementAgain source written n while_
   pub supports : StatementAgain source written n supports
   pub rules : StatementAgain source written n rule
+  pub functions : StatementAgain source written n function
+  pub mixins : StatementAgain source written n mixin
+  pub includes : StatementAgain source written n include
   pub at_roots : StatementAgain source written n at_root
-  -- with a value, a block or both
+  -- with a block or without one, and with a value, a block or both
+  pub at_rules : StatementAgain source written n at
   pub declarations : StatementAgain source written n declaration
 
 -- what was read is a list of statements, one or none, it has tokens, and wherever these stand they are read as one like it

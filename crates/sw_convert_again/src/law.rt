@@ -29,8 +29,9 @@ pub fn raw_texts_are_read_again()
     ensures { RawTextsAgain }
 {}
 
-/// A law: statements that are made of one value, of raw text or of neither are read again, as statements like them; those
-/// with a block where their blocks are.
+/// A law: variables, custom properties, messages, `@return`, `@content`, `@import`, `@extend` and `@charset` are read
+/// again, as statements like them; and so are rules, declarations, `@if`, `@each`, `@for`, `@while`, functions, mixins,
+/// `@include`, `@supports`, `@at-root` and at-rules of CSS where the blocks in the sheet are.
 pub fn statements_are_read_again()
     ensures lines { (source written : Source) (levels : ℕ) → LinesAgain source written levels }
     ensures nested { (source written : Source) (levels : ℕ) → BlocksAgain source written levels
