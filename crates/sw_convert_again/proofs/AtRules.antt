@@ -22,7 +22,8 @@ use Rattle.sw_convert_alike.proofs.AsTheyStand.{raw_as_it_stands}
 use Rattle.sw_convert_again.specs.Tokens.{Before, text_up_to, Tok, tok, sign, Stands}
 use Rattle.sw_convert_again.specs.Spells.{behind_insert}
 use Rattle.sw_convert_again.specs.Again.{Reads}
-use Rattle.sw_convert_again.specs.Statements.{SpellsAtName, at_word, at_insert, at_minus, ended, at_rule_line, at_rule_block, StatementAgain, BlocksAgain}
+use Rattle.sw_convert_again.specs.Statements.{SpellsAtName, at_word, at_insert, at_minus, ended, at_rule_line, at_rule_block}
+use Rattle.sw_convert_again.specs.Claims.{StatementAgain, BlocksAgain}
 use Rattle.sw_convert_again.proofs.Tokens.{old_of, is_of, split}
 use Rattle.sw_convert_again.proofs.Rows.{inserting, insert_again, said_behind, up_to_same, text_then}
 use Rattle.sw_convert_again.proofs.Words.{WordRow, go_on}

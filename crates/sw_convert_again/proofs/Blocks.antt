@@ -14,7 +14,8 @@ use Rattle.sw_convert_alike.specs.Statements as alike
 use Rattle.sw_convert_again.specs.Tokens.{Tok, sign}
 use Rattle.sw_convert_again.specs.Spells.{within}
 use Rattle.sw_convert_again.specs.Again.{Reads}
-use Rattle.sw_convert_again.specs.Statements.{SpellsStatements, SpellsBlock, no_statements, lone_semicolon, more_statements, braces, IsListAgain, StatementsAgain, BlocksAgain, SheetsAgain}
+use Rattle.sw_convert_again.specs.Statements.{SpellsStatements, SpellsBlock, no_statements, lone_semicolon, more_statements, braces}
+use Rattle.sw_convert_again.specs.Claims.{IsListAgain, StatementsAgain, BlocksAgain, SheetsAgain}
 use Rattle.sw_convert_again.proofs.Tokens.{old_of, is_of, split}
 use Rattle.sw_convert_again.proofs.Whole.{sheets}
 

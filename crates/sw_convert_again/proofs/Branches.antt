@@ -16,7 +16,8 @@ use Rattle.sw_convert_alike.specs.Statements.{LikeBranches, LikeOptionalBlock}
 use Rattle.sw_convert_alike.specs.Statements as alike
 use Rattle.sw_convert_again.specs.Tokens.{Tok, sign, Stands}
 use Rattle.sw_convert_again.specs.Again.{Reads}
-use Rattle.sw_convert_again.specs.Statements.{OldElseIf, one_word, two_words, SpellsBranches, no_branches, more_branches, SpellsElse, no_else, else_block, SpellsBlock, if_block, StatementAgain, BlocksAgain}
+use Rattle.sw_convert_again.specs.Statements.{OldElseIf, one_word, two_words, SpellsBranches, no_branches, more_branches, SpellsElse, no_else, else_block, SpellsBlock, if_block}
+use Rattle.sw_convert_again.specs.Claims.{StatementAgain, BlocksAgain}
 use Rattle.sw_convert_again.proofs.Tokens.{old_of, is_of, split}
 use Rattle.sw_convert_again.proofs.Values.{values_again}
 

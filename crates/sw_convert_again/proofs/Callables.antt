@@ -20,7 +20,8 @@ use Rattle.sw_convert_alike.specs.Statements as alike
 use Rattle.sw_convert_again.specs.Tokens.{Dashed, Tok, tok, sign, Stands}
 use Rattle.sw_convert_again.specs.Again.{Reads}
 use Rattle.sw_convert_again.specs.Params.{SpellsOptionalParams, no_head, empty_head, some_head}
-use Rattle.sw_convert_again.specs.Statements.{function_block, mixin_block, StatementAgain, BlocksAgain}
+use Rattle.sw_convert_again.specs.Statements.{function_block, mixin_block}
+use Rattle.sw_convert_again.specs.Claims.{StatementAgain, BlocksAgain}
 use Rattle.sw_convert_again.proofs.Tokens.{old_of, is_of, split}
 use Rattle.sw_convert_again.proofs.Params.{ParamsAgain, params_again}
 

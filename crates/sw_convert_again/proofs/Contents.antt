@@ -19,7 +19,8 @@ use Rattle.sw_convert_again.specs.Tokens.{Tok, sign, Stands, Old}
 use Rattle.sw_convert_again.specs.Spells.{SpellsArguments, call_tokens}
 use Rattle.sw_convert_again.specs.Spells as spells
 use Rattle.sw_convert_again.specs.Again.{Reads}
-use Rattle.sw_convert_again.specs.Statements.{SpellsGiven, no_parens, empty_parens, some_given, ended, content_line, StatementAgain}
+use Rattle.sw_convert_again.specs.Statements.{SpellsGiven, no_parens, empty_parens, some_given, ended, content_line}
+use Rattle.sw_convert_again.specs.Claims.{StatementAgain}
 use Rattle.sw_convert_again.proofs.Tokens.{old_of, is_of, split}
 use Rattle.sw_convert_again.proofs.Arguments.{call_again}
 use Rattle.sw_convert_again.proofs.Values.{spaces_again}

@@ -20,7 +20,8 @@ use Rattle.sw_convert_alike.specs.Statements as alike
 use Rattle.sw_convert_again.specs.Tokens.{Tok, tok, sign, Stands}
 use Rattle.sw_convert_again.specs.Spells.{from_start}
 use Rattle.sw_convert_again.specs.Again.{Reads, Again}
-use Rattle.sw_convert_again.specs.Statements.{SpellsName, name_row, SpellsOptionalRaw, no_raw, some_raw, ended, custom_line, StatementAgain}
+use Rattle.sw_convert_again.specs.Statements.{SpellsName, name_row, SpellsOptionalRaw, no_raw, some_raw, ended, custom_line}
+use Rattle.sw_convert_again.specs.Claims.{StatementAgain}
 use Rattle.sw_convert_again.proofs.Tokens.{old_of, is_of, split}
 use Rattle.sw_convert_again.proofs.Rows.{Plainly, said_first}
 use Rattle.sw_convert_again.proofs.Words.{WordRow, go_on}

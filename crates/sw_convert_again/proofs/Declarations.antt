@@ -18,7 +18,8 @@ use Rattle.sw_convert_again.specs.Tokens.{Tok, sign, Stands, Old}
 use Rattle.sw_convert_again.specs.Spells.{SpellsWord}
 use Rattle.sw_convert_again.specs.RawTexts.{raw_tokens}
 use Rattle.sw_convert_again.specs.Again.{Reads}
-use Rattle.sw_convert_again.specs.Statements.{ended, SpellsBlock, declaration_line, properties_block, properties_value_block, at_root_block, at_root_text_block, StatementAgain, BlocksAgain}
+use Rattle.sw_convert_again.specs.Statements.{ended, SpellsBlock, declaration_line, properties_block, properties_value_block, at_root_block, at_root_text_block}
+use Rattle.sw_convert_again.specs.Claims.{StatementAgain, BlocksAgain}
 use Rattle.sw_convert_again.proofs.Tokens.{old_of, is_of, split}
 use Rattle.sw_convert_again.proofs.Words.{word_again}
 use Rattle.sw_convert_again.proofs.Values.{values_again}

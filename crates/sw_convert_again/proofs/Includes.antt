@@ -22,7 +22,8 @@ use Rattle.sw_convert_alike.specs.Statements as alike
 use Rattle.sw_convert_again.specs.Tokens.{Dashed, Bytes, Tok, tok, sign, Stands}
 use Rattle.sw_convert_again.specs.Again.{Reads}
 use Rattle.sw_convert_again.specs.Params.{SpellsHeadParams, SpellsMixinName, own_name, owned_name, SpellsUsing, no_using, some_using}
-use Rattle.sw_convert_again.specs.Statements.{ended, include_line, include_block, StatementAgain, BlocksAgain}
+use Rattle.sw_convert_again.specs.Statements.{ended, include_line, include_block}
+use Rattle.sw_convert_again.specs.Claims.{StatementAgain, BlocksAgain}
 use Rattle.sw_convert_again.proofs.Tokens.{one_byte, old_of, is_of, split}
 use Rattle.sw_convert_again.proofs.Contents.{IsGiven, given_again}
 use Rattle.sw_convert_again.proofs.Params.{params_again}

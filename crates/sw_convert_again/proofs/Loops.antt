@@ -18,7 +18,8 @@ use Rattle.sw_convert_again.specs.Tokens.{Dashed, Tok, tok, sign, Stands, Old}
 use Rattle.sw_convert_again.specs.Spells.{dollar}
 use Rattle.sw_convert_again.specs.Again.{Reads}
 use Rattle.sw_convert_again.specs.Params.{dollar_tokens}
-use Rattle.sw_convert_again.specs.Statements.{SpellsNames, no_names, more_names, each_block, for_block, StatementAgain, BlocksAgain}
+use Rattle.sw_convert_again.specs.Statements.{SpellsNames, no_names, more_names, each_block, for_block}
+use Rattle.sw_convert_again.specs.Claims.{StatementAgain, BlocksAgain}
 use Rattle.sw_convert_again.proofs.Tokens.{old_of, is_of, of_set, number_same, split}
 use Rattle.sw_convert_again.proofs.Values.{values_again, spaces_again}
 

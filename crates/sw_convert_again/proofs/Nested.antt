@@ -1,7 +1,7 @@
 -- Statements are read again, those with a block where their blocks are.
 use Rattle.std.proofs.Common.{ℕ}
 use Rattle.sw_parse_table.specs.declared.source.Source.{Source}
-use Rattle.sw_convert_again.specs.Statements.{BlocksAgain, LinesAgain, NestedAgain}
+use Rattle.sw_convert_again.specs.Claims.{BlocksAgain, LinesAgain, NestedAgain}
 use Rattle.sw_convert_again.proofs.Statements.{lines_again, while_again, supports_again, rule_again}
 use Rattle.sw_convert_again.proofs.Declarations.{declaration_again, at_root_again}
 use Rattle.sw_convert_again.proofs.Branches.{if_again}

@@ -27,7 +27,8 @@ use Rattle.sw_convert_again.specs.Tokens.{Extent, Tok, sign, Stands, Old}
 use Rattle.sw_convert_again.specs.Spells.{Spells}
 use Rattle.sw_convert_again.specs.RawTexts.{SpellsRawText, raw_tokens}
 use Rattle.sw_convert_again.specs.Again.{Reads}
-use Rattle.sw_convert_again.specs.Statements.{Ended, marked, unmarked, ended, SpellsStatement, return_line, say_line, import_line, extend_line, charset_line, while_block, supports_block, rule_block, StatementAgain, BlocksAgain, LinesAgain}
+use Rattle.sw_convert_again.specs.Statements.{Ended, marked, unmarked, ended, SpellsStatement, return_line, say_line, import_line, extend_line, charset_line, while_block, supports_block, rule_block}
+use Rattle.sw_convert_again.specs.Claims.{StatementAgain, BlocksAgain, LinesAgain}
 use Rattle.sw_convert_again.proofs.Tokens.{old_of, is_of, split}
 use Rattle.sw_convert_again.proofs.Rows.{Plainly}
 use Rattle.sw_convert_again.proofs.Values.{values_again}

@@ -21,7 +21,8 @@ use Rattle.sw_parse_table.specs.Statements.{dollar_name, colon_expr, flag, defau
 use Rattle.sw_convert_alike.specs.Statements as alike
 use Rattle.sw_convert_again.specs.Tokens.{Dashed, Bytes, tok, sign, Is, Stands, Old}
 use Rattle.sw_convert_again.specs.Again.{Reads}
-use Rattle.sw_convert_again.specs.Statements.{OldFlags, no_flags, more_flags, any_flag, flag_if, flag_tokens, ended, variable_line, assignment_line, StatementAgain}
+use Rattle.sw_convert_again.specs.Statements.{OldFlags, no_flags, more_flags, any_flag, flag_if, flag_tokens, ended, variable_line, assignment_line}
+use Rattle.sw_convert_again.specs.Claims.{StatementAgain}
 use Rattle.sw_convert_again.proofs.Tokens.{one_byte, unless, kind_is, old_of, is_of, split}
 use Rattle.sw_convert_again.proofs.Values.{values_again}
 use Rattle.sw_convert_again.proofs.Statements.{was_ended, is_ended}

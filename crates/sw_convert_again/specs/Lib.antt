@@ -6,3 +6,4 @@ pub mod Again
 pub mod RawTexts
 pub mod Params
 pub mod Statements
+pub mod Claims

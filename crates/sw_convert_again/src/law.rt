@@ -8,7 +8,7 @@ ghost use Rattle.sw_parse_table.specs.Table.{forms};
 ghost use Rattle.sw_parse_table.specs.Reads.{reader};
 ghost use Rattle.sw_convert_again.specs.Again.{ValuesAgain};
 ghost use Rattle.sw_convert_again.specs.RawTexts.{RawTextsAgain};
-ghost use Rattle.sw_convert_again.specs.Statements.{BlocksAgain, LinesAgain, NestedAgain, SheetsAgain, StatementsAgain};
+ghost use Rattle.sw_convert_again.specs.Claims.{BlocksAgain, LinesAgain, NestedAgain, SheetsAgain, StatementsAgain};
 
 /// A law: where all tokens of a text derive a sheet with so many levels of brackets, the reader answers it.
 pub fn whole_sheets_are_read()
