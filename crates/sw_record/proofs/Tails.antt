@@ -1,7 +1,6 @@
 -- Tails of traces.
-use Rattle.std.proofs.Common.{◌≡◌, ◌⊎◌, ℕ, zero, suc, ◌+◌, ◌-◌, ◌<◌, ◌≤◌, Bool, true, false, List, [], ◌∷◌, ◌++◌, length, take, drop, get_or, refl, sym, ◌∙◌, ap, subst, inl, inr, arith, slice_range, slice_get, slice_set, Some}
+use Rattle.std.proofs.Common.{◌≡◌, ◌⊎◌, ℕ, zero, suc, ◌+◌, ◌-◌, ◌<◌, ◌≤◌, Bool, true, false, List, [], ◌∷◌, ◌++◌, length, take, get_or, refl, sym, ◌∙◌, ap, subst, inl, inr, arith, slice_get, slice_set, Some}
 use Rattle.std.specs.Bool.{OnTrue}
-use Rattle.std.specs.List.{All, Contains}
 use Rattle.std.proofs.lemmas.List.{take_more, take_all}
 use Rattle.std.proofs.lemmas.List.Elements.{All-contains, All-push}
 use Rattle.std.proofs.lemmas.Option.{slice_get-get_or}
@@ -13,7 +12,7 @@ use Rattle.sw_world.specs.Questions.{IsLoad}
 use Rattle.sw_world.specs.Body.{Pair}
 use Rattle.sw_world.specs.Named.{IsOfVariable, IsOfOne, IsNamed, IsNamedIn}
 use Rattle.sw_record.specs.Replay.{AskedAgain}
-use Rattle.sw_record.specs.Tails.{IsTold, TellsUpTo, IsReadAt, IsOfRead, AreGiven, IsGivenAt, AreGivenAt}
+use Rattle.sw_record.specs.Tails.{IsTold, TellsUpTo, IsOfRead, AreGiven, IsGivenAt, AreGivenAt}
 use Rattle.sw_record.proofs.Leading.{asked_more}
 
 -- ---- variables of more modules, or more variables of one

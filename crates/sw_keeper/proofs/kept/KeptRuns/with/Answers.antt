@@ -1,6 +1,7 @@
-use Rattle.sw_keeper.proofs.Tables.{each_now}
+use Rattle.std.proofs.Common.{arith}
+use Rattle.sw_keeper.proofs.Tables.{with_more}
 use Rattle.sw_keeper.proofs.kept.KeptRuns.with.Goals as goal
 
-pub invariant_of-result : goal.invariant_of-result
-invariant_of-result g c =
-    each_now c.self.inside.table c.in_ok-table.table c.add_runs.new.table c.args.runs.now c.self.invariant c.in_ok-table.ensures c.in_ok-add_runs.ensures
+pub loop-at-preserved : goal.loop-at-preserved
+loop-at-preserved g c =
+    with_more c.args.self.now c.loop-at.after c.add.new.self c.args.runs.now c.loop-at.at c.index-runs-at.result (omega (arith, c.loop-at-test.true)) c.index-runs-at.is c.loop-at.invariant c.in_ok-add.ensures
