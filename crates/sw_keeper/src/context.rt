@@ -7,7 +7,7 @@ use sw_modules::{Live, Nothing};
 use sw_record::{Cause, Run};
 use sw_text::{Name, Shared};
 use sw_tree::Sheet;
-use sw_world::{Answer, Config, Engine, Question};
+use sw_world::{Config, Engine, Pairs};
 
 /// What stays as it is during a compile: how texts are read, the runs that are kept, and what its loads share.
 #[derive(Drop)]
@@ -37,7 +37,7 @@ pub struct Opening {
 #[derive(Drop)]
 pub(crate) struct Start<'s> {
     pub(crate) sheet: &'s Shared<Sheet>,
-    pub(crate) known: &'s [(Question, Answer)],
+    pub(crate) known: &'s Pairs,
     pub(crate) cause: Cause,
 }
 

@@ -7,21 +7,21 @@ ghost use Rattle.sw_keeper.specs.Departing.{DepartsBy};
 
 use std::alloc::Global;
 use sw_record::{Cause, Run, run_at};
-use sw_text::{List, Memory, Shared};
-use sw_world::{Answer, Engine, Question, share_pairs};
+use sw_text::{Memory, Shared};
+use sw_world::{Answer, Engine, Pairs, Question};
 
 /// The kept pairs up to the first question that is answered otherwise, that question with its new answer, and the cause
 /// that it is.
 #[derive(Drop)]
 pub struct Departure {
-    pub known: List<(Question, Answer)>,
+    pub known: Pairs,
     pub cause: Cause,
 }
 
 /// The departure at a place of a kept run.
 fn departure_of(
     alloc: Global,
-    seen: &[(Question, Answer)],
+    seen: &Pairs,
     place: usize,
     answer: Answer,
 ) -> Result<Departure, Memory>
@@ -31,11 +31,15 @@ fn departure_of(
     ensures cause { IfOk result (λ departure. (pair : Pair) → slice_get seen.now place ≡ Some pair
         → IsCauseBy pair.0 departure.cause) }
 {
-    let mut known = share_pairs(alloc, &seen[..place])?;
-    let op = &seen[place].0;
+    let mut known = seen.grown(alloc, place)?;
+    let op = &seen.pair(place).0;
     let cause = cause_of(op);
-    known.push((op.share()?, answer))?;
-    Ok(Departure { known, cause })
+    known.reserve(alloc)?;
+    known.push(op.share()?, answer);
+    Ok(Departure {
+        known: known.into_pairs(),
+        cause,
+    })
 }
 
 /// The departure at a place of the pairs of one of these runs.

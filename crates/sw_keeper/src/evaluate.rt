@@ -19,7 +19,7 @@ use crate::{HasSetting, Reader};
 use sw_modules::Begin;
 use sw_record::{Replayed, first_marked, run_at};
 use sw_text::Memory;
-use sw_world::{Answer, End, Engine, Hosts, Question, Turn};
+use sw_world::{Answer, End, Engine, Hosts, Pairs, Question, Turn};
 
 /// How a replay ended.
 #[derive(Drop)]
@@ -274,9 +274,10 @@ fn evaluate_anew<R: Reader, E: Engine, H: Hosts>(
     match read_sheet(within, opening)? {
         Ok(sheet) => {
             let cause = cause_anew(within, opening);
+            let known = Pairs::new(within.alloc);
             let start = Start {
                 sheet: &sheet,
-                known: &[],
+                known: &known,
                 cause,
             };
             let end = run_body(within, moment, hosts, engine, opening, &start)?;
@@ -316,7 +317,7 @@ pub(crate) fn evaluate<R: Reader, E: Engine, H: Hosts>(
     let going = Agreeing { runs, alive, at: 0 };
     match replay_runs(within, moment, hosts, engine, &going)? {
         Ending::Departs(departure) => {
-            let known = departure.known.as_slice();
+            let known = &departure.known;
             let start = Start {
                 sheet: run_at(runs, first).get().sheet(),
                 known,

@@ -31,7 +31,7 @@ pub(crate) fn load_of<'k, E: Engine>(going: &Agreeing<'k, E>) -> &'k Question
         unreachable!()
     };
     let seen = run_at(going.runs, near).get().seen();
-    &seen[going.at].0
+    &seen.pair(going.at).0
 }
 
 /// What is left of the runs when the load is answered so.
@@ -49,7 +49,7 @@ pub(crate) fn after_load<E: Engine>(
         unreachable!()
     };
     let seen = run_at(going.runs, near).get().seen();
-    let _loads = &seen[going.at];
+    let _loads = seen.pair(going.at);
     let alive = narrow(going.runs, going.alive, going.at, &answer);
     if first_marked(&alive).is_some() {
         return Ok(Came::Next {

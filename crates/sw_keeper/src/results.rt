@@ -11,14 +11,14 @@ use std::marker::Model;
 use sw_record::{Cause, Run, Trace};
 use sw_text::{List, Memory, Name, Shared};
 use sw_tree::Sheet;
-use sw_world::{Answer, End, Engine, Question};
+use sw_world::{End, Engine, Pairs};
 
 /// The run of a body that ended.
 pub(crate) fn run_ended<E: Engine>(
     alloc: Global,
     opening: &Opening,
     sheet: &Shared<Sheet>,
-    seen: List<(Question, Answer)>,
+    seen: Pairs,
     end: End,
 ) -> Result<Run<E>, Memory>
     requires goes { Goes (E.body (job_at sheet.now opening.now)) [] seen }

@@ -8,7 +8,7 @@ ghost use Rattle.sw_record.specs.Tails.{IsTail, AreGiven, AreGivenAt, IsGivenAt}
 use crate::{Run, Tail};
 use std::alloc::Global;
 use sw_text::Memory;
-use sw_world::{Answer, ConfirmsNamed, Engine, NamedVariables, Question, World};
+use sw_world::{Answer, ConfirmsNamed, Engine, NamedVariables, Pairs, Question, World};
 
 /// What asking the questions of one kept run again comes to.
 #[derive(Drop)]
@@ -36,7 +36,7 @@ pub(crate) fn replay<E: Engine, W: ConfirmsNamed>(
     let seen = run.seen();
     let begin = begin_of(run, from, world);
     for at in begin..seen.len() {
-        let (op, kept) = &seen[at];
+        let (op, kept) = seen.pair(at);
         if op.is_load() {
             return Ok(Again::Load(at));
         }
@@ -67,7 +67,7 @@ fn begin_of<E: Engine, W: ConfirmsNamed>(run: &Run<E>, from: usize, world: &mut 
 }
 
 /// True only where the questions of a tail are answered as before, which changes nothing. Takes no memory.
-fn is_confirmed<W: ConfirmsNamed>(seen: &[(Question, Answer)], tail: &Tail, world: &mut W) -> bool
+fn is_confirmed<W: ConfirmsNamed>(seen: &Pairs, tail: &Tail, world: &mut W) -> bool
     requires { IsTail seen.now tail.now }
     ensures asked { OnTrue result (AskedAgain W.gives seen.now tail.now.from tail.now.to world.old world.old) }
     ensures same { world.new ≡ world.old }
@@ -91,7 +91,7 @@ fn are_confirmed<W: ConfirmsNamed>(named: &[NamedVariables], world: &mut W) -> b
 
 /// True only where the questions at these places are answered as before.
 fn are_confirmed_at<W: ConfirmsNamed>(
-    seen: &[(Question, Answer)],
+    seen: &Pairs,
     places: &[usize],
     world: &mut W,
 ) -> bool
@@ -108,7 +108,7 @@ fn are_confirmed_at<W: ConfirmsNamed>(
 
 /// True only where the question at a place is answered as before.
 fn is_confirmed_at<W: ConfirmsNamed>(
-    seen: &[(Question, Answer)],
+    seen: &Pairs,
     place: usize,
     world: &mut W,
 ) -> bool

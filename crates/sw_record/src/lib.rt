@@ -3,7 +3,6 @@
 #![tactic(auto)]
 
 mod again;
-mod configs;
 mod laws;
 mod marks;
 mod replay;

@@ -5,7 +5,7 @@ ghost use Rattle.sw_record.specs.Together.{IsMarked, IsFirstMarked, AreNarrowed,
 
 use crate::Run;
 use sw_text::Shared;
-use sw_world::{Answer, Engine, Question};
+use sw_world::{Answer, Engine, Pairs};
 
 /// The run at a place.
 pub fn run_at<'k, E: Engine>(runs: &'k [Shared<Run<E>>], place: usize) -> &'k Shared<Run<E>>
@@ -83,7 +83,7 @@ fn has_answer_at<E: Engine>(
     }
 }
 
-fn has_answer(seen: &[(Question, Answer)], at: usize, answer: &Answer) -> bool
+fn has_answer(seen: &Pairs, at: usize, answer: &Answer) -> bool
     ensures { IsTrue result ↔ ((pair : Pair) × (slice_get seen.now at ≡ Some pair) × (pair.1 ≡ answer.now)) }
 {
     match seen.get(at) {

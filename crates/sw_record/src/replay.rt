@@ -102,7 +102,7 @@ fn replay_step<E: Engine, W: ConfirmsNamed>(
         Asked::Ended => Ok(Step::Stops(Replayed::Same(near))),
         Asked::Load => Ok(Step::Stops(Replayed::Load { alive, at })),
         Asked::AsKept => Ok(Step::GoesOn {
-            alive: narrow(runs, alive, at, &seen[at].1),
+            alive: narrow(runs, alive, at, &seen.pair(at).1),
             at: at + 1,
         }),
         Asked::Other(answer) => {
@@ -132,7 +132,7 @@ fn ask_at<E: Engine, W: ConfirmsNamed>(
     if at >= seen.len() {
         return Ok(Asked::Ended);
     }
-    let (op, kept) = &seen[at];
+    let (op, kept) = seen.pair(at);
     if op.is_load() {
         return Ok(Asked::Load);
     }

@@ -6,7 +6,7 @@ ghost use Rattle.sw_record.specs.Kept.{job_of};
 use crate::Run;
 use sw_text::Name;
 use sw_values::Value;
-use sw_world::{Answer, Config, Engine, Question};
+use sw_world::{Config, Engine, Pairs};
 
 /// Whether a run is of this text and this configuration. Takes no memory.
 pub fn is_alike<E: Engine>(run: &Run<E>, text: &Name, config: &Config) -> bool
@@ -27,14 +27,14 @@ pub fn has_same_pairs<E: Engine>(run: &Run<E>, other: &Run<E>) -> bool
     same_answers(seen, others)
 }
 
-fn same_answers(a: &[(Question, Answer)], b: &[(Question, Answer)]) -> bool
+fn same_answers(a: &Pairs, b: &Pairs) -> bool
     ensures { IsTrue result ↔ (answers a.now ≡ answers b.now) }
 {
     if a.len() != b.len() {
         return false;
     }
     for at in 0..a.len() {
-        if !a[at].1.same(&b[at].1) {
+        if !a.pair(at).1.same(&b.pair(at).1) {
             return false;
         }
     }

@@ -11,7 +11,7 @@ use std::alloc::Global;
 use sw_text::{List, Memory, Name};
 use sw_tree::Kind;
 use sw_values::Value;
-use sw_world::{Answer, NamedVariables, Question, Table};
+use sw_world::{Answer, NamedVariables, Pairs, Question, Table};
 
 /// The questions behind the last load of a trace, from one place up to another: the variables for whose names and
 /// values two questions stand, by the modules that have them, and the places of all other questions.
@@ -44,7 +44,7 @@ struct Gathering {
 }
 
 /// The tail of a trace: it begins behind the last load, and ends where a question may change what is outside.
-pub(crate) fn tail_of(alloc: Global, seen: &[(Question, Answer)]) -> Result<Tail, Memory>
+pub(crate) fn tail_of(alloc: Global, seen: &Pairs) -> Result<Tail, Memory>
     ensures { IfOk result (λ tail. IsTail seen.now tail) }
 {
     let from = behind_loads(seen);
@@ -70,12 +70,12 @@ pub(crate) fn tail_of(alloc: Global, seen: &[(Question, Answer)]) -> Result<Tail
 }
 
 /// The place behind the last load.
-fn behind_loads(seen: &[(Question, Answer)]) -> usize
+fn behind_loads(seen: &Pairs) -> usize
     ensures { result ≤ length seen.now }
 {
     let mut behind = 0;
     for at in 0..seen.len() {
-        if seen[at].0.is_load() {
+        if seen.pair(at).0.is_load() {
             behind = at + 1;
         }
     }
@@ -83,7 +83,7 @@ fn behind_loads(seen: &[(Question, Answer)]) -> usize
 }
 
 /// The variable that the questions at a place and behind it stand for.
-fn variable_at<'s>(seen: &'s [(Question, Answer)], at: usize) -> Option<ReadVariable<'s>>
+fn variable_at<'s>(seen: &'s Pairs, at: usize) -> Option<ReadVariable<'s>>
     requires { at < length seen.now }
     ensures { IfSome result (λ read. IsReadAt seen.now at read.site.now read.space.now read.path.now read.name.now
         read.value.now) }
@@ -124,7 +124,7 @@ impl Gathering {
     fn add_from(
         &mut self,
         alloc: Global,
-        seen: &[(Question, Answer)],
+        seen: &Pairs,
         from: usize,
     ) -> Result<usize, Memory>
         requires { from ≤ length seen.now }
@@ -146,7 +146,7 @@ impl Gathering {
     fn add_at(
         &mut self,
         alloc: Global,
-        seen: &[(Question, Answer)],
+        seen: &Pairs,
         at: usize,
     ) -> Result<usize, Memory>
         requires { at < length seen.now }
@@ -159,7 +159,7 @@ impl Gathering {
                 return Ok(2);
             }
         }
-        match &seen[at].0 {
+        match &seen.pair(at).0 {
             Question::Find { .. } | Question::Get { .. } => {
                 self.alone.push(at)?;
                 Ok(1)

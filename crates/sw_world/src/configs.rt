@@ -1,8 +1,8 @@
-// One empty configuration for all loads of a trace that give nothing.
+// One empty configuration for all loads of a body that give nothing.
 ghost use Rattle.std.specs.Prelude.{◌≡◌, [], IfOk, IfSome, OnOk};
 
+use crate::{Answer, Given, Question};
 use sw_text::{List, Memory, Shared};
-use sw_world::{Answer, Given, Question};
 
 /// The same questions, whose empty configurations are one in memory: asked again, they look at that and not at one of
 /// each.
