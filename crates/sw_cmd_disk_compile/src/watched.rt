@@ -72,7 +72,7 @@ impl<R: Reader, E: Engine> Watched<R, E> {
         engine: &mut E,
     ) -> Result<Reply, Memory>
         ensures ok { IfOk result (λ reply. CompilesTo
-            (compiled (hostless R.reads E.body) self.old.folder paths.now entry.now []) entry.now reply self.old self.new []
+            (compiled (hostless R.reads E.body) self.old.folder paths.now entry.now []) reply self.old self.new []
             (E.ran engine.old) (E.ran engine.new)) }
         ensures err { OnErr result (BreaksOff (hostless R.reads E.body) self.old.folder paths.now entry.now [] []
             (E.ran engine.old) (E.ran engine.new)) }
@@ -84,11 +84,11 @@ impl<R: Reader, E: Engine> Watched<R, E> {
 }
 
 impl<R: Reader, E: Engine> Holder for Watched<R, E> {
-    ghost use Rattle.sw_keeper.specs.Keeping.{Tables};
+    ghost use Rattle.sw_keeper.specs.Keeping.{Table};
 
     ghost folder = { λ watched. watched.folder };
 
-    ghost Rest = { Tables };
+    ghost Rest = { Table };
 
     ghost rest = { λ watched. watched.kept };
 

@@ -2,12 +2,13 @@
 ghost use Rattle.std.specs.Prelude.{◌≡◌, ◌++◌, ◌∷◌, ◌≤◌, [], length, take, slice_get, Some, IfOk};
 ghost use Rattle.sw_record.specs.Ran.{IsCauseBy};
 ghost use Rattle.sw_world.specs.Body.{Pair};
-ghost use Rattle.sw_keeper.specs.Departures.{HasTwoAnswers};
+ghost use Rattle.sw_keeper.specs.Departures.{HasTwoAnswers, CanDepart};
+ghost use Rattle.sw_keeper.specs.Departing.{DepartsBy};
 
 use std::alloc::Global;
-use sw_record::Cause;
-use sw_text::{List, Memory};
-use sw_world::{Answer, Question, share_pairs};
+use sw_record::{Cause, Run, run_at};
+use sw_text::{List, Memory, Shared};
+use sw_world::{Answer, Engine, Question, share_pairs};
 
 /// The kept pairs up to the first question that is answered otherwise, that question with its new answer, and the cause
 /// that it is.
@@ -18,7 +19,7 @@ pub struct Departure {
 }
 
 /// The departure at a place of a kept run.
-pub(crate) fn departure_of(
+fn departure_of(
     alloc: Global,
     seen: &[(Question, Answer)],
     place: usize,
@@ -35,6 +36,21 @@ pub(crate) fn departure_of(
     let cause = cause_of(op);
     known.push((op.share()?, answer))?;
     Ok(Departure { known, cause })
+}
+
+/// The departure at a place of the pairs of one of these runs.
+pub(crate) fn departure_at<E: Engine>(
+    alloc: Global,
+    runs: &[Shared<Run<E>>],
+    near: usize,
+    at: usize,
+    answer: Answer,
+) -> Result<Departure, Memory>
+    requires { CanDepart runs.now near at }
+    ensures { IfOk result (λ departure. DepartsBy runs.now near at answer departure) }
+{
+    let seen = run_at(runs, near).get().seen();
+    departure_of(alloc, seen, at, answer)
 }
 
 /// The cause that another answer to the question is.

@@ -8,6 +8,7 @@ mod evaluate;
 mod keeper;
 mod kept;
 mod laws;
+mod loading;
 mod outcome;
 mod outside;
 mod reader;
@@ -16,6 +17,6 @@ mod results;
 mod setting;
 
 pub use keeper::Keeper;
-pub use laws::{css_is_of_runs, keeps_the_latest};
+pub use laws::{css_is_of_runs, keeps_the_latest, kept_is_one};
 pub use reader::Reader;
 pub use setting::HasSetting;

@@ -1,8 +1,8 @@
-// The replay of a kept run's questions.
+// The replay of the questions of one kept run.
 ghost use Rattle.std.specs.Prelude.{◌≡◌, ℕ, ◌≤◌, IfOk, OnErr, length};
 ghost use Rattle.sw_world.specs.Questions.{IsLoad};
 ghost use Rattle.std.specs.Bool.{OnTrue};
-ghost use Rattle.sw_record.specs.Replay.{IsReplay, AskedAgain, IsOther};
+ghost use Rattle.sw_record.specs.Replay.{IsAgain, AskedAgain, IsOther};
 ghost use Rattle.sw_record.specs.Tails.{IsTail, AreGiven, AreGivenAt, IsGivenAt};
 
 use crate::{Run, Tail};
@@ -10,9 +10,9 @@ use std::alloc::Global;
 use sw_text::Memory;
 use sw_world::{Answer, ConfirmsNamed, Engine, NamedVariables, Question, World};
 
-/// What asking the questions of a kept run again comes to.
+/// What asking the questions of one kept run again comes to.
 #[derive(Drop)]
-pub enum Replayed {
+pub enum Again {
     /// All were answered as before.
     Same,
     /// At this place is a load, which wasn't asked; all before it were answered as before.
@@ -23,14 +23,14 @@ pub enum Replayed {
 
 /// Asks the kept questions from a place on, in order, up to the first load or the first answer that isn't the kept one.
 /// Takes no memory of its own. After `Memory` some first questions of these were asked, and answered as before.
-pub fn replay<E: Engine, W: ConfirmsNamed>(
+pub(crate) fn replay<E: Engine, W: ConfirmsNamed>(
     alloc: Global,
     run: &Run<E>,
     from: usize,
     world: &mut W,
-) -> Result<Replayed, Memory>
+) -> Result<Again, Memory>
     requires { from ≤ length run.now.run.seen }
-    ensures ok { IfOk result (λ replayed. IsReplay W.gives run.now.run.seen from replayed world.old world.new) }
+    ensures ok { IfOk result (λ again. IsAgain W.gives run.now.run.seen from again world.old world.new) }
     ensures err { OnErr result ((to : ℕ) × AskedAgain W.gives run.now.run.seen from to world.old world.new) }
 {
     let seen = run.seen();
@@ -38,17 +38,17 @@ pub fn replay<E: Engine, W: ConfirmsNamed>(
     for at in begin..seen.len() {
         let (op, kept) = &seen[at];
         if op.is_load() {
-            return Ok(Replayed::Load(at));
+            return Ok(Again::Load(at));
         }
         if world.confirms(op, kept) {
             continue;
         }
         match other_answer(alloc, op, kept, world)? {
             None => {}
-            Some(answer) => return Ok(Replayed::Differs { at, answer }),
+            Some(answer) => return Ok(Again::Differs { at, answer }),
         }
     }
-    Ok(Replayed::Same)
+    Ok(Again::Same)
 }
 
 /// The place from which on questions are asked one by one: behind the tail, where that begins at this place and is
@@ -124,7 +124,7 @@ fn is_confirmed_at<W: ConfirmsNamed>(
 // The answer to a question that is answered otherwise than it was kept. It is large to move, so it has a function of
 // its own, and a confirmed answer none.
 #[inline(never)]
-fn other_answer<W: World>(
+pub(crate) fn other_answer<W: World>(
     alloc: Global,
     op: &Question,
     kept: &Answer,
