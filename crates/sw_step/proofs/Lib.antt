@@ -1,0 +1,9 @@
+pub mod Pairs
+pub mod Asked
+pub mod Plain
+pub mod Answered
+pub mod Levels
+pub mod Folders
+pub mod Nexts
+pub mod Begins
+pub mod Places
