@@ -77,7 +77,7 @@ pair_is x =
     ∙ ap (λ (value : Shown). pair_shown (expr_shown x.key) value) (expr_is x.value)
 
 -- what is the same of each is the same of all
-maps_are : {A B : Type 0} (f g : A → B) → ((x : A) → f x ≡ g x) → (xs : List A) → map f xs ≡ map g xs
+pub maps_are : {A B : Type 0} (f g : A → B) → ((x : A) → f x ≡ g x) → (xs : List A) → map f xs ≡ map g xs
 maps_are f g same [] = refl
 maps_are {A} {B} f g same (x ∷ xs) =
     ap (λ (y : B). y ∷ map f xs) (same x) ∙ ap (λ (ys : List B). g x ∷ ys) (maps_are f g same xs)
