@@ -1,5 +1,5 @@
-//! Names as they are kept, and where runs, names and strings end that stand in two texts: what the readers of selectors
-//! and the converter share. Texts flow in; names flow out.
+//! Names as they are kept, and where runs, names and strings end that stand in two texts: what the converter takes of a
+//! text that was read. Texts flow in; names flow out.
 #![tactic(auto)]
 
 mod laws;
