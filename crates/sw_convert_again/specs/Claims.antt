@@ -1,5 +1,5 @@
--- What is claimed of statements, blocks and sheets that were read: they have tokens, and where these stand they are read as
--- ones like them.
+-- What is claimed of statements, blocks and sheets that were read: they have tokens, and where these stand they are
+-- read as ones like them.
 use Rattle.std.specs.Prelude.{◌≡◌, ℕ, suc, List, [], ◌∷◌, map, length}
 use Rattle.sw_parse_grammar.specs.Grammar.{Grammar, Row, Derives, Got}
 use Rattle.sw_tree.specs.declared.statement.Statement.{Statement}
@@ -15,13 +15,15 @@ use Rattle.sw_convert_again.specs.Again.{Reads}
 use Rattle.sw_convert_again.specs.Statements.{SpellsStatement, SpellsBlock, SpellsStatements}
 
 -- between two places stands a statement like this one
-pub record FoundStatement (written : Source) (n : ℕ) (g : Grammar Part Form) (statement : Statement) (p q : ℕ) : Type 0 where
+pub record FoundStatement (written : Source) (n : ℕ) (g : Grammar Part Form) (statement : Statement) (p q : ℕ) :
+    Type 0 where
   pub found : Statement
   pub reads : Reads written n g p q (States found ∷ [])
   pub alike : LikeStatement statement found
 
 -- what was read is one statement, it has tokens, and wherever these stand they are read as one like it
-pub record IsStatementAgain (source written : Source) (n : ℕ) (g : Grammar Part Form) (i j : ℕ) (w : List Part) : Type 0 where
+pub record IsStatementAgain (source written : Source) (n : ℕ) (g : Grammar Part Form) (i j : ℕ) (w : List Part) :
+    Type 0 where
   pub statement : Statement
   pub is : w ≡ States statement ∷ []
   pub tokens : List Tok
@@ -75,7 +77,8 @@ pub record NestedAgain (source written : Source) (n : ℕ) : Type 0 where
   pub at_rules : StatementAgain source written n at
   pub declarations : StatementAgain source written n declaration
 
--- what was read is a list of statements, one or none, it has tokens, and wherever these stand they are read as one like it
+-- what was read is a list of statements, one or none, it has tokens, and wherever these stand they are read as one like
+-- it
 pub record IsListAgain (source written : Source) (n i j : ℕ) (w : List Part) : Type 0 where
   pub list : List Statement
   pub is : w ≡ map States list
