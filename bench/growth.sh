@@ -1,14 +1,29 @@
 #!/bin/sh
-# How the time of a compile grows with the sheet: ratios of a sheet four times as long, in many lines and in one line.
+# How the time of a compile grows with the sheet: ratios of one four times as long, in several shapes.
 # Usage: growth.sh PROGRAM
 set -eu
 program=$1
 folder=$(mktemp -d)
 trap 'rm -rf "$folder"' EXIT
 
-# A session over one sheet of so many rules, joined by the given text.
+# The sheet of a shape, of so many parts.
+sheet() {
+    case $1 in
+    'rules in many lines') awk -v n="$2" 'BEGIN { for (i = 0; i < n; i++) printf "a%d { b: c; }\n", i }' ;;
+    'rules in one line') awk -v n="$2" 'BEGIN { for (i = 0; i < n; i++) printf "a%d { b: c; } ", i }' ;;
+    'variables in a block')
+        awk -v n="$2" 'BEGIN { print "a {"; for (i = 0; i < n; i++) printf "$v%d: %d;\n", i, i; print "b: $v0; }" }' ;;
+    'names of @each')
+        awk -v n="$2" 'BEGIN { printf "@each $v0"; for (i = 1; i < n; i++) printf ", $v%d", i
+            printf " in ((0"; for (i = 1; i < n; i++) printf ", %d", i; print "),) { a { b: $v0; } }" }' ;;
+    ':not(&) under parents')
+        awk -v n="$2" 'BEGIN { printf ".a0"; for (i = 1; i < n; i++) printf ", .a%d", i; print " { :not(&) { b: c; } }" }' ;;
+    esac
+}
+
+# A session over one such sheet.
 script() {
-    awk -v rules="$1" -v join="$2" 'BEGIN { for (i = 0; i < rules; i++) printf "a%d { b: c; }%s", i, join }' > "$folder/sheet"
+    sheet "$1" "$2" > "$folder/sheet"
     size=$(wc -c < "$folder/sheet")
     { printf 'put a.scss %d\n' "$size"; cat "$folder/sheet"; printf '\ncompile a.scss\nend\n'; } > "$folder/script"
 }
@@ -25,9 +40,15 @@ timed() {
     echo "$best"
 }
 
-for join in '\n' ' '; do
-    script 15000 "$join"; short=$(timed)
-    script 60000 "$join"; long=$(timed)
-    [ "$join" = ' ' ] && shape='one line' || shape='many lines'
-    awk -v a="$short" -v b="$long" -v shape="$shape" 'BEGIN { printf "%s: 15,000 rules %.1f ms, 60,000 rules %.1f ms, ratio %.2f\n", shape, a / 1000, b / 1000, b / a }'
-done
+compared() {
+    script "$1" "$2"; short=$(timed)
+    script "$1" "$3"; long=$(timed)
+    awk -v shape="$1" -v n="$2" -v m="$3" -v a="$short" -v b="$long" \
+        'BEGIN { printf "%s: %d %.1f ms, %d %.1f ms, ratio %.2f\n", shape, n, a / 1000, m, b / 1000, b / a }'
+}
+
+compared 'rules in many lines' 15000 60000
+compared 'rules in one line' 15000 60000
+compared 'variables in a block' 10000 40000
+compared 'names of @each' 10000 40000
+compared ':not(&) under parents' 2500 10000

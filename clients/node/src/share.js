@@ -6,13 +6,13 @@
  * @typedef {{ tasks: T[], files: Set<string>, weight: number }} Lot
  */
 
-// What it costs a process to get and read a file once, beside running it for each sheet that loads it.
+// What it costs a process to get, read and run a file once, beside asking it again for each sheet that loads it.
 const READ = 1;
 
 /**
  * Shares tasks out so that those which load the same files come together, and no lot is much heavier than another. The
- * weight of a task is the bytes of all that it loads, since each module is run for each entry; a file that is new to a
- * lot is read there once more.
+ * weight of a task is the bytes of all that it loads, whose kept runs each entry asks again; a file that is new to a lot
+ * is read and run there once more.
  * @template T
  * @param {T[]} tasks
  * @param {number} count how many lots there may be

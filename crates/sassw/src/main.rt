@@ -55,6 +55,6 @@ fn main(rt: HostRuntime) -> ExitCode {
         disk: FolderDisk::new(rt),
         hosts,
     };
-    let mut engine = Evaluator::new(alloc);
+    let mut engine = Evaluator::new();
     ExitCode::from(run(alloc, words.as_slice(), &mut around, &mut engine))
 }

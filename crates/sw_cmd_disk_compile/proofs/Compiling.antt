@@ -27,7 +27,7 @@ unread before now written ran broken = record { read = broken; more = []; told =
 
 -- the compile over no kept run
 pub compiles : (setting : Setting) (target : Target) (old new : Surroundings) (before after : Keeping) (reply : Reply) → before.kept ≡ [] → IsRead old.course new.course before.folder
-    → CompilesTo (compiled setting before.folder target.paths target.entry []) target.entry reply before after [] old.ran new.ran → Compiles setting target reply old new
+    → CompilesTo (compiled setting before.folder target.paths target.entry []) reply before after [] old.ran new.ran → Compiles setting target reply old new
 compiles setting target old new before after reply none read c = record {
   folder = before.folder;
   read = read;

@@ -3,7 +3,7 @@ ghost use Rattle.std.specs.Prelude.{◌≡◌, ◌≢◌, IfOk};
 ghost use Rattle.sw_io.specs.Causes.{NoFault, Rose};
 ghost use Rattle.sw_wire.specs.Replies.{fault_text};
 ghost use Rattle.sw_cmd_line.specs.Forms.{target_seen};
-ghost use Rattle.sw_keeper.specs.Settings.{hostless};
+ghost use Rattle.sw_modules.specs.Settings.{hostless};
 ghost use Rattle.sw_cmd_disk_compile.specs.Once.{surroundings, EndsBy, HearsBy, WritesBy};
 
 use crate::{Ending, Watched};
@@ -12,7 +12,7 @@ use sw_cmd_disk_folder::read_folder;
 use sw_cmd_line::Target;
 use sw_cmd_protocol::{Audience, Output, send};
 use sw_io::{Disk, DiskEnd, Sink};
-use sw_keeper::Reader;
+use sw_modules::Reader;
 use sw_record::{Outcome, Reply};
 use sw_text::{Fault, List, Memory};
 use sw_wire::write_reply;

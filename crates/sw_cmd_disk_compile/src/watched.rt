@@ -4,14 +4,15 @@ ghost use Rattle.std.specs.FinMap as files;
 ghost use Rattle.sw_folder.specs.Files.{IsFolder};
 ghost use Rattle.sw_folder.specs.Edits.{after_removal, folder_after};
 ghost use Rattle.sw_keeper.specs.Compile.{compiled, CompilesTo, BreaksOff};
-ghost use Rattle.sw_keeper.specs.Settings.{hostless};
+ghost use Rattle.sw_modules.specs.Settings.{hostless};
 ghost use Rattle.sw_cmd_disk_compile.specs.Watched.{Covers};
 
 use std::alloc::Global;
 use std::marker::Model;
 use sw_cmd_disk_folder::Holder;
 use sw_folder::EditFault;
-use sw_keeper::{Keeper, Reader};
+use sw_keeper::Keeper;
+use sw_modules::Reader;
 use sw_record::Reply;
 use sw_text::{List, Memory, Name};
 use sw_world::{Engine, NoHosts};
@@ -72,7 +73,7 @@ impl<R: Reader, E: Engine> Watched<R, E> {
         engine: &mut E,
     ) -> Result<Reply, Memory>
         ensures ok { IfOk result (λ reply. CompilesTo
-            (compiled (hostless R.reads E.body) self.old.folder paths.now entry.now []) entry.now reply self.old self.new []
+            (compiled (hostless R.reads E.body) self.old.folder paths.now entry.now []) reply self.old self.new []
             (E.ran engine.old) (E.ran engine.new)) }
         ensures err { OnErr result (BreaksOff (hostless R.reads E.body) self.old.folder paths.now entry.now [] []
             (E.ran engine.old) (E.ran engine.new)) }
@@ -84,11 +85,11 @@ impl<R: Reader, E: Engine> Watched<R, E> {
 }
 
 impl<R: Reader, E: Engine> Holder for Watched<R, E> {
-    ghost use Rattle.sw_keeper.specs.Keeping.{Tables};
+    ghost use Rattle.sw_keeper.specs.Keeping.{Table};
 
     ghost folder = { λ watched. watched.folder };
 
-    ghost Rest = { Tables };
+    ghost Rest = { Table };
 
     ghost rest = { λ watched. watched.kept };
 

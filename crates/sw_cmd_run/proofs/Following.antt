@@ -4,7 +4,7 @@ use Rattle.std.specs.declared.option.Option.{Option}
 use Rattle.sw_io.specs.Disks.{Course, after_listing}
 use Rattle.sw_cmd_line.specs.Forms.{Target}
 use Rattle.sw_modules.specs.Fresh.{Setting}
-use Rattle.sw_keeper.specs.Keeping.{Tables, kept_after}
+use Rattle.sw_keeper.specs.Keeping.{Table}
 use Rattle.sw_cmd_protocol.specs.declared.stop.Stop.{Stop}
 use Rattle.sw_cmd_protocol.specs.declared.stop.Stop.TheVariants.{Ended}
 use Rattle.sw_cmd_protocol.specs.Script.{script, End}
@@ -38,16 +38,15 @@ pub all_answered : (setting : Setting) (target : Target) (most : ℕ) (stop : St
 all_answered setting target most stop bytes before now left course course_now ran ran_now s e =
     all_answered_of_any (poll setting) grows most bytes ran ran_now (held target course []) s.holds before now left stop s.served e
 
-pub in_turn : (setting : Setting) (target : Target) (c : Course) (kept : Tables) (events : List Event) (marks : List Mark) → AreMarks (poll setting) (held target (Some c) kept) events marks → ReadInTurn c marks
+pub in_turn : (setting : Setting) (target : Target) (c : Course) (kept : Table) (events : List Event) (marks : List Mark) → AreMarks (poll setting) (held target (Some c) kept) events marks → ReadInTurn c marks
 unfolding AreMarks turn_of
 in_turn setting target c kept events [] m = tt
-in_turn setting target c kept [] (Answered course folder ran ∷ marks) m = absurd m
+in_turn setting target c kept [] (Answered course folder ran now ∷ marks) m = absurd m
 in_turn setting target c kept [] (Refused course folder ran ∷ marks) m = absurd m
 in_turn setting target c kept [] (Unread course ∷ marks) m = tt
-in_turn setting target c kept (Scan ∷ events) (Answered course folder ran ∷ marks) m =
+in_turn setting target c kept (Scan ∷ events) (Answered course folder ran now ∷ marks) m =
     let read = m.0.0 c refl in
-    let after : Tables = kept_after kept target.entry (compiled_of setting (held target (Some c) kept) folder).runs in
-    (read.1, in_turn setting target (after_listing c) after events marks (subst (λ (x : Option Course). AreMarks (poll setting) (held target x after) events marks) read.0 m.1))
+    (read.1, in_turn setting target (after_listing c) now events marks (subst (λ (x : Option Course). AreMarks (poll setting) (held target x now) events marks) read.0 m.1))
 in_turn setting target c kept (Scan ∷ events) (Refused course folder ran ∷ marks) m =
     let read = m.0 c refl in
     (read.1, in_turn setting target (after_listing c) kept events marks (subst (λ (x : Option Course). AreMarks (poll setting) (held target x kept) events marks) read.0 m.1))
@@ -59,8 +58,7 @@ unfolding turns turn_of
 keeps_target setting h [] [] = refl
 keeps_target setting h (event ∷ events) [] = refl
 keeps_target setting h [] (mark ∷ marks) = refl
-keeps_target setting h (Scan ∷ events) (Answered course folder ran ∷ marks) =
-    keeps_target setting (held h.target course (kept_after h.kept h.target.entry (compiled_of setting h folder).runs)) events marks
+keeps_target setting h (Scan ∷ events) (Answered course folder ran now ∷ marks) = keeps_target setting (held h.target course now) events marks
 keeps_target setting h (Scan ∷ events) (Refused course folder ran ∷ marks) = keeps_target setting (held h.target course h.kept) events marks
 keeps_target setting h (Scan ∷ events) (Unread course ∷ marks) = keeps_target setting (held h.target course h.kept) events marks
 

@@ -11,7 +11,7 @@ use Rattle.sw_wire.specs.Replies.{reply_text, memory_text}
 use Rattle.sw_modules.specs.Fresh.{Setting}
 use Rattle.sw_record.specs.declared.reply.Reply.{Reply}
 use Rattle.sw_keeper.specs.Compile.{compiled, CompilesTo}
-use Rattle.sw_keeper.specs.Keeping.{Tables, Keeping}
+use Rattle.sw_keeper.specs.Keeping.{Table, Keeping}
 use Rattle.sw_cmd_protocol.specs.declared.stop.Stop.{Stop}
 use Rattle.sw_cmd_protocol.specs.declared.stop.Stop.TheVariants.{Ended, Wrong, CutOff, SourceFailed, SinkFailed, Memory, OutsideFailed, Over as Over_stop}
 use Rattle.sw_cmd_protocol.specs.Protocol.{Turn}
@@ -21,10 +21,10 @@ use Rattle.sw_cmd_session.specs.Edits.{SendEnds}
 use Rattle.sw_cmd_session.proofs.Turning.{one_reply, reply_is}
 use Rattle.sw_cmd_run.specs.Poll.{Scan, Held, held, Mark, Answered, Refused, Unread, compiled_of, answered_turn, refused_turn, unread_turn, turn_of, IsMark, IsSaid, poll}
 
-answered_is : (setting : Setting) (h : Held) (course : Option Course) (folder : Files) (reply : Reply)
-    → turn_of setting h Scan (Answered course folder reply.ran) ≡ answered_turn h course (compiled_of setting h folder) reply.ran
+answered_is : (setting : Setting) (h : Held) (course : Option Course) (folder : Files) (reply : Reply) (kept : Table)
+    → turn_of setting h Scan (Answered course folder reply.ran kept) ≡ answered_turn h course (compiled_of setting h folder) reply.ran kept
 unfolding turn_of
-answered_is setting h course folder reply = refl
+answered_is setting h course folder reply kept = refl
 
 refused_is : (setting : Setting) (h : Held) (course : Option Course) (folder : Files) (ran : List (List ℕ)) → turn_of setting h Scan (Refused course folder ran) ≡ refused_turn h course ran
 unfolding turn_of
@@ -69,14 +69,14 @@ module _ (setting : Setting) (mark : Mark) (before after : Standing Held) (turn 
 
 module _ (setting : Setting) (t : Target) (before now : Option Course) (old new : Keeping) (ran ran_now : List (List ℕ)) (written sent : Option (List ℕ)) (read : IsRead before now old.folder) where
   -- the compile was answered
-  module _ (reply : Reply) (c : CompilesTo (compiled setting old.folder t.paths t.entry []) t.entry reply old new [] ran ran_now) where
+  module _ (reply : Reply) (c : CompilesTo (compiled setting old.folder t.paths t.entry []) reply old new [] ran ran_now) where
     abbrev answered : Turn Held Reply
-    answered = answered_turn (held t before old.kept) now (compiled_of setting (held t before old.kept) old.folder) reply.ran
+    answered = answered_turn (held t before old.kept) now (compiled_of setting (held t before old.kept) old.folder) reply.ran new.kept
 
     pub compile_says : Appends written sent (reply_text reply) → Says (poll setting) Scan (reply ∷ []) (standing (held t before old.kept) ran) (standing (held t now new.kept) ran_now) written sent
     compile_says a =
-        says setting (Answered now old.folder reply.ran) (standing (held t before old.kept) ran) (standing (held t now new.kept) ran_now) answered
-        (answered_is setting (held t before old.kept) now old.folder reply) (read, c.ran) (ap (held t now) c.kept) c.told (reply ∷ [])
+        says setting (Answered now old.folder reply.ran new.kept) (standing (held t before old.kept) ran) (standing (held t now new.kept) ran_now) answered
+        (answered_is setting (held t before old.kept) now old.folder reply new.kept) (read, c.ran, c.kept) refl c.told (reply ∷ [])
         (one_reply reply (compiled setting old.folder t.paths t.entry []) c.says c.outcome) written sent (reply_text reply) tt
         (reply_is reply (compiled setting old.folder t.paths t.entry []) c.says c.outcome) a
 
@@ -86,12 +86,12 @@ module _ (setting : Setting) (t : Target) (before now : Option Course) (old new 
     compile_stops CutOff s = absurd s
     compile_stops SourceFailed s = absurd s
     compile_stops SinkFailed s =
-        says_some setting (Answered now old.folder reply.ran) (standing (held t before old.kept) ran) (standing (held t now new.kept) ran_now) answered
-        (answered_is setting (held t before old.kept) now old.folder reply) (read, c.ran) (ap (held t now) c.kept) c.told written sent (reply_text reply)
+        says_some setting (Answered now old.folder reply.ran new.kept) (standing (held t before old.kept) ran) (standing (held t now new.kept) ran_now) answered
+        (answered_is setting (held t before old.kept) now old.folder reply new.kept) (read, c.ran, c.kept) refl c.told written sent (reply_text reply)
         (reply_is reply (compiled setting old.folder t.paths t.entry []) c.says c.outcome) s
     compile_stops Memory s = record {
-      does = does setting (Answered now old.folder reply.ran) (standing (held t before old.kept) ran) (standing (held t now new.kept) ran_now) answered
-          (answered_is setting (held t before old.kept) now old.folder reply) (read, c.ran) (ap (held t now) c.kept) c.told;
+      does = does setting (Answered now old.folder reply.ran new.kept) (standing (held t before old.kept) ran) (standing (held t now new.kept) ran_now) answered
+          (answered_is setting (held t before old.kept) now old.folder reply new.kept) (read, c.ran, c.kept) refl c.told;
       left = tt;
       sends = s;
     }
@@ -111,7 +111,7 @@ module _ (setting : Setting) (t : Target) (before now : Option Course) (old new 
         (refused_is setting (held t before old.kept) now old.folder more) read (ap (λ (k : Keeping). held t now k.kept) same) told written sent reply e s
 
 -- the reading broke off
-module _ (setting : Setting) (t : Target) (before now : Option Course) (kept kept_now : Tables) (ran : List (List ℕ)) (same : kept_now ≡ kept) (broken : IsBrokenOff before now) where
+module _ (setting : Setting) (t : Target) (before now : Option Course) (kept kept_now : Table) (ran : List (List ℕ)) (same : kept_now ≡ kept) (broken : IsBrokenOff before now) where
   abbrev unread : Does (poll setting) Scan (standing (held t before kept) ran) (standing (held t now kept_now) ran)
   unread = does setting (Unread now) (standing (held t before kept) ran) (standing (held t now kept_now) ran) (unread_turn (held t before kept) now)
       (unread_is setting (held t before kept) now) broken (ap (held t now) same) (sym (append-nil ran))

@@ -8,7 +8,7 @@ use Rattle.sw_cmd_run.specs.Poll.{Mark, Answered, Refused, Unread}
 -- broke off is the last
 abbrev pub ReadInTurn : Course → List Mark → Type 0
 ReadInTurn c [] = ⊤
-ReadInTurn c (Answered course folder ran ∷ marks) =
+ReadInTurn c (Answered course folder ran kept ∷ marks) =
     IsHeld (after_listing c).files folder × ReadInTurn (after_listing c) marks
 ReadInTurn c (Refused course folder ran ∷ marks) =
     IsHeld (after_listing c).files folder × ReadInTurn (after_listing c) marks

@@ -10,7 +10,7 @@ use Rattle.sw_record.specs.declared.reply.Cause.{Cause}
 use Rattle.sw_record.specs.declared.reply.Reply.{Reply}
 use Rattle.sw_record.specs.Ran.{Ran}
 use Rattle.sw_keeper.specs.Compile.{Compile as Compiled, compiled, paths_of}
-use Rattle.sw_keeper.specs.Keeping.{Tables, kept_for, kept_after}
+use Rattle.sw_keeper.specs.Keeping.{Table, kept_in, AreKept}
 use Rattle.sw_cmd_protocol.specs.declared.stop.Stop.{Stop}
 use Rattle.sw_cmd_protocol.specs.declared.stop.Stop.TheVariants.{Ended, Wrong, CutOff, SourceFailed, SinkFailed, Memory, OutsideFailed, Over as Over_stop}
 use Rattle.sw_cmd_protocol.specs.Script.{Next, Whole, Closing, NoRequest, Ending, End, Bad, Over, Grammar}
@@ -46,16 +46,16 @@ grammar = record { front = λ line rest. front_by (word_of line) rest; last = λ
 pub record Held : Type 0 where
   pub target : Target
   pub course : Option Course
-  pub kept : Tables
+  pub kept : Table
 
-abbrev pub held : Target → Option Course → Tables → Held
+abbrev pub held : Target → Option Course → Table → Held
 held target course kept = record { target = target; course = course; kept = kept }
 
 -- what follows of a scan from no definition: what the disk tells of the folder then, and what the readings gave where
--- it tells nothing. A compile was answered, and these bodies ran, each for its cause; it was refused for want of memory
--- after these bodies ran; or the reading broke off
+-- it tells nothing. A compile was answered: these bodies ran, each for its cause, and these runs are kept from then on;
+-- it was refused for want of memory after these bodies ran; or the reading broke off
 pub data Mark : Type 0 where
-  Answered : (course : Option Course) → (folder : Files) → (ran : List (List ℕ × Cause)) → Mark
+  Answered : (course : Option Course) → (folder : Files) → (ran : List (List ℕ × Cause)) → (kept : Table) → Mark
   Refused : (course : Option Course) → (folder : Files) → (ran : List (List ℕ)) → Mark
   Unread : (course : Option Course) → Mark
 
@@ -63,13 +63,12 @@ pub data Mark : Type 0 where
 abbrev pub compiled_of : Setting → Held → Files → Compiled
 compiled_of setting h folder = compiled setting folder h.target.paths h.target.entry []
 
--- the runs that ended well are kept from then on
-abbrev pub answered_turn : Held → Option Course → Compiled → List (List ℕ × Cause) → Turn Held Reply
-answered_turn h course c ran = record {
+abbrev pub answered_turn : Held → Option Course → Compiled → List (List ℕ × Cause) → Table → Turn Held Reply
+answered_turn h course c ran kept = record {
   text = reply_text (reply_of c ran);
   told = reply_of c ran ∷ [];
   ran = paths_of ran;
-  held = held h.target course (kept_after h.kept h.target.entry c.runs);
+  held = held h.target course kept;
 }
 
 abbrev pub refused_turn : Held → Option Course → List (List ℕ) → Turn Held Reply
@@ -79,30 +78,32 @@ abbrev pub unread_turn : Held → Option Course → Turn Held Reply
 unread_turn h course = record { text = []; told = []; ran = []; held = held h.target course h.kept }
 
 unfoldable pub turn_of : Setting → Held → Event → Mark → Turn Held Reply
-turn_of setting h Scan (Answered course folder ran) = answered_turn h course (compiled_of setting h folder) ran
+turn_of setting h Scan (Answered course folder ran kept) =
+    answered_turn h course (compiled_of setting h folder) ran kept
 turn_of setting h Scan (Refused course folder ran) = refused_turn h course ran
 turn_of setting h Scan (Unread course) = unread_turn h course
 
 -- the folder is the one that was read; the bodies that an answered compile's mark tells of are the runs of its
--- evaluation that are none of the kept ones, in order, each with its cause
+-- evaluation that are none of the kept ones, in order, each with its cause, and its runs are the latest used then
 abbrev pub IsMark : Setting → Held → Event → Mark → Type 0
-IsMark setting h Scan (Answered course folder ran) =
-    IsRead h.course course folder × Ran (kept_for h.kept h.target.entry) (compiled_of setting h folder).runs ran
+IsMark setting h Scan (Answered course folder ran kept) =
+    IsRead h.course course folder × Ran (kept_in h.kept) (compiled_of setting h folder).runs ran
+    × AreKept h.kept (compiled_of setting h folder).runs kept
 IsMark setting h Scan (Refused course folder ran) = IsRead h.course course folder
 IsMark setting h Scan (Unread course) = IsBrokenOff h.course course
 
 abbrev pub IsSaid : Held → Event → Mark → Type 0
-IsSaid h event (Answered course folder ran) = ⊤
+IsSaid h event (Answered course folder ran kept) = ⊤
 IsSaid h event (Refused course folder ran) = ⊤
 IsSaid h event (Unread course) = ⊥
 
 abbrev pub IsUnread : Mark → Type 0
-IsUnread (Answered course folder ran) = ⊥
+IsUnread (Answered course folder ran kept) = ⊥
 IsUnread (Refused course folder ran) = ⊥
 IsUnread (Unread course) = ⊤
 
 abbrev pub IsNotRefused : Mark → Type 0
-IsNotRefused (Answered course folder ran) = ⊤
+IsNotRefused (Answered course folder ran kept) = ⊤
 IsNotRefused (Refused course folder ran) = ⊥
 IsNotRefused (Unread course) = ⊤
 

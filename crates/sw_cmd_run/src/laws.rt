@@ -3,7 +3,7 @@ ghost use Rattle.std.specs.Prelude.{◌≡◌, ◌⊎◌, ℕ, List, [], Option,
 ghost use Rattle.sw_io.specs.Disks.{Course};
 ghost use Rattle.sw_cmd_line.specs.Forms.{Target};
 ghost use Rattle.sw_modules.specs.Fresh.{Setting};
-ghost use Rattle.sw_keeper.specs.Keeping.{Tables};
+ghost use Rattle.sw_keeper.specs.Keeping.{Table};
 ghost use Rattle.sw_cmd_protocol.specs.declared.stop.Stop.{Stop};
 ghost use Rattle.sw_cmd_protocol.specs.Script.{script, End};
 ghost use Rattle.sw_cmd_protocol.specs.Transcript.{AreMarks};
@@ -36,6 +36,6 @@ pub fn poll_answers_all()
 
 /// Over a disk that tells its folders the scans read what it lists, one listing after the other.
 pub fn scans_read_in_turn()
-    ensures { (setting : Setting) (target : Target) (c : Course) (kept : Tables) (events : List Event)
+    ensures { (setting : Setting) (target : Target) (c : Course) (kept : Table) (events : List Event)
         (marks : List Mark) → AreMarks (poll setting) (held target (Some c) kept) events marks → ReadInTurn c marks }
 {}

@@ -1,12 +1,13 @@
 -- What follows for sessions from what holds of every protocol.
-use Rattle.std.proofs.Common.{◌≡◌, ℕ, List, Some, ◌⊎◌, inl, inr, refl, ap}
+use Rattle.std.proofs.Common.{◌≡◌, ℕ, List, Some, ◌⊎◌, inl, inr, refl, ap, ◌∙◌}
 use Rattle.std.specs.declared.option.Option.{Option}
 use Rattle.sw_world.specs.Hosts.{HostState}
 use Rattle.sw_modules.specs.Fresh.{Setting}
 use Rattle.sw_record.specs.declared.reply.Cause.{Cause}
 use Rattle.sw_record.proofs.One.{ran_is_one}
 use Rattle.sw_keeper.specs.Compile.{compiled}
-use Rattle.sw_keeper.specs.Keeping.{kept_for}
+use Rattle.sw_keeper.specs.Keeping.{Table, kept_in}
+use Rattle.sw_keeper.proofs.Tables.{kept_is_one}
 use Rattle.sw_cmd_protocol.specs.declared.stop.Stop.{Stop}
 use Rattle.sw_cmd_protocol.specs.declared.stop.Stop.TheVariants.{Ended, Wrong, CutOff, SourceFailed, SinkFailed, Memory, OutsideFailed, Over}
 use Rattle.sw_cmd_protocol.specs.Script.{script, End}
@@ -45,9 +46,9 @@ all_answered setting most stop bytes before now left ran ran_now hosts hosts_now
 
 edit_mark : (mark other : Mark) → IsEditMark mark → IsEditMark other → mark ≡ other
 edit_mark Edited Edited a b = refl
-edit_mark Edited (Answered ran) a b = absurd b
+edit_mark Edited (Answered ran kept) a b = absurd b
 edit_mark Edited (Refused ran calls) a b = absurd b
-edit_mark (Answered ran) other a b = absurd a
+edit_mark (Answered ran kept) other a b = absurd a
 edit_mark (Refused ran calls) other a b = absurd a
 
 some_same : (a b : Refusal) → Some a ≡ Some b → a ≡ b
@@ -56,12 +57,13 @@ some_same a b e = cc
 compile_mark : (setting : Setting) (h : Held) (entry : List ℕ) (paths : List (List ℕ)) (mark other : Mark) → IsCompileMark setting h entry paths mark → IsCompileMark setting h entry paths other
     → refusal mark ≡ refusal other → mark ≡ other
 compile_mark setting h entry paths Edited other a b e = absurd a
-compile_mark setting h entry paths (Answered ran) Edited a b e = absurd b
-compile_mark setting h entry paths (Answered ran) (Answered other) a b e =
-    ap (λ (x : List (List ℕ × Cause)). Answered x) (ran_is_one (kept_for h.kept entry) (compiled setting h.folder paths entry h.hosts).runs ran other a b)
-compile_mark setting h entry paths (Answered ran) (Refused bodies calls) a b e = cc
+compile_mark setting h entry paths (Answered ran kept) Edited a b e = absurd b
+compile_mark setting h entry paths (Answered ran kept) (Answered other now) a b e =
+    ap (λ (x : List (List ℕ × Cause)). Answered x kept) (ran_is_one (kept_in h.kept) (compiled setting h.folder paths entry h.hosts).runs ran other a.0 b.0)
+    ∙ ap (λ (x : Table). Answered other x) (kept_is_one h.kept (compiled setting h.folder paths entry h.hosts).runs kept now a.1 b.1)
+compile_mark setting h entry paths (Answered ran kept) (Refused bodies calls) a b e = cc
 compile_mark setting h entry paths (Refused ran calls) Edited a b e = absurd b
-compile_mark setting h entry paths (Refused ran calls) (Answered other) a b e = cc
+compile_mark setting h entry paths (Refused ran calls) (Answered other kept) a b e = cc
 compile_mark setting h entry paths (Refused ran calls) (Refused bodies others) a b e =
     ap (λ (x : Refusal). Refused x.ran x.calls) (some_same (record { ran = ran; calls = calls }) (record { ran = bodies; calls = others }) e)
 

@@ -17,7 +17,7 @@ use Rattle.sw_modules.specs.Fresh.{Setting}
 use Rattle.sw_record.specs.declared.reply.Outcome.{Outcome}
 use Rattle.sw_record.specs.declared.reply.Reply.{Reply}
 use Rattle.sw_keeper.specs.Compile.{Compile as Compiled, compiled, CompilesTo, BreaksOff}
-use Rattle.sw_keeper.specs.Keeping.{Tables, Keeping}
+use Rattle.sw_keeper.specs.Keeping.{Table, Keeping}
 use Rattle.sw_cmd_protocol.specs.declared.stop.Stop.{Stop}
 use Rattle.sw_cmd_protocol.specs.declared.stop.Stop.TheVariants.{Ended, Wrong, CutOff, SourceFailed, SinkFailed, Memory, OutsideFailed, Over as Over_stop}
 use Rattle.sw_cmd_protocol.specs.Protocol.{Turn}
@@ -127,8 +127,8 @@ module _ (setting : Setting) (event : Event) (mark : Mark) (before after : Stand
     sends = s.3;
   }
 
-held_same : (f f' : Files) (k k' : Tables) (h h' : HostState) → f ≡ f' → k ≡ k' → h ≡ h' → held f k h ≡ held f' k' h'
-held_same f f' k k' h h' a b c = ap (λ (x : Files). held x k h) a ∙ ap (λ (x : Tables). held f' x h) b ∙ ap (λ (x : HostState). held f' k' x) c
+held_same : (f f' : Files) (k k' : Table) (h h' : HostState) → f ≡ f' → k ≡ k' → h ≡ h' → held f k h ≡ held f' k' h'
+held_same f f' k k' h h' a b c = ap (λ (x : Files). held x k h) a ∙ ap (λ (x : Table). held f' x h) b ∙ ap (λ (x : HostState). held f' k' x) c
 
 -- the folder and the kept runs of what is held
 abbrev pub keeping : Held → Keeping
@@ -143,11 +143,11 @@ one_reply reply c a b = ap (λ (x : List Saying). let r : Reply = record { says 
     ∙ ap (λ (x : Outcome). let r : Reply = record { says = reply.says; ran = reply.ran; outcome = x } in r ∷ []) (sym b)
 
 module _ (setting : Setting) (entry : List ℕ) (paths : List (List ℕ)) (before after : Standing Held) (reply : Reply) (written now : Option (List ℕ))
-    (c : CompilesTo (compiled setting before.held.folder paths entry before.held.hosts) entry reply (keeping before.held) (keeping after.held) after.held.hosts before.ran after.ran) where
+    (c : CompilesTo (compiled setting before.held.folder paths entry before.held.hosts) reply (keeping before.held) (keeping after.held) after.held.hosts before.ran after.ran) where
   pub compile_says : Appends written now (reply_text reply) → Says (session setting) (Compile entry paths) (reply ∷ []) before after written now
   compile_says a =
-      says setting (Compile entry paths) (Answered reply.ran) before after (compile_turn setting before.held entry paths (Answered reply.ran))
-      (compile_is setting before.held entry paths (Answered reply.ran)) c.ran (held_same _ _ _ _ _ _ c.folder c.kept c.hosts) c.told
+      says setting (Compile entry paths) (Answered reply.ran after.held.kept) before after (compile_turn setting before.held entry paths (Answered reply.ran after.held.kept))
+      (compile_is setting before.held entry paths (Answered reply.ran after.held.kept)) (c.ran, c.kept) (held_same _ _ _ _ _ _ c.folder refl c.hosts) c.told
       (reply ∷ []) (one_reply reply (compiled setting before.held.folder paths entry before.held.hosts) c.says c.outcome) written now (reply_text reply)
       (reply_is reply (compiled setting before.held.folder paths entry before.held.hosts) c.says c.outcome) a
 
@@ -157,12 +157,12 @@ module _ (setting : Setting) (entry : List ℕ) (paths : List (List ℕ)) (befor
   compile_stops CutOff s = absurd s
   compile_stops SourceFailed s = absurd s
   compile_stops SinkFailed s =
-      says_some setting (Compile entry paths) (Answered reply.ran) before after (compile_turn setting before.held entry paths (Answered reply.ran))
-      (compile_is setting before.held entry paths (Answered reply.ran)) c.ran (held_same _ _ _ _ _ _ c.folder c.kept c.hosts) c.told written now (reply_text reply)
+      says_some setting (Compile entry paths) (Answered reply.ran after.held.kept) before after (compile_turn setting before.held entry paths (Answered reply.ran after.held.kept))
+      (compile_is setting before.held entry paths (Answered reply.ran after.held.kept)) (c.ran, c.kept) (held_same _ _ _ _ _ _ c.folder refl c.hosts) c.told written now (reply_text reply)
       (reply_is reply (compiled setting before.held.folder paths entry before.held.hosts) c.says c.outcome) s
   compile_stops Memory s = record {
-    does = does setting (Compile entry paths) (Answered reply.ran) before after (compile_turn setting before.held entry paths (Answered reply.ran))
-        (compile_is setting before.held entry paths (Answered reply.ran)) c.ran (held_same _ _ _ _ _ _ c.folder c.kept c.hosts) c.told;
+    does = does setting (Compile entry paths) (Answered reply.ran after.held.kept) before after (compile_turn setting before.held entry paths (Answered reply.ran after.held.kept))
+        (compile_is setting before.held entry paths (Answered reply.ran after.held.kept)) (c.ran, c.kept) (held_same _ _ _ _ _ _ c.folder refl c.hosts) c.told;
     left = tt;
     sends = s;
   }

@@ -10,7 +10,7 @@ use Rattle.sw_record.specs.declared.reply.Cause.{Cause}
 use Rattle.sw_record.specs.declared.reply.Reply.{Reply}
 use Rattle.sw_record.specs.Ran.{Ran}
 use Rattle.sw_keeper.specs.Compile.{Compile as Compiled, compiled, paths_of, after_first}
-use Rattle.sw_keeper.specs.Keeping.{Tables, Keeping, kept_for, kept_after}
+use Rattle.sw_keeper.specs.Keeping.{Table, Keeping, kept_in, AreKept}
 use Rattle.sw_cmd_protocol.specs.declared.stop.Stop.{Stop}
 use Rattle.sw_cmd_protocol.specs.declared.stop.Stop.TheVariants.{Ended, Wrong, CutOff, SourceFailed, SinkFailed, Memory, OutsideFailed, Over}
 use Rattle.sw_cmd_protocol.specs.Protocol.{Protocol, Turn}
@@ -19,21 +19,21 @@ use Rattle.sw_cmd_session.specs.Script.{Event, Put, Remove, Compile, grammar}
 -- what a session holds between two requests: its folder, the runs that are kept, and the state of the host's functions
 pub record Held : Type 0 where
   pub folder : Files
-  pub kept : Tables
+  pub kept : Table
   pub hosts : HostState
 
-abbrev pub held : Files → Tables → HostState → Held
+abbrev pub held : Files → Table → HostState → Held
 held folder kept hosts = record { folder = folder; kept = kept; hosts = hosts }
 
 abbrev pub holding : Keeping → HostState → Held
 holding keeper hosts = held keeper.folder keeper.kept hosts
 
--- what follows of a request from no definition. An edit has one mark alone. A compile was answered, and these bodies
--- ran, each for its cause; or it was refused for want of memory: the bodies that ran before, and how many calls of the
--- host's functions were made
+-- what follows of a request from no definition. An edit has one mark alone. A compile was answered: these bodies
+-- ran, each for its cause, and these runs are kept from then on; or it was refused for want of memory: the bodies that
+-- ran before, and how many calls of the host's functions were made
 pub data Mark : Type 0 where
   Edited : Mark
-  Answered : (ran : List (List ℕ × Cause)) → Mark
+  Answered : (ran : List (List ℕ × Cause)) → (kept : Table) → Mark
   Refused : (ran : List (List ℕ)) → (calls : ℕ) → Mark
 
 -- an edit runs no body, and the kept runs stay
@@ -45,13 +45,12 @@ edit_turn h edit =
 abbrev pub reply_of : Compiled → List (List ℕ × Cause) → Reply
 reply_of c ran = record { says = c.says; ran = ran; outcome = c.outcome }
 
--- the runs that ended well are kept for the entry from then on
-abbrev pub answered_turn : Held → List ℕ → Compiled → List (List ℕ × Cause) → Turn Held Reply
-answered_turn h entry c ran = record {
+abbrev pub answered_turn : Held → Compiled → List (List ℕ × Cause) → Table → Turn Held Reply
+answered_turn h c ran kept = record {
   text = reply_text (reply_of c ran);
   told = reply_of c ran ∷ [];
   ran = paths_of ran;
-  held = held h.folder (kept_after h.kept entry c.runs) c.hosts;
+  held = held h.folder kept c.hosts;
 }
 
 -- a compile that is refused leaves the kept runs too; the host's functions are then as the first calls left them
@@ -66,8 +65,8 @@ refused_turn setting h c ran calls = record {
 -- a compile edits nothing
 abbrev pub compile_turn : Setting → Held → List ℕ → List (List ℕ) → Mark → Turn Held Reply
 compile_turn setting h entry paths Edited = record { text = []; told = []; ran = []; held = h }
-compile_turn setting h entry paths (Answered ran) =
-    answered_turn h entry (compiled setting h.folder paths entry h.hosts) ran
+compile_turn setting h entry paths (Answered ran kept) =
+    answered_turn h (compiled setting h.folder paths entry h.hosts) ran kept
 compile_turn setting h entry paths (Refused ran calls) =
     refused_turn setting h (compiled setting h.folder paths entry h.hosts) ran calls
 
@@ -79,15 +78,17 @@ turn_of setting h (Compile entry paths) mark = compile_turn setting h entry path
 
 abbrev pub IsEditMark : Mark → Type 0
 IsEditMark Edited = ⊤
-IsEditMark (Answered ran) = ⊥
+IsEditMark (Answered ran kept) = ⊥
 IsEditMark (Refused ran calls) = ⊥
 
--- the bodies that an answered compile's mark tells of are the runs of its evaluation that aren't the kept ones of its
--- entry, in order, each with its cause; a refused one made no more calls than its evaluation
+-- the bodies that an answered compile's mark tells of are the runs of its evaluation that are none of the kept ones, in
+-- order, each with its cause, and its runs are the latest used then; a refused one made no more calls than its
+-- evaluation
 abbrev pub IsCompileMark : Setting → Held → List ℕ → List (List ℕ) → Mark → Type 0
 IsCompileMark setting h entry paths Edited = ⊥
-IsCompileMark setting h entry paths (Answered ran) =
-    Ran (kept_for h.kept entry) (compiled setting h.folder paths entry h.hosts).runs ran
+IsCompileMark setting h entry paths (Answered ran kept) =
+    Ran (kept_in h.kept) (compiled setting h.folder paths entry h.hosts).runs ran
+    × AreKept h.kept (compiled setting h.folder paths entry h.hosts).runs kept
 IsCompileMark setting h entry paths (Refused ran calls) =
     calls ≤ length (compiled setting h.folder paths entry h.hosts).calls
 
@@ -99,7 +100,7 @@ IsMark setting h (Compile entry paths) mark = IsCompileMark setting h entry path
 -- a compile that was answered
 abbrev pub IsAnswered : Mark → Type 0
 IsAnswered Edited = ⊥
-IsAnswered (Answered ran) = ⊤
+IsAnswered (Answered ran kept) = ⊤
 IsAnswered (Refused ran calls) = ⊥
 
 -- for want of memory the reply to a compile that was answered can be left out
@@ -129,5 +130,5 @@ pub record Refusal : Type 0 where
 
 abbrev pub refusal : Mark → Option Refusal
 refusal Edited = None
-refusal (Answered ran) = None
+refusal (Answered ran kept) = None
 refusal (Refused ran calls) = Some (record { ran = ran; calls = calls })

@@ -18,7 +18,7 @@ use crate::session::Session;
 use std::alloc::Global;
 use sw_cmd_protocol::{Stop, send};
 use sw_io::{Failed, Reader, Sink, Source};
-use sw_keeper::HasSetting;
+use sw_modules::HasSetting;
 use sw_record::Reply;
 use sw_text::{List, Memory, Name};
 use sw_wire::{memory_reply, write_front};

@@ -1,6 +1,6 @@
 // How the files of the folder are read.
 use std::alloc::Global;
-use sw_keeper::Reader;
+use sw_modules::Reader;
 use sw_parse_file::read_file;
 use sw_text::{Fault, Memory, Name, Shared};
 use sw_tree::Sheet;

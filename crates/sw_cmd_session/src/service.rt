@@ -9,7 +9,7 @@ use crate::session::Session;
 use std::alloc::Global;
 use sw_cmd_protocol::{Audience, Lines, Output, Service, Stop};
 use sw_io::{Sink, Source};
-use sw_keeper::HasSetting;
+use sw_modules::HasSetting;
 use sw_record::Reply;
 use sw_world::{Engine, Hosts};
 

@@ -7,9 +7,9 @@ use Rattle.sw_modules.specs.Fresh.{Setting}
 use Rattle.sw_record.specs.declared.reply.Reply.{Reply}
 use Rattle.sw_cmd_protocol.specs.Heard.{Hearing, HearsAll}
 use Rattle.sw_keeper.specs.Compile.{paths_of}
-use Rattle.sw_keeper.specs.Keeping.{Keeping, Tables}
+use Rattle.sw_keeper.specs.Keeping.{Keeping, Table}
 use Rattle.sw_cmd_workload.specs.declared.tally.Tally.{Tally}
-use Rattle.sw_cmd_workload.specs.Made.{made, edited, at_turn, after_compile, held_after, IsReply, bodies_in, paths_in, css_length, css_after}
+use Rattle.sw_cmd_workload.specs.Made.{made, edited, at_turn, IsAfter, IsHeldAfter, IsReply, bodies_in, paths_in, css_length, css_after}
 use Rattle.sw_cmd_workload.specs.Ends.{Standing, Compiles, Counts, BreaksOff}
 
 bodies_more : (replies : List Reply) (reply : Reply) → bodies_in (replies ++ reply ∷ []) ≡ bodies_in replies + length reply.ran
@@ -29,15 +29,15 @@ pub heard_more : {State : Type 0} (hears : Hearing Reply State) (replies : List 
 heard_more {State} hears [] reply first before now e h = (now, subst (λ (x : State). hears reply x now) e h, refl)
 heard_more hears (x ∷ replies) reply first before now (between, one, rest) h = (between, one, heard_more hears replies reply between before now rest h)
 
-same_keeping : (a : Keeping) (folder : Files) (kept : Tables) → a.folder ≡ folder → a.kept ≡ kept → a ≡ record { folder = folder; kept = kept }
+same_keeping : (a : Keeping) (folder : Files) (kept : Table) → a.folder ≡ folder → a.kept ≡ kept → a ≡ record { folder = folder; kept = kept }
 same_keeping a folder kept e d =
-    ap (λ (x : Files). let k : Keeping = record { folder = x; kept = a.kept } in k) e ∙ ap (λ (x : Tables). let k : Keeping = record { folder = folder; kept = x } in k) d
+    ap (λ (x : Files). let k : Keeping = record { folder = x; kept = a.kept } in k) e ∙ ap (λ (x : Table). let k : Keeping = record { folder = folder; kept = x } in k) d
 
 -- so many compiles were answered, counted and heard, and this is held
 pub record Going {State : Type 0} (setting : Setting) (number turns : ℕ) (hears : Hearing Reply State) (tally : Tally) (keeper : Keeping)
     (before now : Standing State) : Type 0 where
   pub counts : Counts setting number turns hears tally before now
-  pub holds : keeper ≡ held_after setting number turns
+  pub holds : IsHeldAfter setting number turns keeper
 
 module _ {State : Type 0} (setting : Setting) (number : ℕ) (hears : Hearing Reply State) where
   pub nothing_yet : (s : Standing State) → BreaksOff setting number hears s s
@@ -58,7 +58,7 @@ on_err (Err e) p = p
 
 module _ {State : Type 0} (setting : Setting) (number : ℕ) (hears : Hearing Reply State) (tally : Tally) (keeper : Keeping) where
   pub going_start : (s : Standing State) → keeper.folder ≡ made number → keeper.kept ≡ [] → tally.ran ≡ 0 → tally.css ≡ 0 → Going setting number 0 hears tally keeper s s
-  unfolding held_after
+  unfolding IsHeldAfter
   going_start s folder kept ran css = record {
     counts = record { compiles = record { replies = []; are = refl; told = sym (append-nil s.ran); heard = refl }; ran = ran; css = css };
     holds = same_keeping keeper (made number) [] folder kept;
@@ -78,16 +78,15 @@ module _ {State : Type 0} (setting : Setting) (number : ℕ) (hears : Hearing Re
     }
 
     module _ (edit after : Keeping) (reply : Reply) (now : Standing State) (folder : edit.folder ≡ edited number turns keeper.folder) (kept : edit.kept ≡ keeper.kept)
-        (is : IsReply setting edit reply) (then_ : after ≡ after_compile setting edit) (ran : now.ran ≡ between.ran ++ paths_of reply.ran) (heard : hears reply between.heard now.heard) where
-      pub at_this : edit ≡ at_turn number turns (held_after setting number turns)
-      at_this = same_keeping edit (edited number turns (held_after setting number turns).folder) (held_after setting number turns).kept
-          (folder ∙ ap (λ (k : Keeping). edited number turns k.folder) g.holds) (kept ∙ ap (λ (k : Keeping). k.kept) g.holds)
+        (is : IsReply setting edit reply) (then_ : IsAfter setting edit after) (ran : now.ran ≡ between.ran ++ paths_of reply.ran) (heard : hears reply between.heard now.heard) where
+      pub at_this : edit ≡ at_turn number turns keeper
+      at_this = same_keeping edit (edited number turns keeper.folder) keeper.kept folder kept
 
       -- one compile more
       abbrev pub compiles_more : Compiles setting number (suc turns) hears before now
       compiles_more = let c = g.counts.compiles in record {
         replies = c.replies ++ reply ∷ [];
-        are = (c.replies, reply, refl, subst (λ (k : Keeping). IsReply setting k reply) at_this is, c.are);
+        are = (c.replies, reply, refl, (keeper, g.holds, subst (λ (k : Keeping). IsReply setting k reply) at_this is), c.are);
         told = ran ∙ ap (λ ps. ps ++ paths_of reply.ran) c.told ∙ append_assoc before.ran (paths_in c.replies) (paths_of reply.ran) ∙ ap (λ ps. before.ran ++ ps) (sym (paths_more c.replies reply));
         heard = heard_more hears c.replies reply before.heard between.heard now.heard c.heard heard;
       }
@@ -105,12 +104,12 @@ module _ {State : Type 0} (setting : Setting) (number : ℕ) (hears : Hearing Re
       }
 
       pub going_on : (more : Tally) → more.ran ≡ tally.ran + length reply.ran → more.css ≡ css_length reply.outcome → Going setting number (turns + 1) hears more after before now
-      unfolding held_after
+      unfolding IsHeldAfter
       going_on more bodies css = rw add-one (record {
         counts = record {
           compiles = compiles_more;
           ran = bodies ∙ ap (λ n. n + length reply.ran) g.counts.ran ∙ sym (bodies_more g.counts.compiles.replies reply);
           css = css ∙ sym (css_more 0 g.counts.compiles.replies reply);
         };
-        holds = then_ ∙ ap (after_compile setting) at_this;
+        holds = (keeper, g.holds, subst (λ (k : Keeping). IsAfter setting k after) at_this then_);
       })

@@ -9,7 +9,7 @@ use Rattle.sw_record.specs.declared.reply.Outcome.TheVariants.{Css, Error}
 use Rattle.sw_record.specs.declared.reply.Reply.{Reply}
 use Rattle.sw_record.specs.Ran.{Ran}
 use Rattle.sw_keeper.specs.Compile.{Compile, compiled, paths_of}
-use Rattle.sw_keeper.specs.Keeping.{Keeping, kept_for, kept_after}
+use Rattle.sw_keeper.specs.Keeping.{Keeping, kept_in, AreKept}
 use Rattle.sw_cmd_workload.specs.Texts.{lib_path, lib_text, parts_of, width_of, part_path, part_text, main_path, main_text, edited_place, edited_width, summary}
 
 -- a file is put
@@ -46,30 +46,30 @@ at_turn number turn k = with_folder (edited number turn k.folder) k
 abbrev pub compile_of : Setting → Keeping → Compile
 compile_of setting k = compiled setting k.folder [] main_path []
 
--- what is held after it
-abbrev pub after_compile : Setting → Keeping → Keeping
-after_compile setting k =
-    record { folder = k.folder; kept = kept_after k.kept main_path (compile_of setting k).runs }
+-- what is held after it: its runs are the latest used
+pub record IsAfter (setting : Setting) (k now : Keeping) : Type 0 where
+  pub folder : now.folder ≡ k.folder
+  pub kept : AreKept k.kept (compile_of setting k).runs now.kept
 
 -- what is held after so many compiles
-unfoldable pub held_after : Setting → ℕ → ℕ → Keeping
-held_after setting number zero = record { folder = made number; kept = [] }
-held_after setting number (suc turn) =
-    after_compile setting (at_turn number turn (held_after setting number turn))
+unfoldable pub IsHeldAfter : Setting → ℕ → ℕ → Keeping → Type 0
+IsHeldAfter setting number zero k = k ≡ record { folder = made number; kept = [] }
+IsHeldAfter setting number (suc turn) k =
+    (before : Keeping) × IsHeldAfter setting number turn before × IsAfter setting (at_turn number turn before) k
 
 -- the reply to a compile of what is held: what the evaluation of its files from nothing gives, and the bodies whose run
 -- there is none of the kept ones
 pub record IsReply (setting : Setting) (k : Keeping) (reply : Reply) : Type 0 where
   pub says : reply.says ≡ (compile_of setting k).says
   pub outcome : reply.outcome ≡ (compile_of setting k).outcome
-  pub ran : Ran (kept_for k.kept main_path) (compile_of setting k).runs reply.ran
+  pub ran : Ran (kept_in k.kept) (compile_of setting k).runs reply.ran
 
 -- the replies to so many compiles, in order
 abbrev pub AreReplies : Setting → ℕ → ℕ → List Reply → Type 0
 AreReplies setting number zero replies = replies ≡ []
 AreReplies setting number (suc turn) replies =
     (earlier : List Reply) × (reply : Reply) × (replies ≡ earlier ++ reply ∷ [])
-    × IsReply setting (at_turn number turn (held_after setting number turn)) reply
+    × ((k : Keeping) × IsHeldAfter setting number turn k × IsReply setting (at_turn number turn k) reply)
     × AreReplies setting number turn earlier
 
 -- how many bodies ran in all

@@ -2,7 +2,7 @@
 ghost use Rattle.std.specs.Prelude.{◌≡◌, ◌≢◌, ◌+◌, IfOk, OnErr};
 ghost use Rattle.sw_io.specs.Causes.{NoFault, Rose};
 ghost use Rattle.sw_cmd_workload.specs.Texts.{parts_of, summary};
-ghost use Rattle.sw_keeper.specs.Settings.{hostless};
+ghost use Rattle.sw_modules.specs.Settings.{hostless};
 ghost use Rattle.sw_cmd_workload.specs.Ends.{standing, Counts, BreaksOff, EndsBy, WritesBy};
 
 use crate::workload::{compile, edit, folder_made};
@@ -10,7 +10,7 @@ use crate::{Ending, Tally, parts_of, summary};
 use std::alloc::Global;
 use sw_cmd_protocol::{Audience, Output, send};
 use sw_io::Sink;
-use sw_keeper::Reader;
+use sw_modules::Reader;
 use sw_record::Reply;
 use sw_text::Memory;
 use sw_world::Engine;

@@ -2,8 +2,8 @@
 ghost use Rattle.std.specs.Prelude.{◌≡◌, ◌++◌, [], List, ℕ, IfOk, OnOk, OnErr};
 ghost use Rattle.sw_keeper.specs.Compile.{paths_of};
 ghost use Rattle.sw_cmd_workload.specs.Texts.{parts_of, part_path, part_text};
-ghost use Rattle.sw_keeper.specs.Settings.{hostless};
-ghost use Rattle.sw_cmd_workload.specs.Made.{with_file, with_parts, made, edited, after_compile, IsReply};
+ghost use Rattle.sw_modules.specs.Settings.{hostless};
+ghost use Rattle.sw_cmd_workload.specs.Made.{with_file, with_parts, made, edited, IsAfter, IsReply};
 
 use crate::{
     LIB_PATH, LIB_TEXT, MAIN_PATH, edited_place, edited_width, main_text, part_path, part_text,
@@ -11,7 +11,8 @@ use crate::{
 };
 use std::alloc::Global;
 use sw_folder::EditFault;
-use sw_keeper::{Keeper, Reader};
+use sw_keeper::Keeper;
+use sw_modules::Reader;
 use sw_record::Reply;
 use sw_text::{Memory, Name};
 use sw_world::{Engine, NoHosts};
@@ -107,7 +108,7 @@ pub(crate) fn compile<R: Reader, E: Engine>(
     engine: &mut E,
 ) -> Result<Reply, Memory>
     ensures reply { IfOk result (λ reply. IsReply (hostless R.reads E.body) keeper.old reply) }
-    ensures after { OnOk result (keeper.new ≡ after_compile (hostless R.reads E.body) keeper.old) }
+    ensures after { OnOk result (IsAfter (hostless R.reads E.body) keeper.old keeper.new) }
     ensures ran { IfOk result (λ reply. E.ran engine.new ≡ E.ran engine.old ++ paths_of reply.ran) }
     ensures cut { OnErr result ((more : List (List ℕ)) × (E.ran engine.new ≡ E.ran engine.old ++ more)) }
 {

@@ -1,5 +1,5 @@
 -- What is kept of a body between its turns.
-use Rattle.std.specs.Prelude.{ℕ, ◌≤◌, List, length}
+use Rattle.std.specs.Prelude.{ℕ, ◌≤◌, Bool, List, length}
 use Rattle.sw_world.specs.Body.{Pair, Job}
 use Rattle.sw_eval_questions.specs.Told.{IsRest}
 use Rattle.sw_eval_questions.specs.Turns.{HasRoom}
@@ -14,7 +14,7 @@ pub record IsResume (job : Job) (pairs : List Pair) (at next : ℕ) (s : State) 
   pub within : at ≤ length pairs
 
 -- what holds of the fields of a body
-pub record Keeps (job : Job) (pairs : List Pair) (at next : ℕ) (s : State) (place : Place) (len capacity : ℕ) : Type 0
+pub record Keeps (job : Job) (pairs : List Pair) (at next : ℕ) (s : State) (place : Place) (has_room : Bool) : Type 0
   where
     pub resume : IsResume job pairs at next s
-    pub room : HasRoom place len capacity
+    pub room : HasRoom place has_room

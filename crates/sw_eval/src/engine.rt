@@ -1,21 +1,22 @@
 // The engine: bodies that stop at loads and go on after their answers.
-ghost use Rattle.std.specs.Prelude.{◌≡◌, ◌<◌, true, [], ◌∷◌, ◌++◌, IfOk, OnErr, vec_len, vec_capacity};
+ghost use Rattle.std.specs.Prelude.{◌≡◌, ◌<◌, true, [], ◌∷◌, ◌++◌, IfOk, OnErr};
 ghost use Rattle.sw_world.specs.declared.question.Question.{Question};
 ghost use Rattle.sw_world.specs.Progress.{Running, Waiting, stops, ran_by};
 ghost use Rattle.sw_eval.specs.Means.{body};
 ghost use Rattle.sw_eval_questions.specs.Turns.{TurnDid, IsStep, status_of};
 ghost use Rattle.sw_eval_questions.specs.declared.place.Place.TheVariants.{Running as At_Running};
 
+use crate::history::History;
 use crate::turn::body_turn;
 use std::alloc::Global;
 use std::marker::Model;
 use std::mem;
-use sw_eval_questions::{Asked, Place, push_pair};
+use sw_eval_questions::{Asked, Place};
 use sw_eval_state::State;
 use sw_eval_walk::Walk;
-use sw_text::{List, Memory, Name, Shared};
+use sw_text::{Memory, Name, Shared};
 use sw_tree::Sheet;
-use sw_world::{Answer, Config, Engine, Question, Turn, World, share_pairs};
+use sw_world::{Answer, Config, Engine, Pairs, Turn, World};
 
 /// A body that the evaluator runs: its sheet, its pairs, and where its evaluation stands.
 #[derive(Drop)]
@@ -29,7 +30,6 @@ pub struct Evaluation {
 }
 
 impl Model for Evaluation {
-    ghost use Rattle.std.specs.Prelude.{vec_len, vec_capacity};
     ghost use Rattle.std.specs.Coded.{codes};
     ghost use Rattle.sw_eval_questions.specs.Turns.{Shown};
     ghost use Rattle.sw_eval.specs.Resume.{Keeps};
@@ -49,24 +49,21 @@ impl Model for Evaluation {
     } };
 
     ghost invariant = { λ b. Keeps (record { sheet = b.sheet; config = b.config; path = b.walk.asked.path })
-        b.walk.asked.pairs.items b.walk.asked.at b.next b.walk.state b.place
-        (vec_len b.walk.asked.pairs) (vec_capacity b.walk.asked.pairs) };
+        b.walk.asked.pairs.items b.walk.asked.at b.next b.walk.state b.place b.walk.asked.pairs.has_room };
 }
 
-// A turn, with what it adds to what ran. Room for the path is taken first.
-fn go_on<W: World>(b: &mut Evaluation, ran: &mut Vec<Name>, world: &mut W) -> Result<Turn, Memory>
+// A turn, with what it adds to what ran.
+fn go_on<W: World>(b: &mut Evaluation, ran: &mut History, world: &mut W) -> Result<Turn, Memory>
     requires { status_of b.old.place ≡ Running }
     ensures job { (b.new.job ≡ b.old.job) × (b.new.started ≡ true) }
     ensures did { TurnDid W.gives (body b.old.job) b.old.pairs world.old b.new.pairs world.new }
     ensures step { IfOk result (λ t. IsStep (body b.old.job) b.new.pairs t) }
     ensures stopped { IfOk result (λ t. status_of b.new.place ≡ stops t) }
     ensures running { OnErr result (status_of b.new.place ≡ Running) }
-    ensures ran { IfOk result (λ t. ran.new.items ≡ ran.old.items ++ ran_by t b.old.job.path) }
-    ensures ran_same { OnErr result (ran.new.items ≡ ran.old.items) }
+    ensures ran { IfOk result (λ t. ran.new.paths ≡ ran.old.paths ++ ran_by t b.old.job.path) }
+    ensures ran_same { OnErr result (ran.new.paths ≡ ran.old.paths) }
 {
     b.started = true;
-    let path = b.walk.asked.path.share()?;
-    ran.reserve(1)?;
     match body_turn(b.sheet.get(), &b.config, &mut b.walk, &mut b.next, world)? {
         Turn::Load(op) => {
             let shown = op.share()?;
@@ -75,7 +72,7 @@ fn go_on<W: World>(b: &mut Evaluation, ran: &mut Vec<Name>, world: &mut W) -> Re
         }
         Turn::Ended(end) => {
             let shown = end.share()?;
-            let _ = ran.push(path);
+            *ran = History::and(ran, &b.walk.asked.path);
             b.place = Place::Ended(end);
             Ok(Turn::Ended(shown))
         }
@@ -90,14 +87,14 @@ fn give_to(b: &mut Evaluation, answer: Answer)
 {
     b.started = true;
     if let Place::Waiting(op) = mem::replace(&mut b.place, Place::Running) {
-        push_pair(&mut b.walk.asked.pairs, op, answer);
+        b.walk.asked.pairs.push(op, answer);
     }
 }
 
 /// The program's engine. Contracts see the paths of the bodies that ran to their ends.
 #[derive(Drop)]
 pub struct Evaluator {
-    ran: Vec<Name>,
+    ran: History,
 }
 
 impl Model for Evaluator {
@@ -105,16 +102,16 @@ impl Model for Evaluator {
 
     ghost Value = { List (List ℕ) };
 
-    ghost view = { λ e. e.ran.items };
+    ghost view = { λ e. e.ran.paths };
 }
 
 impl Evaluator {
     /// An engine that has run nothing. Takes no memory.
-    pub fn new(alloc: Global) -> Evaluator
+    pub fn new() -> Evaluator
         ensures { result ≡ [] }
     {
         Evaluator {
-            ran: Vec::new(alloc),
+            ran: History::new(),
         }
     }
 }
@@ -139,9 +136,9 @@ impl Engine for Evaluator {
         sheet: &Shared<Sheet>,
         config: &Config,
         path: &Name,
-        known: &[(Question, Answer)],
+        known: &Pairs,
     ) -> Result<Evaluation, Memory> {
-        let pairs = share_pairs(alloc, known)?.into_vec();
+        let pairs = known.grown(alloc, known.len())?;
         let sheet = sheet.share()?;
         let config = config.share()?;
         let path = path.share()?;
@@ -173,14 +170,14 @@ impl Engine for Evaluator {
         Ok(turn)
     }
 
-    fn close(&self, running: Evaluation) -> List<(Question, Answer)> {
+    fn close(&self, running: Evaluation) -> Pairs {
         let Evaluation { walk, started, .. } = running;
         let Walk { asked, .. } = walk;
         let Asked { mut pairs, .. } = asked;
         if !started {
             pairs.clear();
         }
-        List::from_vec(pairs)
+        pairs.into_pairs()
     }
 
     ghost ends_for_good = { ends_for_good };

@@ -1,5 +1,5 @@
 // Turns of a body.
-ghost use Rattle.std.specs.Prelude.{◌≡◌, IfOk, vec_len, vec_capacity};
+ghost use Rattle.std.specs.Prelude.{◌≡◌, IfOk};
 ghost use Rattle.sw_eval.specs.Means.{body};
 ghost use Rattle.sw_eval_questions.specs.Turns.{TurnDid, IsStep, HasRoomAt};
 ghost use Rattle.sw_eval_state.specs.Begin.{begin};
@@ -46,7 +46,7 @@ pub(crate) fn body_turn<W: World>(
     ensures step { IfOk result (λ t. IsStep
         (body (record { sheet = sheet.now; config = config.now; path = walk.old.asked.path }))
         walk.new.asked.pairs.items t) }
-    ensures room { IfOk result (λ t. HasRoomAt t (vec_len walk.new.asked.pairs) (vec_capacity walk.new.asked.pairs)) }
+    ensures room { IfOk result (λ t. HasRoomAt t walk.new.asked.pairs.has_room) }
 {
     let all = sheet.statements.as_slice();
     match walk_on(walk, Outermost, config.get().as_slice(), all, next, world) {

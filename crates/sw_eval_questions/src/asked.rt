@@ -1,21 +1,21 @@
 // The pairs of a body.
-ghost use Rattle.std.specs.Prelude.{◌≡◌, ◌≤◌, vec_len};
+ghost use Rattle.std.specs.Prelude.{◌≡◌, ◌≤◌, length};
 
 use sw_text::Name;
-use sw_world::{Answer, Question};
+use sw_world::GrowingPairs;
 
 /// The body's path, the known and the asked pairs, and how many of them were taken.
 #[derive(Drop)]
 pub struct Asked {
     pub path: Name,
-    pub pairs: Vec<(Question, Answer)>,
+    pub pairs: GrowingPairs,
     pub at: usize,
-    pub ghost within: { at ≤ vec_len pairs },
+    pub ghost within: { at ≤ length pairs.items },
 }
 
 impl Asked {
     /// With these known pairs, none of which is taken yet.
-    pub fn new(path: Name, pairs: Vec<(Question, Answer)>) -> Asked
+    pub fn new(path: Name, pairs: GrowingPairs) -> Asked
         ensures path { result.path ≡ path }
         ensures pairs { result.pairs ≡ pairs }
         ensures at { result.at ≡ 0 }

@@ -9,5 +9,5 @@ mod stop;
 
 pub use asked::Asked;
 pub use place::Place;
-pub use questions::{ask, known, lost, push_pair};
+pub use questions::{ask, known, lost};
 pub use stop::{Stop, fails, stopped};

@@ -1,5 +1,5 @@
 // Questions to the world.
-ghost use Rattle.std.specs.Prelude.{◌≡◌, ◌<◌, ◌≤◌, ◌⊎◌, ℕ, List, option_copied, [], ◌∷◌, ◌++◌, length, take, Some, None, slice_get, IfOk, IfErr, OnOk, OnErr, vec_len, vec_capacity};
+ghost use Rattle.std.specs.Prelude.{◌≡◌, ◌<◌, ◌≤◌, ◌⊎◌, ℕ, List, option_copied, [], ◌∷◌, ◌++◌, length, take, Some, None, slice_get, IfOk, IfErr, OnOk, OnErr, IsTrue};
 ghost use Rattle.std.specs.Option.{option_map};
 ghost use Rattle.sw_text.specs.declared.place.Span.{Span};
 ghost use Rattle.sw_world.specs.Questions.{IsLoad, Fits};
@@ -15,7 +15,7 @@ use crate::asked::Asked;
 use crate::stop::{Stop, fails};
 use std::alloc::Global;
 use sw_text::{FaultCode, Memory, Name, Span};
-use sw_world::{Answer, Question, World};
+use sw_world::{Answer, GrowingPairs, Question, World};
 
 /// The number of a question and its answer, where that is known or there are too many.
 pub fn known<W: World>(
@@ -33,7 +33,7 @@ pub fn known<W: World>(
     }
     let here = asked.at;
     asked.at += 1;
-    taken(here, &asked.pairs[here].1)
+    taken(here, &asked.pairs.pair(here).1)
 }
 
 // Asks the world, and keeps the pair.
@@ -52,7 +52,7 @@ fn ask_world<W: World>(
 {
     let answer = answer_of(alloc, &mut asked.pairs, &op, world)?;
     let result = taken(asked.at, &answer);
-    push_pair(&mut asked.pairs, op, answer);
+    asked.pairs.push(op, answer);
     asked.at += 1;
     result
 }
@@ -60,28 +60,20 @@ fn ask_world<W: World>(
 // The world's answer. Room for the pair is taken before it is asked.
 fn answer_of<W: World>(
     alloc: Global,
-    pairs: &mut Vec<(Question, Answer)>,
+    pairs: &mut GrowingPairs,
     op: &Question,
     world: &mut W,
 ) -> Result<Answer, Stop>
     requires { IsLoad op.now → ⊥ }
     ensures given { IfOk result (λ answer. W.gives world.old op.now answer world.new) }
     ensures fits { IfOk result (λ answer. Fits op.now answer) }
-    ensures room { OnOk result (vec_len pairs.new < vec_capacity pairs.new) }
+    ensures room { OnOk result (IsTrue pairs.new.has_room) }
     ensures pairs { pairs.new.items ≡ pairs.old.items }
     ensures err { OnErr result (world.new ≡ world.old) }
     ensures memory { IfErr result (λ stop. stop ≡ S.Memory) }
 {
-    pairs.reserve(1)?;
+    pairs.reserve(alloc)?;
     Ok(world.ask(alloc, op)?)
-}
-
-/// Puts a pair behind the others, for which there is room.
-pub fn push_pair(pairs: &mut Vec<(Question, Answer)>, op: Question, answer: Answer)
-    requires { vec_len pairs.old < vec_capacity pairs.old }
-    ensures { pairs.new.items ≡ pairs.old.items ++ (op, answer) ∷ [] }
-{
-    let _ = pairs.push((op, answer));
 }
 
 // An answer that was taken, with its number.
@@ -137,7 +129,7 @@ impl Asked {
         if number >= self.pairs.len() {
             return None;
         }
-        Some(&self.pairs[number].1)
+        Some(&self.pairs.pair(number).1)
     }
 
     /// The path of a module that code stands in.

@@ -7,3 +7,4 @@ pub mod Callers
 pub mod Declared
 pub mod Named
 pub mod ImportLines
+pub mod Large

@@ -14,7 +14,7 @@ use sw_text::{FaultCode, Name, Span};
 use sw_values::Value;
 
 // The bytes that no output passes.
-const MOST_BYTES: usize = 16_777_216;
+pub(crate) const MOST_BYTES: usize = 16_777_216;
 
 /// What follows belongs to this statement; in an open rule it belongs to the rule's.
 #[tactic(auto, unfolding(crate::specs::Output::numbered))]

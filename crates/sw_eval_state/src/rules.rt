@@ -1,11 +1,13 @@
 // Rules, and properties nested in each other.
 ghost use Rattle.std.specs.Prelude.{◌≡◌, IfOk};
+ghost use Rattle.sw_selector.specs.Writing.{text_of};
 ghost use Rattle.sw_eval_questions.specs.Did.{IsReturn};
 ghost use Rattle.sw_eval_state.specs.Rules.{nested, unnested, in_rule, in_frame, with_prefix, rule_opening, plain_entered, frame_entered, style_entered, rule_entered, rule_left, named_by, full_name, prefixed};
 ghost use Rattle.sw_eval_questions.specs.Talk.{Gives};
 
+use crate::faults::fails;
 use crate::nesting::{Nesting, Rules};
-use crate::output::close;
+use crate::output::{MOST_BYTES, close};
 use crate::state::State;
 use std::alloc::Global;
 use std::mem;
@@ -13,7 +15,7 @@ use sw_eval_keyframes::keyframe_text;
 use sw_eval_literals::whole_text;
 use sw_eval_questions::{Stop, stopped};
 use sw_selector::Selectors;
-use sw_text::{Memory, Name, Shared, Span};
+use sw_text::{FaultCode, Memory, Name, Shared, Span};
 
 // The name of a property among those of another one.
 fn named_by(alloc: Global, prefix: &Option<Name>, name: Name) -> Result<Name, Memory>
@@ -78,15 +80,31 @@ impl State {
         }
     }
 
-    // Opens a rule, in which `&` is these selectors.
-    fn rule_opening(&mut self, alloc: Global, selectors: Selectors, span: &Span) -> Result<(), Stop>
+    // Opens a rule, in which `&` is these selectors, which are written so.
+    fn rule_written(
+        &mut self,
+        text: Name,
+        alloc: Global,
+        selectors: Selectors,
+        span: &Span,
+    ) -> Result<(), Stop>
+        requires { text ≡ text_of selectors }
         ensures { IsReturn result self.new (rule_opening selectors span.now self.old) }
     {
-        let text = selectors.write(alloc)?;
         self.opened(text, span)?;
         let parents = Shared::new(alloc, selectors)?;
         let around = self.nesting.share()?;
         self.nest(in_rule(parents, around))
+    }
+
+    // Opens a rule, in which `&` is these selectors. Those that no output holds aren't written first.
+    fn rule_opening(&mut self, alloc: Global, selectors: Selectors, span: &Span) -> Result<(), Stop>
+        ensures { IsReturn result self.new (rule_opening selectors span.now self.old) }
+    {
+        match selectors.write_within(alloc, MOST_BYTES + 1)? {
+            Some(text) => self.rule_written(text, alloc, selectors, span),
+            None => fails(FaultCode::TooLarge, span),
+        }
     }
 
     /// Opens a rule whose selectors are written as this text, and in which there is no `&`. It stands here.

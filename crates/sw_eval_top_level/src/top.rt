@@ -1,5 +1,5 @@
 // The statements of the top level.
-ghost use Rattle.std.specs.Prelude.{◌≡◌, ◌<◌, IfOk, IfSome, vec_len, vec_capacity};
+ghost use Rattle.std.specs.Prelude.{◌≡◌, ◌<◌, IfOk, IfSome, IsTrue};
 ghost use Rattle.sw_eval_questions.specs.Did.{stand};
 ghost use Rattle.sw_eval_walk.specs.Going.{Goes_on};
 ghost use Rattle.sw_eval_configurations.specs.Loads.{seen};
@@ -84,11 +84,11 @@ fn load<W: World, B: Below<W>>(
     requires { B.fits below }
     ensures did { TopDid W.gives (load (B.values below) config.now (seen it.entry)) walk.old.state
         (stand walk.old.asked) world.old result walk.new.state (stand walk.new.asked) world.new }
-    ensures room { IfOk result (λ o. IfSome o (λ _. vec_len walk.new.asked.pairs < vec_capacity walk.new.asked.pairs)) }
+    ensures room { IfOk result (λ o. IfSome o (λ _. IsTrue walk.new.asked.pairs.has_room)) }
 {
     let given = prepared(walk, below, config, it, world)?;
     if walk.asked.at < MOST_ASKED && walk.asked.at >= walk.asked.pairs.len() {
-        walk.asked.pairs.reserve(1)?;
+        walk.asked.pairs.reserve(walk.alloc)?;
         return Ok(Some(load_op(walk.alloc, &walk.asked.path, it, given)?));
     }
     let answer = known(&mut walk.asked, it.span(), world)?;
@@ -108,7 +108,7 @@ fn top<W: World, B: Below<W>>(
     requires { B.fits below }
     ensures did { TopDid W.gives (top (B.values below) (B.statements below) config.now number statement.now)
         walk.old.state (stand walk.old.asked) world.old result walk.new.state (stand walk.new.asked) world.new }
-    ensures room { IfOk result (λ o. IfSome o (λ _. vec_len walk.new.asked.pairs < vec_capacity walk.new.asked.pairs)) }
+    ensures room { IfOk result (λ o. IfSome o (λ _. IsTrue walk.new.asked.pairs.has_room)) }
 {
     if let Some(it) = load_of(statement) {
         return load(walk, below, config, it, world);
@@ -132,7 +132,7 @@ pub fn walk_on<W: World, B: Below<W>>(
     ensures walked { Walked W.gives (rest (B.values below) (B.statements below) config.now all.now) next.old
         walk.old.state (stand walk.old.asked) world.old result next.new walk.new.state (stand walk.new.asked)
         world.new }
-    ensures room { IfOk result (λ o. IfSome o (λ _. vec_len walk.new.asked.pairs < vec_capacity walk.new.asked.pairs)) }
+    ensures room { IfOk result (λ o. IfSome o (λ _. IsTrue walk.new.asked.pairs.has_room)) }
 {
     while *next < all.len() {
         let statement = &all[*next];

@@ -4,3 +4,4 @@ pub mod Tables
 pub mod Marks
 pub mod Folders
 pub mod Choices
+mod Copies

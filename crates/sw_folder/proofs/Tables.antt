@@ -40,7 +40,7 @@ get-updated path old new w at kept q = by (bytes_eq q path) refl
         get-files_of q new ∙ others path q old new kept e ∙ sym (get-files_of q old)
         ∙ ap (λ b. cond b w (get (files_of old) q)) (sym e)
 
-same_files : (m n : Files) → ((q : List ℕ) → get m q ≡ get n q) → m ≡ n
+pub same_files : (m n : Files) → ((q : List ℕ) → get m q ≡ get n q) → m ≡ n
 same_files m n same = same_map nat_list_cmp_total (slice_cmp-IsAntisymmetric nat_cmp-IsAntisymmetric) m n same
 
 pub files_of-insert : (path text : List ℕ) (old new : List Entry) → lookup (bytes_eq path) new ≡ Some text → KeepsOthers bytes_eq (bytes_eq path) old new

@@ -8,7 +8,7 @@ ghost use Rattle.std.specs.FinMap as files;
 ghost use Rattle.sw_folder.specs.Edits.{after_put, after_removal, put_fault, IsFaultOf};
 ghost use Rattle.sw_folder.specs.Files.{IsFolder, most_bytes, most_files};
 ghost use Rattle.sw_folder.specs.Paths.{is_path, is_underscore};
-ghost use Rattle.sw_folder.specs.Table.{marked};
+ghost use Rattle.sw_folder.specs.Table.{marked, files_of};
 
 use crate::edit::{EditFault, unread_fault};
 use crate::path::{ends_with, has_underscore, is_path};
@@ -17,7 +17,7 @@ use indexmap::IndexMap;
 use std::alloc::Global;
 use std::marker::Model;
 use std::str;
-use sw_text::Name;
+use sw_text::{Memory, Name};
 
 const MOST_FILES: usize = 4_096;
 
@@ -105,6 +105,19 @@ impl Folder {
         ensures path { IfSome result (λ _. IsTrue (is_path path.now)) }
     {
         self.table.get(&Sought::new(path))
+    }
+
+    /// The same files, whose paths and texts are shared: what it takes goes with the number of files, and not with
+    /// their bytes.
+    pub fn copy(&self) -> Result<Folder, Memory>
+        ensures { IfOk result (λ folder. folder ≡ self.now) }
+    {
+        let table = copy_of(self.alloc, &self.table)?;
+        Ok(Folder {
+            table,
+            marks: self.marks,
+            alloc: self.alloc,
+        })
     }
 
     /// What every folder keeps: at most 4,096 files, each under a path, with at most 1,048,576 bytes.
@@ -213,6 +226,34 @@ impl Marks {
             underscored: self.underscored || has_underscore(path),
         }
     }
+}
+
+/// A table with the same files.
+fn copy_of(alloc: Global, table: &IndexMap<Name, Name>) -> Result<IndexMap<Name, Name>, Memory>
+    ensures files { IfOk result (λ copy. files_of copy.entries ≡ files_of table.now.entries) }
+    ensures one_each { IfOk result (λ copy. length copy.entries ≡ files.len (files_of copy.entries)) }
+{
+    let mut copy = IndexMap::with_capacity(alloc, table.len())?;
+    let count = table.len();
+    for at in 0..count {
+        let Some((path, text)) = table.get_index(at) else {
+            unreachable!()
+        };
+        copy_entry(&mut copy, path, text)?;
+    }
+    Ok(copy)
+}
+
+fn copy_entry(copy: &mut IndexMap<Name, Name>, path: &Name, text: &Name) -> Result<(), Memory>
+    ensures files { OnOk result (files_of copy.new.entries
+        ≡ files.insert (files_of copy.old.entries) path.now text.now) }
+    ensures one_each { OnOk result (length copy.old.entries ≡ files.len (files_of copy.old.entries)
+        → length copy.new.entries ≡ files.len (files_of copy.new.entries)) }
+{
+    let path = path.share()?;
+    let text = text.share()?;
+    copy.insert(path, text)?;
+    Ok(())
 }
 
 fn text_of(bytes: &[u8]) -> Result<&str, EditFault>

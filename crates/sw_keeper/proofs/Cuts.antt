@@ -1,5 +1,5 @@
 -- Evaluations that were cut off for want of memory.
-use Rattle.std.proofs.Common.{◌≡◌, ℕ, ◌+◌, ◌<◌, List, [], ◌∷◌, ◌++◌, length, take, drop, get_or, suc, slice_get, ◌⊎◌, Option, Some, None, Ok, refl, sym, ◌∙◌, ap, subst, append_assoc, append-nil, length-append, arith, inl, inr}
+use Rattle.std.proofs.Common.{◌≡◌, ℕ, ◌+◌, ◌<◌, Bool, List, [], ◌∷◌, ◌++◌, length, take, ◌⊎◌, Option, Some, None, Ok, refl, sym, ◌∙◌, ap, subst, append_assoc, append-nil, length-append, arith, inl, inr}
 use Rattle.std.proofs.Math.Seq.{take-append_seam}
 use Rattle.sw_tree.specs.declared.sheet.Sheet.{Sheet}
 use Rattle.sw_values.specs.declared.plain.Plain.{Plain}
@@ -24,27 +24,27 @@ use Rattle.sw_modules.specs.Outside.{Outside, plain}
 use Rattle.sw_modules.specs.Fresh.{Setting, Outcome, responds, fresh, room}
 use Rattle.sw_modules.specs.Calls.{HostCall, CallsIn, after_calls, calls_begun, calls_for, calls_read, calls_within, calls_left, calls_open}
 use Rattle.sw_modules.proofs.Calls.{after_calls-append, calls_lead}
-use Rattle.sw_record.specs.declared.again.Replayed.{Replayed}
-use Rattle.sw_record.specs.declared.again.Replayed.TheVariants as again
+use Rattle.sw_record.specs.declared.replay.Replayed.{Replayed}
+use Rattle.sw_record.specs.declared.replay.Replayed.TheVariants as again
 use Rattle.sw_record.specs.declared.reply.Reply.{Reply}
-use Rattle.sw_record.specs.Kept.{Kept, IsKept, job_of}
+use Rattle.sw_record.specs.Kept.{Kept}
 use Rattle.sw_record.specs.Ran.{Ran}
-use Rattle.sw_record.specs.Replay.{AskedAgain}
+use Rattle.sw_record.specs.Together.{AreTogether, BrokeOff}
+use Rattle.sw_record.proofs.Together.{asks_at}
 use Rattle.sw_keeper.specs.declared.departure.Departure.{Departure}
 use Rattle.sw_keeper.specs.Compile.{Compile, compiled, compile_by, from_entry, paths_of, CompilesTo, BreaksOff}
-use Rattle.sw_keeper.specs.Keeping.{Table, Keeping, kept_in, table_of, kept_after}
-use Rattle.sw_keeper.specs.Steps.{Moment, Grown, Advances, DidRespond, DidEvaluate, WentOn, Turned, RunsOn, IsSame, ran_at}
+use Rattle.sw_keeper.specs.Keeping.{Table, Keeping, kept_in, AreKept}
+use Rattle.sw_keeper.specs.Steps.{Moment, Grown, Advances, DidRespond, DidEvaluate, WentOn, Turned, RunsOn, ran_at}
 use Rattle.sw_keeper.specs.Cuts.{RanMore, CutOff}
-use Rattle.sw_keeper.specs.Replays.{AskedTo, ReplaysOn, DidReplay, behind}
+use Rattle.sw_keeper.specs.Replays.{AskedTo, GoneTo, DidAgree, DidDepart}
+use Rattle.sw_keeper.specs.Loading.{IsLoadOf}
 use Rattle.sw_keeper.specs.Whole.{IsCompiled}
 use Rattle.sw_keeper.proofs.More.{ran_none}
-use Rattle.sw_keeper.proofs.Pairs.{goes_first, goes_rest, split_at}
 use Rattle.sw_keeper.proofs.Rest.{calls_next, calls_opens}
 use Rattle.sw_keeper.proofs.Parts.{went_on}
 use Rattle.sw_keeper.proofs.Turns.{at_status, goes_seen}
-use Rattle.sw_keeper.proofs.Again.{again_advances}
-use Rattle.sw_keeper.proofs.Replays.{advances_here, grown_here}
-use Rattle.sw_keeper.proofs.Ends.{same_job, kept_reads}
+use Rattle.sw_keeper.proofs.Again.{known_of, goes_begun, begun_advances}
+use Rattle.sw_keeper.proofs.Replays.{advances_with}
 use Rattle.sw_keeper.proofs.Whole.{compiled_by}
 
 pub ran_join : (old mid now : List (List ℕ)) → RanMore old mid → RanMore mid now → RanMore old now
@@ -107,12 +107,13 @@ module _ {W : Type 0} (gives : W → Question → Answer → W → Type 0) (view
           let on = went_on gives view setting is p q w t taken asked in_time is_body none went in
           cut_after setting p.job (p.seen ++ p.left) q.seen [] (view w) (view t) told told_now on.advances (ran_none told told_now ran)
 
-  -- kept questions that were asked again
-  pub again_cut : (k : Kept) (from to : ℕ) (w t : W) (told : List (List ℕ)) → EndsInTime setting.body → IsKept setting.body k → AskedAgain gives k.run.seen from to w t
-      → CutOff setting (calls_left setting (job_of k) (take from k.run.seen) (view w)) (view w).hosts (view t).hosts told told
-  again_cut k from to w t told in_time is_kept again =
-      cut_after setting (job_of k) (take from k.run.seen) (take to k.run.seen) [] (view w) (view t) told told
-      (again_advances gives view setting is k from to w t in_time is_kept again) (ran_none told told refl)
+-- kept questions that were asked again
+pub again_cut : (setting : Setting) (runs : List Kept) (marks : List Bool) (from : ℕ) (on : AreTogether setting.body runs marks from) {W : Type 0} (gives : W → Question → Answer → W → Type 0) (view : W → Outside) (is : (w : W) (op : Question) (a : Answer) (t : W) → gives w op a t → plain setting.functions op (view w) ≡ (a, view t))
+    (w t : W) (told : List (List ℕ)) → EndsInTime setting.body → BrokeOff gives runs marks from w t
+    → CutOff setting (calls_left setting on.job on.first (view w)) (view w).hosts (view t).hosts told told
+again_cut setting runs marks from on gives view is w t told in_time broke =
+    cut_after setting on.job on.first broke.0 [] (view w) (view t) told told
+    (begun_advances setting runs marks from on gives view is in_time broke.1 broke.0 w t broke.2 broke.3 broke.4) (ran_none told told refl)
 
 -- Loads
 
@@ -170,42 +171,40 @@ module _ (setting : Setting) (table : Table) (job : Job) (known : List Pair) (p 
 
 -- Turns of a replay
 
-pub departs_cut : (setting : Setting) (k : Kept) (from at : ℕ) (answer : Answer) (r : Replayed) (o m : Outside) (told : List (List ℕ)) → r ≡ again.Differs at answer → AskedTo setting k from r o m
-    → CutOff setting (calls_left setting (job_of k) (take from k.run.seen) o) o.hosts m.hosts told told
-departs_cut setting k from at answer r o m told is to =
-    let asked : AskedTo setting k from (again.Differs at answer) o m = subst (λ (x : Replayed). AskedTo setting k from x o m) is to in
-    cut_after setting (job_of k) (take from k.run.seen) (take at k.run.seen ++ (asked.0.0, answer) ∷ []) [] o m told told asked.4 (ran_none told told refl)
+module _ (setting : Setting) (table : Table) (job : Job) (runs : List Kept) (marks : List Bool) (first : List Pair) (left : List Bool) (at : ℕ) (o m : Moment) (gone : GoneTo setting table job runs marks first left at o m) where
+  -- behind what went on
+  pub gone_cut : (now : HostState) (told_now : List (List ℕ)) → CutOff setting (calls_left setting job gone.pairs m.outside) m.outside.hosts now m.told told_now
+      → CutOff setting (calls_left setting job first o.outside) o.outside.hosts now o.told told_now
+  gone_cut now told_now cut =
+      cut_behind setting job first gone.pairs gone.new o.outside m.outside now o.told m.told told_now gone.advances (told_more table gone.new o m gone.grown) cut
 
-pub load_cut : (setting : Setting) (k : Kept) (from at : ℕ) (r : Replayed) (p : Pair) (o m : Outside) (now : HostState) (told told_now : List (List ℕ))
-    → EndsInTime setting.body → IsKept setting.body k → r ≡ again.Load at → AskedTo setting k from r o m → slice_get k.run.seen at ≡ Some p
-    → CutOff setting (calls_for (calls_within setting (room m.live)) p.0 m) m.hosts now told told_now
-    → CutOff setting (calls_left setting (job_of k) (take from k.run.seen) o) o.hosts now told told_now
-load_cut setting k from at r p o m now told told_now in_time is_kept is to here cut =
-    let asked : AskedTo setting k from (again.Load at) o m = subst (λ (x : Replayed). AskedTo setting k from x o m) is to in
-    let job : Job = job_of k in
-    let before : List Pair = take at k.run.seen in
-    let all : Goes (setting.body job) [] (before ++ p ∷ drop (suc at) k.run.seen) = subst (λ (l : List Pair). Goes (setting.body job) [] l) (split_at k.run.seen at p here) is_kept.goes in
-    let goes : Goes (setting.body job) [] before = goes_first (setting.body job) [] before (p ∷ drop (suc at) k.run.seen) all in
-    let rest = goes_rest (setting.body job) [] before (p ∷ drop (suc at) k.run.seen) all in
-    let next = calls_next setting job before m p.0 in_time goes rest.0 in
-    cut_behind setting job (take from k.run.seen) before [] o m now told told told_now asked.1.3 (ran_none told told refl)
-    (cut_front setting (calls_left setting job before m) (calls_for (calls_within setting (room m.live)) p.0 m) next.0 m.hosts now told told_now next.1 cut)
+-- where a question was answered as in none
+pub differs_cut : (setting : Setting) (job : Job) (runs : List Kept) (marks : List Bool) (first : List Pair) (near at : ℕ) (answer : Answer) (r : Replayed) (o m : Outside) (told : List (List ℕ))
+    → r ≡ again.Differs near at answer → AskedTo setting job runs marks first r o m → CutOff setting (calls_left setting job first o) o.hosts m.hosts told told
+differs_cut setting job runs marks first near at answer r o m told is to =
+    let asked : AskedTo setting job runs marks first (again.Differs near at answer) o m = subst (λ (x : Replayed). AskedTo setting job runs marks first x o m) is to in
+    cut_after setting job first (asked.0 ++ (asked.1, answer) ∷ []) [] o m told told asked.4 (ran_none told told refl)
 
-pub after_load_cut : (setting : Setting) (table : Table) (k : Kept) (from at : ℕ) (a : Answer) (r : Replayed) (xs : List Pair) (p : Pair) (o m t : Moment)
-    (in_time : EndsInTime setting.body) (is_kept : IsKept setting.body k) (same : xs ≡ k.run.seen) (is : r ≡ again.Load at) (to : AskedTo setting k from r o.outside m.outside) (results : m.results ≡ o.results) (told : m.told ≡ o.told)
-    (read : p ≡ get_or xs at p) (did : DidRespond table (responds setting.functions (fresh setting (room m.outside.live)) p.0 m.outside) a m t) (fits : Fits p.0 a)
-    → CutOff setting (calls_left setting (job_of k) (take from k.run.seen) o.outside) o.outside.hosts t.outside.hosts o.told t.told
-after_load_cut setting table k from at a r xs p o m t in_time is_kept same is to results told read did fits =
-    let runs = (responds setting.functions (fresh setting (room m.outside.live)) p.0 m.outside).runs in
-    cut_after setting (job_of k) (take from k.run.seen) (take at k.run.seen ++ (p.0, a) ∷ []) runs o.outside t.outside o.told t.told
-    (advances_here setting table k from at a r xs p o m t in_time is_kept same is to results told read did fits)
-    (told_more table runs o t (grown_here setting table k from at a r xs p o m t in_time is_kept same is to results told read did fits))
+-- at a load
+module _ (setting : Setting) (runs : List Kept) (marks : List Bool) (at : ℕ) (on : AreTogether setting.body runs marks at) (op : Question) (o : Moment) (in_time : EndsInTime setting.body) (l : IsLoadOf runs marks at op) where
+  pub load_cut : (now : HostState) (told_now : List (List ℕ)) → CutOff setting (calls_for (calls_within setting (room o.outside.live)) op o.outside) o.outside.hosts now o.told told_now
+      → CutOff setting (calls_left setting on.job on.first o.outside) o.outside.hosts now o.told told_now
+  load_cut now told_now cut =
+      let asks : setting.body on.job (answers on.first) ≡ Asks op =
+      (asks_at setting.body runs marks at on l.near l.kept l.pair l.marked l.here l.there).1 ∙ ap Asks (sym l.op_is) in
+      let goes = goes_begun setting runs marks at on l.near on.first l.marked (l.kept, l.here, (known_of setting runs marks at on l.near l.kept l.marked l.here).2) in
+      let next = calls_next setting on.job on.first o.outside op in_time goes asks in
+      cut_front setting (calls_left setting on.job on.first o.outside) (calls_for (calls_within setting (room o.outside.live)) op o.outside) next.0 o.outside.hosts now o.told told_now next.1 cut
 
-pub replay_cut : (setting : Setting) (table : Table) (k : Kept) (at : ℕ) (o m : Moment) (now : HostState) (told_now : List (List ℕ)) → ReplaysOn setting table k at o m
-    → CutOff setting (calls_left setting (job_of k) (take at k.run.seen) m.outside) m.outside.hosts now m.told told_now
-    → CutOff setting (calls_left setting (job_of k) [] o.outside) o.outside.hosts now o.told told_now
-replay_cut setting table k at o m now told_now on cut =
-    cut_behind setting (job_of k) [] (take at k.run.seen) on.new o.outside m.outside now o.told m.told told_now on.advances (told_more table on.new o m on.grown) cut
+  pub after_load_cut : (table : Table) (a : Answer) (t : Moment) → DidRespond table (responds setting.functions (fresh setting (room o.outside.live)) op o.outside) a o t → Fits op a
+      → CutOff setting (calls_left setting on.job on.first o.outside) o.outside.hosts t.outside.hosts o.told t.told
+  after_load_cut table a t did fits =
+      let p : Pair = l.pair in
+      let new = (responds setting.functions (fresh setting (room o.outside.live)) p.0 o.outside).runs in
+      let here : DidRespond table (responds setting.functions (fresh setting (room o.outside.live)) p.0 o.outside) a o t = subst (λ (q : Question). DidRespond table (responds setting.functions (fresh setting (room o.outside.live)) q o.outside) a o t) l.op_is did in
+      let there : Fits p.0 a = subst (λ (q : Question). Fits q a) l.op_is fits in
+      cut_after setting on.job on.first (on.first ++ (p.0, a) ∷ []) new o.outside t.outside o.told t.told
+      (advances_with setting table runs marks marks at on l.near l.kept p a o t in_time l.marked l.here l.there here there) (told_more table new o t here.grown)
 
 -- Evaluations
 
@@ -216,30 +215,18 @@ read_cut setting path text config sheet o now told told_now reads cut =
     cut_at setting (calls_open setting o path text config) (calls_left setting (record { sheet = sheet; config = config; path = path }) [] o) o.hosts now told told_now
     (ap (calls_read (λ s. calls_left setting (record { sheet = s; config = config; path = path }) [] o)) reads) cut
 
-module _ (setting : Setting) (table : Table) (path text : List ℕ) (config : List (List ℕ × Plain)) (k : Kept) (run : Run) (o : Moment)
-    (same : IsSame table path text config run) (is : k.run ≡ run) (reads : setting.read run.path run.text ≡ Ok k.sheet) where
-  -- in the replay of the kept run
-  pub kept_cut : (now : HostState) (told_now : List (List ℕ)) → CutOff setting (calls_left setting (job_of k) [] o.outside) o.outside.hosts now o.told told_now
-      → CutOff setting (calls_open setting o.outside path text config) o.outside.hosts now o.told told_now
-  kept_cut now told_now cut =
-      read_cut setting path text config k.sheet o.outside now o.told told_now (kept_reads setting table path text config k.sheet k run same refl reads)
-      (subst (λ (j : Job). CutOff setting (calls_left setting j [] o.outside) o.outside.hosts now o.told told_now) (same_job table path text config k.sheet k run same is refl) cut)
+-- behind a replay
+pub agreed_cut : (setting : Setting) (table : Table) (job : Job) (runs : List Kept) (marks : List Bool) (first : List Pair) (place : ℕ) (o m : Moment) → DidAgree setting table job runs marks first place o m
+    → CutOff setting (calls_left setting job first o.outside) o.outside.hosts m.outside.hosts o.told m.told
+agreed_cut setting table job runs marks first place o m did =
+    cut_after setting job first did.kept.run.seen did.new o.outside m.outside o.told m.told did.advances (told_more table did.new o m did.grown)
 
-  -- behind it
-  pub whole_cut : (r : Option Departure) (m : Moment) → DidReplay setting table k r o m → CutOff setting (calls_open setting o.outside path text config) o.outside.hosts m.outside.hosts o.told m.told
-  whole_cut r m did =
-      kept_cut m.outside.hosts m.told
-      (cut_after setting (job_of k) [] (behind k.run.seen r) did.new o.outside m.outside o.told m.told did.advances (told_more table did.new o m did.grown))
-
-  -- in the body that goes on from where it departs
-  pub known_cut : (sheet : Sheet) (r : Option Departure) (d : Departure) (m : Moment) (now : HostState) (told_now : List (List ℕ)) → sheet ≡ k.sheet → r ≡ Some d → DidReplay setting table k r o m
-      → CutOff setting (calls_left setting (record { sheet = sheet; config = config; path = path }) d.known m.outside) m.outside.hosts now m.told told_now
-      → CutOff setting (calls_open setting o.outside path text config) o.outside.hosts now o.told told_now
-  known_cut sheet r d m now told_now sheet_is r_is did cut =
-      let adv : Advances setting (job_of k) [] d.known did.new o.outside m.outside = subst (λ (x : Option Departure). Advances setting (job_of k) [] (behind k.run.seen x) did.new o.outside m.outside) r_is did.advances in
-      let there : CutOff setting (calls_left setting (job_of k) d.known m.outside) m.outside.hosts now m.told told_now =
-      subst (λ (j : Job). CutOff setting (calls_left setting j d.known m.outside) m.outside.hosts now m.told told_now) (sym (same_job table path text config sheet k run same is sheet_is)) cut in
-      kept_cut now told_now (cut_behind setting (job_of k) [] d.known did.new o.outside m.outside now o.told m.told told_now adv (told_more table did.new o m did.grown) there)
+-- in the body that goes on from where it departs
+pub departed_cut : (setting : Setting) (table : Table) (job : Job) (runs : List Kept) (marks : List Bool) (first : List Pair) (d : Departure) (o m : Moment) (now : HostState) (told_now : List (List ℕ)) → DidDepart setting table job runs marks first d o m
+    → CutOff setting (calls_left setting job d.known m.outside) m.outside.hosts now m.told told_now
+    → CutOff setting (calls_left setting job first o.outside) o.outside.hosts now o.told told_now
+departed_cut setting table job runs marks first d o m now told_now did cut =
+    cut_behind setting job first d.known did.new o.outside m.outside now o.told m.told told_now did.advances (told_more table did.new o m did.grown) cut
 
 -- Compiles
 
@@ -283,16 +270,16 @@ breaks_off setting folder paths entry h now told told_now cut =
     }
 
 -- a compile whose runs are kept
-pub compiles_to : (c : Compile) (entry : List ℕ) (table : Table) (reply : Reply) (runs : List Run) (old new : Keeping) (hosts : HostState) (told told_now : List (List ℕ))
-    → IsCompiled c table reply runs hosts told told_now → table ≡ table_of old.kept entry → new.kept ≡ kept_after old.kept entry runs → new.folder ≡ old.folder
-    → CompilesTo c entry reply old new hosts told told_now
-compiles_to c entry table reply runs old new hosts told told_now did is kept folder =
+pub compiles_to : (c : Compile) (table : Table) (reply : Reply) (runs : List Run) (old new : Keeping) (hosts : HostState) (told told_now : List (List ℕ))
+    → IsCompiled c table reply runs hosts told told_now → table ≡ old.kept → AreKept old.kept runs new.kept → new.folder ≡ old.folder
+    → CompilesTo c reply old new hosts told told_now
+compiles_to c table reply runs old new hosts told told_now did is kept folder =
     record {
       says = did.says;
       outcome = did.outcome;
       ran = subst (λ (t : Table). Ran (kept_in t) c.runs reply.ran) is did.ran;
       told = did.told;
       hosts = did.same_hosts;
-      kept = kept ∙ ap (kept_after old.kept entry) did.same_runs;
+      kept = subst (λ (l : List Run). AreKept old.kept l new.kept) did.same_runs kept;
       folder = folder;
     }

@@ -7,6 +7,7 @@ pub mod Loads
 pub mod Again
 pub mod Replays
 pub mod Ends
+pub mod Same
 pub mod Tables
 pub mod Outputs
 pub mod Whole

@@ -1,26 +1,14 @@
 -- Pairs that a body goes through.
-use Rattle.std.proofs.Common.{◌≡◌, ℕ, suc, ◌-◌, ◌<◌, ◌≤◌, List, [], ◌∷◌, ◌++◌, length, take, drop, get_or, slice_get, Some, refl, sym, ◌∙◌, ap, subst, append_assoc, append-nil, drop-cons, arith}
+use Rattle.std.proofs.Common.{◌≡◌, ◌-◌, ◌≤◌, List, [], ◌∷◌, ◌++◌, length, take, drop, sym, ◌∙◌, append_assoc, append-nil, arith}
 use Rattle.std.proofs.lemmas.List.{take-append-drop, length-take, length-drop}
-use Rattle.std.proofs.lemmas.Option.{get_or_from_slice_get, slice_get_within}
+pub use Rattle.sw_record.proofs.Answering.{length-answers}
+pub use Rattle.sw_record.proofs.Going.{goes_first, goes_rest, split_at}
 use Rattle.sw_world.specs.declared.question.Question.{Question}
 use Rattle.sw_world.specs.declared.answer.Answer.{Answer}
 use Rattle.sw_world.specs.declared.end.End.{End}
 use Rattle.sw_world.specs.Body.{Pair, Job, Next, Asks, Ends, BodyOf, answers, Goes}
 use Rattle.sw_world.specs.Questions.{Fits}
 use Rattle.sw_world.specs.Laws.{EndsInTime, most_asked}
-
-pub length-answers : (ps : List Pair) → length (answers ps) ≡ length ps
-length-answers [] = refl
-length-answers (p ∷ ps) = ap suc (length-answers ps)
-
-pub goes_first : (next : List Answer → Next) (before : List Answer) (ps qs : List Pair) → Goes next before (ps ++ qs) → Goes next before ps
-goes_first next before [] qs goes = tt
-goes_first next before (p ∷ ps) qs goes = (goes.0, goes.1, goes_first next (before ++ p.1 ∷ []) ps qs goes.2)
-
-pub goes_rest : (next : List Answer → Next) (before : List Answer) (ps qs : List Pair) → Goes next before (ps ++ qs) → Goes next (before ++ answers ps) qs
-goes_rest next before [] qs goes = rw append-nil goes
-goes_rest next before (p ∷ ps) qs goes =
-    let rest = goes_rest next (before ++ p.1 ∷ []) ps qs goes.2 in rw append_assoc at rest
 
 pub goes_join : (next : List Answer → Next) (before : List Answer) (ps qs : List Pair) → Goes next before ps → Goes next (before ++ answers ps) qs → Goes next before (ps ++ qs)
 goes_join next before [] qs goes rest = rw append-nil at rest
@@ -44,22 +32,12 @@ within body job pairs in_time goes =
         apart : {op : Question} {end : End} → Asks op ≡ Ends end → ⊥
         apart e = cc
 
--- a list, at a place that it has
-pub split_at : (ps : List Pair) (at : ℕ) (p : Pair) → slice_get ps at ≡ Some p → ps ≡ take at ps ++ p ∷ drop (suc at) ps
-split_at ps at p here =
-    let inside : at < length ps = slice_get_within ps at p here in
-    let e : drop at ps ≡ get_or ps at p ∷ drop (suc at) ps = drop-cons ps at p inside in
-    sym (take-append-drop at ps) ∙ ap (λ r. take at ps ++ r) (e ∙ ap (λ q. q ∷ drop (suc at) ps) (get_or_from_slice_get ps at p p here))
+-- the same pairs, and another answer to the question behind them
+pub goes_other : (next : List Answer → Next) (ps : List Pair) (op : Question) (old a : Answer) (rest : List Pair) → Goes next [] (ps ++ (op, old) ∷ rest) → Fits op a → Goes next [] (ps ++ (op, a) ∷ [])
+goes_other next ps op old a rest goes fits =
+    let behind = goes_rest next [] ps ((op, old) ∷ rest) goes in
+    goes_join next [] ps ((op, a) ∷ []) (goes_first next [] ps ((op, old) ∷ rest) goes) (behind.0, fits, tt)
 
--- the pairs up to a place, and another answer at it
-pub goes_departs : (next : List Answer → Next) (ps : List Pair) (at : ℕ) (p : Pair) (a : Answer) → Goes next [] ps → slice_get ps at ≡ Some p → Fits p.0 a → Goes next [] (take at ps ++ (p.0, a) ∷ [])
-goes_departs next ps at p a goes here fits =
-    let all : Goes next [] (take at ps ++ p ∷ drop (suc at) ps) = subst (λ (l : List Pair). Goes next [] l) (split_at ps at p here) goes in
-    let rest = goes_rest next [] (take at ps) (p ∷ drop (suc at) ps) all in
-    goes_join next [] (take at ps) ((p.0, a) ∷ []) (goes_first next [] (take at ps) (p ∷ drop (suc at) ps) all) (rest.0, fits, tt)
-
--- the answer at a place fits its question
-pub fits_at : (next : List Answer → Next) (ps : List Pair) (at : ℕ) (p : Pair) → Goes next [] ps → slice_get ps at ≡ Some p → Fits p.0 p.1
-fits_at next ps at p goes here =
-    let all : Goes next [] (take at ps ++ p ∷ drop (suc at) ps) = subst (λ (l : List Pair). Goes next [] l) (split_at ps at p here) goes in
-    (goes_rest next [] (take at ps) (p ∷ drop (suc at) ps) all).1
+-- the answer behind these pairs fits its question
+pub fits_behind : (next : List Answer → Next) (ps : List Pair) (p : Pair) (rest : List Pair) → Goes next [] (ps ++ p ∷ rest) → Fits p.0 p.1
+fits_behind next ps p rest goes = (goes_rest next [] ps (p ∷ rest) goes).1

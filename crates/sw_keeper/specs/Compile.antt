@@ -20,7 +20,7 @@ use Rattle.sw_record.specs.declared.reply.Reply.{Reply}
 use Rattle.sw_record.specs.Ran.{Ran}
 use Rattle.sw_record.specs.declared.reply.Outcome.{Outcome}
 use Rattle.sw_record.specs.declared.reply.Outcome.TheVariants.{Css, Error}
-use Rattle.sw_keeper.specs.Keeping.{Keeping, kept_for, kept_after}
+use Rattle.sw_keeper.specs.Keeping.{Keeping, kept_in, AreKept}
 
 -- a compile: its messages, its CSS or its fault, the runs of its modules in the order in which they ended, its calls of
 -- the host's functions, and the state of these then
@@ -66,14 +66,14 @@ abbrev pub paths_of : List (List ℕ × Cause) → List (List ℕ)
 paths_of ran = map (λ one. one.0) ran
 
 -- a compile that was answered: its reply, its runs among the kept ones, and what the engine tells of
-pub record CompilesTo (c : Compile) (entry : List ℕ) (reply : Reply) (old new : Keeping) (hosts_now : HostState)
+pub record CompilesTo (c : Compile) (reply : Reply) (old new : Keeping) (hosts_now : HostState)
     (told_old told_new : List (List ℕ)) : Type 0 where
   pub says : reply.says ≡ c.says
   pub outcome : reply.outcome ≡ c.outcome
-  pub ran : Ran (kept_for old.kept entry) c.runs reply.ran
+  pub ran : Ran (kept_in old.kept) c.runs reply.ran
   pub told : told_new ≡ told_old ++ paths_of reply.ran
   pub hosts : hosts_now ≡ c.hosts
-  pub kept : new.kept ≡ kept_after old.kept entry c.runs
+  pub kept : AreKept old.kept c.runs new.kept
   pub folder : new.folder ≡ old.folder
 
 -- the host's functions after so many first calls of a compile

@@ -1,57 +1,46 @@
--- What a keeper holds (this project's own rule): its folder, and for each entry and path the latest run that ended
--- well.
-use Rattle.std.specs.Prelude.{◌≡◌, ℕ, List, [], ◌∷◌, bytes_eq, Option, unwrap_or, Some}
+-- What a keeper holds (this project's own rule): its folder, and of each module the runs that were used last, whatever
+-- entry was compiled and however they ended.
+use Rattle.std.specs.Prelude.{◌≡◌, ◌≢◌, ◌⊎◌, ℕ, List, [], ◌∷◌, take, bytes_eq, unwrap_or}
+use Rattle.std.specs.List.{All}
 use Rattle.std.specs.Map.{lookup}
-use Rattle.std.specs.Option.{option_to_list}
 use Rattle.indexmap.specs.IndexMap.{insert_entry}
 use Rattle.sw_folder.specs.Files.{Files}
-use Rattle.sw_world.specs.declared.end.End.{End}
-use Rattle.sw_world.specs.declared.end.End.TheVariants.{Done, Fault}
 use Rattle.sw_world.specs.Body.{Run}
 use Rattle.sw_record.specs.Ran.{KeptRuns}
 
--- the latest runs that ended well, by the paths of their modules
+-- the kept runs by the paths of their modules, of each the latest used first
 abbrev pub Table : Type 0
-Table = List (List ℕ × Run)
+Table = List (List ℕ × List Run)
 
-abbrev pub kept_at : Table → List ℕ → Option Run
-kept_at table path = lookup (bytes_eq path) table
-
--- of each module one run at the most
 abbrev pub kept_in : Table → KeptRuns
-kept_in table path = option_to_list (kept_at table path)
-
--- the kept runs by the entries of their compiles
-abbrev pub Tables : Type 0
-Tables = List (List ℕ × Table)
+kept_in table path = unwrap_or (lookup (bytes_eq path) table) []
 
 pub record Keeping : Type 0 where
   pub folder : Files
-  pub kept : Tables
+  pub kept : Table
 
--- the kept runs of an entry
-abbrev pub table_of : Tables → List ℕ → Table
-table_of tables entry = unwrap_or (lookup (bytes_eq entry) tables) []
+-- these runs without the first one that is equal to a run in text, configuration and pairs, and so in all
+abbrev pub IsWithout : Run → List Run → List Run → Type 0
+IsWithout run [] rest = rest ≡ []
+IsWithout run (one ∷ more) rest =
+    ((one ≡ run) × (rest ≡ more))
+    ⊎ ((one ≢ run) × ((left : List Run) × (rest ≡ one ∷ left) × IsWithout run more left))
 
--- the kept runs with which a compile of an entry begins
-abbrev pub kept_for : Tables → List ℕ → KeptRuns
-kept_for tables entry = kept_in (table_of tables entry)
+-- of a module so many runs are kept
+abbrev pub most_kept : ℕ
+most_kept = 8
 
--- a run that ended well takes the place of the kept one of its path; one that ended with a fault isn't kept
-abbrev pub with_run_by : Table → Run → End → Table
-with_run_by table run (Done finish) = insert_entry bytes_eq table run.path run
-with_run_by table run (Fault fault) = table
+-- a run was used: it is taken out and put in front, and the list is cut
+abbrev pub IsUsed : Run → List Run → List Run → Type 0
+IsUsed run old new = (rest : List Run) × IsWithout run old rest × (new ≡ take most_kept (run ∷ rest))
 
-abbrev pub with_runs : Table → List Run → Table
-with_runs table [] = table
-with_runs table (run ∷ runs) = with_runs (with_run_by table run run.end) runs
-
--- the kept runs after a compile of an entry in which these bodies ended; one without runs keeps nothing
-abbrev pub kept_after : Tables → List ℕ → List Run → Tables
-kept_after tables entry [] = tables
-kept_after tables entry (run ∷ runs) =
-    insert_entry bytes_eq tables entry (with_runs (table_of tables entry) (run ∷ runs))
+-- the kept runs after a compile in which these runs ended, in order
+abbrev pub AreKept : Table → List Run → Table → Type 0
+AreKept table [] now = now ≡ table
+AreKept table (run ∷ runs) now =
+    (list : List Run) × IsUsed run (kept_in table run.path) list
+    × AreKept (insert_entry bytes_eq table run.path list) runs now
 
 -- each run is kept at the path of its module
 abbrev pub EachAtItsPath : Table → Type 0
-EachAtItsPath table = (path : List ℕ) (run : Run) → kept_at table path ≡ Some run → run.path ≡ path
+EachAtItsPath table = (path : List ℕ) → All (λ run. run.path ≡ path) (kept_in table path)

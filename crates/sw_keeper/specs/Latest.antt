@@ -1,24 +1,24 @@
--- What is kept after a compile, path by path (this project's own rule): the latest run that ended well.
-use Rattle.std.specs.Prelude.{◌≡◌, ◌≢◌, ◌&&◌, ℕ, Bool, true, false, if◌then◌else◌, List, [], ◌∷◌, bytes_eq, Option, Some}
-use Rattle.sw_world.specs.declared.end.End.{End}
-use Rattle.sw_world.specs.declared.end.End.TheVariants.{Done, Fault}
+-- What is kept after a compile, path by path (this project's own rule).
+use Rattle.std.specs.Prelude.{◌≡◌, ◌≢◌, ◌⊎◌, ℕ, List, [], ◌∷◌}
 use Rattle.sw_world.specs.Body.{Run}
-use Rattle.sw_keeper.specs.Keeping.{Tables, kept_at, table_of, kept_after}
+use Rattle.sw_keeper.specs.Keeping.{Table, kept_in, IsUsed, AreKept}
 
-abbrev pub is_done : End → Bool
-is_done (Done finish) = true
-is_done (Fault fault) = false
+-- a run that ended changes the list of its own path alone
+abbrev pub IsUsedAt : List ℕ → Run → List Run → List Run → Type 0
+IsUsedAt path run old new = ((path ≡ run.path) × IsUsed run old new) ⊎ ((path ≢ run.path) × (new ≡ old))
 
--- the last of these runs that ended well at the path, else what was there before
-abbrev pub latest : List Run → List ℕ → Option Run → Option Run
-latest [] path before = before
-latest (run ∷ runs) path before =
-    latest runs path (if is_done run.end && bytes_eq path run.path then Some run else before)
+abbrev pub AreKeptAt : List ℕ → List Run → List Run → List Run → Type 0
+AreKeptAt path old [] now = now ≡ old
+AreKeptAt path old (run ∷ runs) now = (mid : List Run) × IsUsedAt path run old mid × AreKeptAt path mid runs now
 
--- after a compile of an entry each of its paths has the latest run, and the other entries have what they had
+-- after a compile each path has the list that its own runs make of the one before
 abbrev pub KeepsTheLatest : Type 0
 KeepsTheLatest =
-    (tables : Tables) (entry : List ℕ) (runs : List Run) (path : List ℕ) →
-    (kept_at (table_of (kept_after tables entry runs) entry) path
-    ≡ latest runs path (kept_at (table_of tables entry) path))
-    × ((other : List ℕ) → other ≢ entry → table_of (kept_after tables entry runs) other ≡ table_of tables other)
+    (table : Table) (runs : List Run) (now : Table) (path : List ℕ) → AreKept table runs now
+    → AreKeptAt path (kept_in table path) runs (kept_in now path)
+
+-- so what is kept follows from what was kept and the runs
+abbrev pub KeptIsOne : Type 0
+KeptIsOne =
+    (table : Table) (runs : List Run) (now other : Table) → AreKept table runs now → AreKept table runs other
+    → now ≡ other

@@ -1,8 +1,11 @@
-pub mod Settings
 pub mod Compile
 pub mod Outputs
 pub mod Departures
+pub mod Departing
+pub mod Loading
 pub mod Keeping
+pub mod Sound
+pub mod Using
 pub mod Results
 pub mod Steps
 pub mod Cuts

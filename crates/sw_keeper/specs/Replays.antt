@@ -1,85 +1,91 @@
 -- What the steps of a replay do.
-use Rattle.std.specs.Prelude.{◌≡◌, ℕ, ◌<◌, ◌≤◌, List, [], ◌∷◌, ◌++◌, length, take, Option, None, Some, slice_get}
-use Rattle.sw_world.specs.Questions.{IsLoad, Fits}
+use Rattle.std.specs.Prelude.{◌≡◌, ℕ, ◌<◌, ◌≤◌, Bool, List, [], ◌∷◌, ◌++◌, length, slice_get, Some}
+use Rattle.sw_world.specs.declared.question.Question.{Question}
 use Rattle.sw_world.specs.declared.answer.Answer.{Answer}
-use Rattle.sw_world.specs.Body.{Pair, Run}
+use Rattle.sw_world.specs.Body.{Pair, Job, Run}
 use Rattle.sw_modules.specs.Outside.{Outside}
 use Rattle.sw_modules.specs.Fresh.{Setting}
-use Rattle.sw_record.specs.declared.again.Replayed.{Replayed}
-use Rattle.sw_record.specs.declared.again.Replayed.TheVariants.{Same, Load, Differs}
-use Rattle.sw_record.specs.Kept.{Kept, IsKept, job_of}
+use Rattle.sw_record.specs.declared.replay.Replayed.{Replayed}
+use Rattle.sw_record.specs.declared.replay.Replayed.TheVariants.{Same, Load, Differs}
+use Rattle.sw_record.specs.Kept.{Kept}
 use Rattle.sw_record.specs.Ran.{IsCauseBy}
+use Rattle.sw_record.specs.Together.{IsMarked, HasMark, AreLeft, NoneBegins, DepartsAt, AreAtLoads}
 use Rattle.sw_keeper.specs.Keeping.{Table}
 use Rattle.sw_keeper.specs.Steps.{Moment, Grown, Advances}
 use Rattle.sw_keeper.specs.declared.departure.Departure.{Departure}
-use Rattle.sw_keeper.specs.declared.evaluate.Came.{Came}
-use Rattle.sw_keeper.specs.declared.evaluate.Came.TheVariants.{Whole, Next, Upto}
+use Rattle.sw_keeper.specs.declared.loading.Came.{Came}
+use Rattle.sw_keeper.specs.declared.loading.Came.TheVariants.{Whole, Next, Upto}
+use Rattle.sw_keeper.specs.declared.evaluate.Ending.{Ending}
+use Rattle.sw_keeper.specs.declared.evaluate.Ending.TheVariants.{Agrees, Departs}
 
--- how far a replay came from a place on
-abbrev pub reached : List Pair → Came → List Pair
-reached seen Whole = seen
-reached seen (Next to) = take to seen
-reached seen (Upto departure) = departure.known
+-- kept questions of marked runs were asked again, behind these first pairs
+abbrev pub AskedTo : Setting → Job → List Kept → List Bool → List Pair → Replayed → Outside → Outside → Type 0
+AskedTo setting job runs marks first (Same place) old now =
+    (kept : Kept) × IsMarked marks place × (slice_get runs place ≡ Some kept)
+    × Advances setting job first kept.run.seen [] old now
+AskedTo setting job runs marks first (Load alive at) old now =
+    (pairs : List Pair) × (length pairs ≡ at) × (length first ≤ at) × Advances setting job first pairs [] old now
+    × AreLeft runs marks pairs alive × HasMark alive × AreAtLoads runs alive at
+AskedTo setting job runs marks first (Differs near at answer) old now =
+    (pairs : List Pair) × (op : Question) × (length pairs ≡ at) × (length first ≤ at)
+    × Advances setting job first (pairs ++ (op, answer) ∷ []) [] old now × IsMarked marks near
+    × DepartsAt runs near pairs op answer × NoneBegins runs marks (pairs ++ (op, answer) ∷ [])
 
--- the known pairs are the kept ones up to a question, and it has another answer
-pub record IsDeparture (seen : List Pair) (departure : Departure) : Type 0 where
-  pub at : ℕ
-  pub pair : Pair
-  pub here : slice_get seen at ≡ Some pair
+-- a marked run has these pairs up to a question, to which the answer is none that a marked run has behind these pairs
+pub record IsDeparture (runs : List Kept) (marks : List Bool) (departure : Departure) : Type 0 where
+  pub place : ℕ
+  pub marked : IsMarked marks place
+  pub pairs : List Pair
+  pub op : Question
   pub answer : Answer
-  pub differs : pair.1 ≡ answer → ⊥
-  pub fits : Fits pair.0 answer
-  pub known_is : departure.known ≡ take at seen ++ (pair.0, answer) ∷ []
-  pub by : IsCauseBy pair.0 departure.cause
+  pub departs : DepartsAt runs place pairs op answer
+  pub none : NoneBegins runs marks (pairs ++ (op, answer) ∷ [])
+  pub known_is : departure.known ≡ pairs ++ (op, answer) ∷ []
+  pub by : IsCauseBy op departure.cause
 
--- a replay went on to a later place, or ran into a difference
-abbrev pub IsCame : List Pair → ℕ → Came → Type 0
-IsCame seen from Whole = Unit {0}
-IsCame seen from (Next to) = (from < to) × (to ≤ length seen)
-IsCame seen from (Upto departure) = IsDeparture seen departure
+-- a replay went on: these runs are left, which have the same pairs up to a place
+pub record GoneTo (setting : Setting) (table : Table) (job : Job) (runs : List Kept) (marks : List Bool)
+    (first : List Pair) (left : List Bool) (at : ℕ) (old now : Moment) : Type 0 where
+  pub pairs : List Pair
+  pub count : length pairs ≡ at
+  pub later : length first ≤ at
+  pub are_left : AreLeft runs marks pairs left
+  pub some : HasMark left
+  pub new : List Run
+  pub advances : Advances setting job first pairs new old.outside now.outside
+  pub grown : Grown table new old now
+
+-- one run agreed to its end
+pub record DidAgree (setting : Setting) (table : Table) (job : Job) (runs : List Kept) (marks : List Bool)
+    (first : List Pair) (place : ℕ) (old now : Moment) : Type 0 where
+  pub kept : Kept
+  pub marked : IsMarked marks place
+  pub here : slice_get runs place ≡ Some kept
+  pub new : List Run
+  pub advances : Advances setting job first kept.run.seen new old.outside now.outside
+  pub grown : Grown table new old now
+
+-- a question was answered as in none
+pub record DidDepart (setting : Setting) (table : Table) (job : Job) (runs : List Kept) (marks : List Bool)
+    (first : List Pair) (departure : Departure) (old now : Moment) : Type 0 where
+  pub departs : IsDeparture runs marks departure
+  pub later : length first ≤ length departs.pairs
+  pub new : List Run
+  pub advances : Advances setting job first departure.known new old.outside now.outside
+  pub grown : Grown table new old now
 
 -- one turn of a replay
-pub record DidTurn (setting : Setting) (table : Table) (kept : Kept) (from : ℕ) (came : Came) (old now : Moment) :
-    Type 0 where
-  pub new : List Run
-  pub advances : Advances setting (job_of kept) (take from kept.run.seen) (reached kept.run.seen came) new old.outside
-      now.outside
-  pub grown : Grown table new old now
-  pub place : IsCame kept.run.seen from came
-
--- a replay on its way
-pub record ReplaysOn (setting : Setting) (table : Table) (kept : Kept) (at : ℕ) (old now : Moment) : Type 0 where
-  pub within : at ≤ length kept.run.seen
-  pub new : List Run
-  pub advances : Advances setting (job_of kept) [] (take at kept.run.seen) new old.outside now.outside
-  pub grown : Grown table new old now
-
--- the pairs behind the body after a replay
-abbrev pub behind : List Pair → Option Departure → List Pair
-behind seen None = seen
-behind seen (Some departure) = departure.known
-
-abbrev pub IsBehind : List Pair → Option Departure → Type 0
-IsBehind seen None = Unit {0}
-IsBehind seen (Some departure) = IsDeparture seen departure
+abbrev pub DidTurn : Setting → Table → Job → List Kept → List Bool → List Pair → Came → Moment → Moment → Type 0
+DidTurn setting table job runs marks first (Whole place) old now =
+    DidAgree setting table job runs marks first place old now
+DidTurn setting table job runs marks first (Next alive at) old now =
+    GoneTo setting table job runs marks first alive at old now × (length first < at)
+DidTurn setting table job runs marks first (Upto departure) old now =
+    DidDepart setting table job runs marks first departure old now
 
 -- a whole replay
-pub record DidReplay (setting : Setting) (table : Table) (kept : Kept) (departure : Option Departure)
-    (old now : Moment) : Type 0 where
-  pub new : List Run
-  pub advances : Advances setting (job_of kept) [] (behind kept.run.seen departure) new old.outside now.outside
-  pub grown : Grown table new old now
-  pub place : IsBehind kept.run.seen departure
-  pub is_kept : IsKept setting.body kept
-
--- kept questions were asked again from a place on
-abbrev pub AskedTo : Setting → Kept → ℕ → Replayed → Outside → Outside → Type 0
-AskedTo setting kept from Same old now =
-    Advances setting (job_of kept) (take from kept.run.seen) kept.run.seen [] old now
-AskedTo setting kept from (Load at) old now =
-    (from ≤ at) × ((pair : Pair) × (slice_get kept.run.seen at ≡ Some pair) × IsLoad pair.0
-    × Advances setting (job_of kept) (take from kept.run.seen) (take at kept.run.seen) [] old now)
-AskedTo setting kept from (Differs at answer) old now =
-    (pair : Pair) × (slice_get kept.run.seen at ≡ Some pair) × (pair.1 ≡ answer → ⊥) × Fits pair.0 answer
-    × Advances setting (job_of kept) (take from kept.run.seen) (take at kept.run.seen ++ (pair.0, answer) ∷ []) [] old
-    now
+abbrev pub DidReplay : Setting → Table → Job → List Kept → List Bool → List Pair → Ending → Moment → Moment → Type 0
+DidReplay setting table job runs marks first (Agrees place) old now =
+    DidAgree setting table job runs marks first place old now
+DidReplay setting table job runs marks first (Departs departure) old now =
+    DidDepart setting table job runs marks first departure old now

@@ -1,5 +1,6 @@
 -- What the steps of a compile do.
-use Rattle.std.specs.Prelude.{◌≡◌, ℕ, ◌<◌, List, [], ◌∷◌, ◌++◌, length, Option, None, Some}
+use Rattle.std.specs.Prelude.{◌≡◌, ◌↔◌, ℕ, ◌<◌, Bool, List, [], ◌∷◌, ◌++◌, length, slice_get, Option, None, Some}
+use Rattle.std.specs.List.{Contains}
 use Rattle.sw_values.specs.declared.plain.Plain.{Plain}
 use Rattle.sw_world.specs.Hosts.{HostState}
 use Rattle.sw_tree.specs.declared.sheet.Sheet.{Sheet}
@@ -13,9 +14,11 @@ use Rattle.sw_modules.specs.Outside.{Outside}
 use Rattle.sw_modules.specs.Calls.{HostCall, after_calls, calls_left}
 use Rattle.sw_modules.specs.Fresh.{Setting, Response, responds, fresh, room, rest_of, ended, from_open}
 use Rattle.sw_record.specs.declared.reply.Cause.{Cause}
+use Rattle.sw_record.specs.Kept.{Kept}
 use Rattle.sw_record.specs.Ran.{Ran, IsCause}
+use Rattle.sw_record.specs.Together.{IsMarked}
 use Rattle.sw_keeper.specs.declared.context.Opening.{Opening}
-use Rattle.sw_keeper.specs.Keeping.{Table, kept_at, kept_in}
+use Rattle.sw_keeper.specs.Keeping.{Table, kept_in}
 use Rattle.sw_keeper.specs.Compile.{paths_of}
 use Rattle.sw_keeper.specs.Results.{Results}
 
@@ -128,16 +131,24 @@ pub record RunsOn (setting : Setting) (table : Table) (job : Job) (known : List 
   pub advances : Advances setting job known (p.seen ++ p.left) new old.outside now.outside
   pub grown : Grown table new old now
 
--- the kept run of the path, with this text and this configuration
-pub record IsSame (table : Table) (path text : List ℕ) (config : List (List ℕ × Plain)) (run : Run) : Type 0 where
-  pub at : kept_at table path ≡ Some run
-  pub path_is : run.path ≡ path
-  pub text_is : run.text ≡ text
-  pub config_is : run.config ≡ config
+-- the run at a place is of this text and this configuration
+abbrev pub IsAlikeAt : List Kept → ℕ → List ℕ → List (List ℕ × Plain) → Type 0
+IsAlikeAt runs place text config =
+    (kept : Kept) × (slice_get runs place ≡ Some kept) × (kept.run.text ≡ text) × (kept.run.config ≡ config)
 
-abbrev pub NoneSame : Table → List ℕ → List ℕ → List (List ℕ × Plain) → Type 0
-NoneSame table path text config =
-    (run : Run) → kept_at table path ≡ Some run → run.text ≡ text → run.config ≡ config → ⊥
+-- no kept run of the path is of this text and this configuration
+abbrev pub NoneAlike : Table → List ℕ → List ℕ → List (List ℕ × Plain) → Type 0
+NoneAlike table path text config =
+    (run : Run) → Contains (kept_in table path) run → run.text ≡ text → run.config ≡ config → ⊥
+
+-- one of these runs, which has this text
+pub record IsWith (runs : List Kept) (text : List ℕ) (kept : Kept) : Type 0 where
+  pub among : Contains runs kept
+  pub text_is : kept.run.text ≡ text
+
+-- just the runs that are alike are marked
+abbrev pub AreAlike : List Kept → List ℕ → List (List ℕ × Plain) → List Bool → Type 0
+AreAlike runs text config marks = (place : ℕ) → IsMarked marks place ↔ IsAlikeAt runs place text config
 
 -- however the body ends that has these pairs behind it, this is why it ran
 abbrev pub DiffersBy : Table → List ℕ → List ℕ → List (List ℕ × Plain) → List Pair → Cause → Type 0

@@ -1,16 +1,14 @@
 // What the functions of an evaluation are handed.
-use crate::Reader;
 use crate::kept::KeptRuns;
 use crate::results::Results;
 use std::alloc::Global;
-use sw_modules::{Live, Nothing};
-use sw_record::Cause;
+use sw_modules::{Live, Nothing, Reader};
+use sw_record::{Cause, Run};
 use sw_text::{Name, Shared};
 use sw_tree::Sheet;
-use sw_world::{Answer, Config, Engine, Question};
+use sw_world::{Config, Engine, Pairs};
 
-/// What stays as it is during a compile: how texts are read, the runs that are kept of its entry, and what its loads
-/// share.
+/// What stays as it is during a compile: how texts are read, the runs that are kept, and what its loads share.
 #[derive(Drop)]
 pub(crate) struct Within<'c, R: Reader, E: Engine> {
     pub(crate) alloc: Global,
@@ -38,6 +36,14 @@ pub struct Opening {
 #[derive(Drop)]
 pub(crate) struct Start<'s> {
     pub(crate) sheet: &'s Shared<Sheet>,
-    pub(crate) known: &'s [(Question, Answer)],
+    pub(crate) known: &'s Pairs,
     pub(crate) cause: Cause,
+}
+
+/// The kept runs of a module, which of them have agreed so far, and up to which place of their pairs.
+#[derive(Drop)]
+pub(crate) struct Agreeing<'k, E: Engine> {
+    pub(crate) runs: &'k [Shared<Run<E>>],
+    pub(crate) alive: [bool; 8],
+    pub(crate) at: usize,
 }

@@ -1,34 +1,32 @@
-// The evaluation of modules, each by its kept run as far as that goes, and then by its body.
-ghost use Rattle.std.specs.Prelude.{◌≡◌, ◌≤◌, ◌<◌, ◌++◌, [], Ok, length, take, IfOk, OnErr};
+// The evaluation of modules, each by its kept runs as far as these go, and then by its body.
+ghost use Rattle.std.specs.Prelude.{◌≡◌, ◌≤◌, ◌<◌, ◌++◌, [], Ok, length, IfOk, OnErr};
 ghost use Rattle.sw_folder.specs.Files.{most_bytes};
 ghost use Rattle.sw_world.specs.Questions.{IsLoad, Fits};
 ghost use Rattle.sw_world.specs.Body.{Goes};
 ghost use Rattle.sw_world.specs.Progress.{Running, IsBody};
-ghost use Rattle.sw_record.specs.Kept.{job_of};
-ghost use Rattle.sw_keeper.specs.Steps.{DidLoad, DidEnd, DidEvaluate, Turned, DiffersBy, job_at, moment_of};
+ghost use Rattle.sw_record.specs.Together.{AreTogether, AreAtLoads};
+ghost use Rattle.sw_keeper.specs.Steps.{DidLoad, DidEnd, DidEvaluate, Turned, DiffersBy, NoneAlike, job_at, moment_of};
 ghost use Rattle.sw_keeper.specs.Cuts.{LoadCut, BodyCut, OpenCut};
 ghost use Rattle.sw_keeper.specs.Replays.{DidTurn, DidReplay};
 
-use crate::context::{Moment, Opening, Start, Within};
-use crate::departure::{Departure, departure_of};
+use crate::context::{Agreeing, Moment, Opening, Start, Within};
+use crate::departure::{Departure, departure_at};
+use crate::loading::{Came, after_load, load_of};
 use crate::outside::{go_outside, replay_outside};
-use crate::reading::{cause_anew, read_sheet, same_run};
+use crate::reading::{alike_of, cause_anew, read_sheet};
 use crate::results::run_ended;
-use crate::{HasSetting, Reader};
-use sw_modules::Begin;
-use sw_record::{Replayed, Run};
+use sw_modules::{Begin, HasSetting, Reader};
+use sw_record::{Replayed, first_marked, run_at};
 use sw_text::Memory;
-use sw_world::{Answer, End, Engine, Hosts, Question, Turn};
+use sw_world::{Answer, End, Engine, Hosts, Pairs, Question, Turn};
 
-/// How far a replay came.
+/// How a replay ended.
 #[derive(Drop)]
-pub enum Came {
-    /// To its end: all was as before.
-    Whole,
-    /// To this place, and all was as before.
-    Next(usize),
-    /// To a question that is answered otherwise.
-    Upto(Departure),
+pub enum Ending {
+    /// The run at this place agreed to its end.
+    Agrees(usize),
+    /// None did.
+    Departs(Departure),
 }
 
 /// Answers a load, by an evaluation where it opens a module.
@@ -151,78 +149,145 @@ fn replay_turn<R: Reader, E: Engine, H: Hosts>(
     moment: &mut Moment<'_, R, E>,
     hosts: &mut H,
     engine: &mut E,
-    run: &Run<E>,
-    from: usize,
+    going: &Agreeing<'_, E>,
 ) -> Result<Came, Memory>
-    requires { from ≤ length run.now.run.seen }
-    ensures did { IfOk result (λ came. DidTurn ⟦<(R, E, H) as HasSetting>⟧.setting within.now.kept.now run.now
-        from came
+    requires { AreTogether E.body going.now.runs.now going.now.alive going.now.at }
+    ensures did { IfOk result (λ came. (on : AreTogether E.body going.now.runs.now going.now.alive going.now.at)
+        → DidTurn ⟦<(R, E, H) as HasSetting>⟧.setting within.now.kept.now on.job going.now.runs.now
+        going.now.alive on.first came
         (moment_of moment.old.live (H.state hosts.old) moment.old.results (E.ran engine.old))
         (moment_of moment.new.live (H.state hosts.new) moment.new.results (E.ran engine.new))) }
     ensures depth { IfOk result (λ _. length moment.new.live.opened ≡ length moment.old.live.opened) }
-    ensures cut { OnErr result (BodyCut ⟦<(R, E, H) as HasSetting>⟧.setting (job_of run.now)
-        (take from run.now.run.seen)
+    ensures cut { OnErr result ((on : AreTogether E.body going.now.runs.now going.now.alive going.now.at)
+        → BodyCut ⟦<(R, E, H) as HasSetting>⟧.setting on.job on.first
         (moment_of moment.old.live (H.state hosts.old) moment.old.results (E.ran engine.old))
         (moment_of moment.new.live (H.state hosts.new) moment.new.results (E.ran engine.new))) }
 {
-    let seen = run.seen();
-    match replay_outside(
-        within.alloc,
-        within.reader,
-        &mut moment.live,
-        hosts,
-        run,
-        from,
-    )? {
-        Replayed::Same => Ok(Came::Whole),
-        Replayed::Differs { at, answer } => {
-            let departure = departure_of(within.alloc, seen, at, answer)?;
+    match replay_outside(within.alloc, within.reader, &mut moment.live, hosts, going)? {
+        Replayed::Same(place) => Ok(Came::Whole(place)),
+        Replayed::Differs { near, at, answer } => {
+            let departure = departure_at(within.alloc, going.runs, near, at, answer)?;
             Ok(Came::Upto(departure))
         }
-        Replayed::Load(at) => {
-            let (op, before) = &seen[at];
-            let answer = load(within, moment, hosts, engine, op)?;
-            if before.same(&answer) {
-                Ok(Came::Next(at + 1))
-            } else {
-                let departure = departure_of(within.alloc, seen, at, answer)?;
-                Ok(Came::Upto(departure))
-            }
+        Replayed::Load { alive, at } => {
+            let loading = Agreeing {
+                runs: going.runs,
+                alive,
+                at,
+            };
+            let came = load_turn(within, moment, hosts, engine, &loading)?;
+            Ok(came)
         }
     }
 }
 
-/// Asks the questions of a kept run again: none where all was as before, else where that ended.
+/// Answers the load at which the runs are that agree so far.
 #[cycle(evaluate)]
-fn replay_all<R: Reader, E: Engine, H: Hosts>(
+fn load_turn<R: Reader, E: Engine, H: Hosts>(
     within: &Within<'_, R, E>,
     moment: &mut Moment<'_, R, E>,
     hosts: &mut H,
     engine: &mut E,
-    run: &Run<E>,
-) -> Result<Option<Departure>, Memory>
-    ensures did { IfOk result (λ departure. DidReplay ⟦<(R, E, H) as HasSetting>⟧.setting within.now.kept.now
-        run.now departure
+    going: &Agreeing<'_, E>,
+) -> Result<Came, Memory>
+    requires together { AreTogether E.body going.now.runs.now going.now.alive going.now.at }
+    requires loads { AreAtLoads going.now.runs.now going.now.alive going.now.at }
+    ensures did { IfOk result (λ came. (on : AreTogether E.body going.now.runs.now going.now.alive going.now.at)
+        → DidTurn ⟦<(R, E, H) as HasSetting>⟧.setting within.now.kept.now on.job going.now.runs.now
+        going.now.alive on.first came
         (moment_of moment.old.live (H.state hosts.old) moment.old.results (E.ran engine.old))
         (moment_of moment.new.live (H.state hosts.new) moment.new.results (E.ran engine.new))) }
     ensures depth { IfOk result (λ _. length moment.new.live.opened ≡ length moment.old.live.opened) }
-    ensures cut { OnErr result (BodyCut ⟦<(R, E, H) as HasSetting>⟧.setting (job_of run.now) []
+    ensures cut { OnErr result ((on : AreTogether E.body going.now.runs.now going.now.alive going.now.at)
+        → BodyCut ⟦<(R, E, H) as HasSetting>⟧.setting on.job on.first
         (moment_of moment.old.live (H.state hosts.old) moment.old.results (E.ran engine.old))
         (moment_of moment.new.live (H.state hosts.new) moment.new.results (E.ran engine.new))) }
 {
-    let _seen = run.seen();
-    let mut at = 0;
-    loop {
-        match replay_turn(within, moment, hosts, engine, run, at)? {
-            Came::Whole => return Ok(None),
-            Came::Next(to) => at = to,
-            Came::Upto(departure) => return Ok(Some(departure)),
+    let op = load_of(going);
+    let answer = load(within, moment, hosts, engine, op)?;
+    let came = after_load(within.alloc, going, answer)?;
+    Ok(came)
+}
+
+/// Asks the questions of the marked runs again.
+#[cycle(evaluate)]
+fn replay_runs<R: Reader, E: Engine, H: Hosts>(
+    within: &Within<'_, R, E>,
+    moment: &mut Moment<'_, R, E>,
+    hosts: &mut H,
+    engine: &mut E,
+    going: &Agreeing<'_, E>,
+) -> Result<Ending, Memory>
+    requires { AreTogether E.body going.now.runs.now going.now.alive going.now.at }
+    ensures did { IfOk result (λ ending. (on : AreTogether E.body going.now.runs.now going.now.alive going.now.at)
+        → DidReplay ⟦<(R, E, H) as HasSetting>⟧.setting within.now.kept.now on.job going.now.runs.now
+        going.now.alive on.first ending
+        (moment_of moment.old.live (H.state hosts.old) moment.old.results (E.ran engine.old))
+        (moment_of moment.new.live (H.state hosts.new) moment.new.results (E.ran engine.new))) }
+    ensures depth { IfOk result (λ _. length moment.new.live.opened ≡ length moment.old.live.opened) }
+    ensures cut { OnErr result ((on : AreTogether E.body going.now.runs.now going.now.alive going.now.at)
+        → BodyCut ⟦<(R, E, H) as HasSetting>⟧.setting on.job on.first
+        (moment_of moment.old.live (H.state hosts.old) moment.old.results (E.ran engine.old))
+        (moment_of moment.new.live (H.state hosts.new) moment.new.results (E.ran engine.new))) }
+{
+    let mut left = going.alive;
+    let mut to = going.at;
+    'turns: loop {
+        let agreeing = Agreeing {
+            runs: going.runs,
+            alive: left,
+            at: to,
+        };
+        match replay_turn(within, moment, hosts, engine, &agreeing)? {
+            Came::Whole(place) => return Ok(Ending::Agrees(place)),
+            Came::Next { alive, at } => {
+                left = alive;
+                to = at;
+            }
+            Came::Upto(departure) => return Ok(Ending::Departs(departure)),
         }
     }
 }
 
-/// Evaluates the text of a module whose path is open: by the kept run as far as its questions are answered as before,
-/// and from there on by its body.
+/// Evaluates the text of a module of which no kept run is alike.
+#[cycle(evaluate)]
+fn evaluate_anew<R: Reader, E: Engine, H: Hosts>(
+    within: &Within<'_, R, E>,
+    moment: &mut Moment<'_, R, E>,
+    hosts: &mut H,
+    engine: &mut E,
+    opening: &Opening,
+) -> Result<End, Memory>
+    requires few { length opening.now.text ≤ most_bytes }
+    requires none { NoneAlike within.now.kept.now opening.now.path opening.now.text opening.now.config }
+    ensures did { IfOk result (λ end. DidEvaluate ⟦<(R, E, H) as HasSetting>⟧.setting within.now.kept.now
+        opening.now.path opening.now.text opening.now.config end
+        (moment_of moment.old.live (H.state hosts.old) moment.old.results (E.ran engine.old))
+        (moment_of moment.new.live (H.state hosts.new) moment.new.results (E.ran engine.new))) }
+    ensures depth { IfOk result (λ _. length moment.new.live.opened ≡ length moment.old.live.opened) }
+    ensures cut { OnErr result (OpenCut ⟦<(R, E, H) as HasSetting>⟧.setting opening.now.path opening.now.text
+        opening.now.config
+        (moment_of moment.old.live (H.state hosts.old) moment.old.results (E.ran engine.old))
+        (moment_of moment.new.live (H.state hosts.new) moment.new.results (E.ran engine.new))) }
+{
+    match read_sheet(within, opening)? {
+        Ok(sheet) => {
+            let cause = cause_anew(within, opening);
+            let known = Pairs::new(within.alloc);
+            let start = Start {
+                sheet: &sheet,
+                known: &known,
+                cause,
+            };
+            let end = run_body(within, moment, hosts, engine, opening, &start)?;
+            Ok(end)
+        }
+        Err(fault) => Ok(End::Fault(fault)),
+    }
+}
+
+/// Evaluates the text of a module whose path is open: by the kept runs as far as its questions are answered as in one
+/// of them, and from there on by its body.
 #[cycle(evaluate)]
 pub(crate) fn evaluate<R: Reader, E: Engine, H: Hosts>(
     within: &Within<'_, R, E>,
@@ -242,36 +307,26 @@ pub(crate) fn evaluate<R: Reader, E: Engine, H: Hosts>(
         (moment_of moment.old.live (H.state hosts.old) moment.old.results (E.ran engine.old))
         (moment_of moment.new.live (H.state hosts.new) moment.new.results (E.ran engine.new))) }
 {
-    let near = moment.results.len();
-    let Some(same) = same_run(within.kept, opening, near) else {
-        return match read_sheet(within.alloc, within.reader, within.kept, opening)? {
-            Ok(sheet) => {
-                let cause = cause_anew(within.kept, opening);
-                let start = Start {
-                    sheet: &sheet,
-                    known: &[],
-                    cause,
-                };
-                let end = run_body(within, moment, hosts, engine, opening, &start)?;
-                Ok(end)
-            }
-            Err(fault) => Ok(End::Fault(fault)),
-        };
+    let runs = within.kept.runs(&opening.path, moment.results.len());
+    let alive = alike_of(runs, opening);
+    let Some(first) = first_marked(&alive) else {
+        let end = evaluate_anew(within, moment, hosts, engine, opening)?;
+        return Ok(end);
     };
-    let run = same.run();
-    match replay_all(within, moment, hosts, engine, run)? {
-        Some(departure) => {
-            let known = departure.known.as_slice();
+    let going = Agreeing { runs, alive, at: 0 };
+    match replay_runs(within, moment, hosts, engine, &going)? {
+        Ending::Departs(departure) => {
+            let known = &departure.known;
             let start = Start {
-                sheet: run.sheet(),
+                sheet: run_at(runs, first).get().sheet(),
                 known,
                 cause: departure.cause,
             };
             let end = run_body(within, moment, hosts, engine, opening, &start)?;
             Ok(end)
         }
-        None => {
-            let end = moment.results.take_over(same)?;
+        Ending::Agrees(place) => {
+            let end = moment.results.take_over(run_at(runs, place))?;
             Ok(end)
         }
     }

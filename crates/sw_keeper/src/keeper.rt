@@ -2,9 +2,9 @@
 ghost use Rattle.std.specs.Prelude.{◌≡◌, ◌++◌, ◌≤◌, [], Ok, Err, IsTrue, length, IfOk, IfErr, OnOk, OnErr};
 ghost use Rattle.std.specs.FinMap as files;
 ghost use Rattle.sw_folder.specs.Edits.{after_put, after_removal, IsFaultOf};
-ghost use Rattle.sw_record.specs.Ran.{Ran};
 ghost use Rattle.sw_keeper.specs.Compile.{compiled, CompilesTo, BreaksOff};
-ghost use Rattle.sw_keeper.specs.Keeping.{table_of, kept_for, with_runs, kept_after};
+ghost use Rattle.sw_record.specs.Ran.{Ran};
+ghost use Rattle.sw_keeper.specs.Keeping.{kept_in, AreKept};
 ghost use Rattle.sw_keeper.specs.Whole.{IsCompiled, CompileCut};
 
 use crate::context::{Moment, Opening, Within};
@@ -12,20 +12,19 @@ use crate::evaluate::evaluate;
 use crate::kept::{KeptRun, KeptRuns};
 use crate::outcome::outcome_of;
 use crate::results::Results;
-use crate::{HasSetting, Reader};
 use std::alloc::Global;
 use std::marker::Model;
 use sw_folder::{EditFault, Folder};
-use sw_modules::{Enter, Live, Nothing};
+use sw_modules::{Enter, HasSetting, Live, Nothing, Reader};
 use sw_record::{Cause, Outcome, Reply};
 use sw_text::{List, Memory, Name};
-use sw_world::{Engine, Hosts, Table};
+use sw_world::{Engine, Hosts};
 
 /// A folder that is compiled again and again, and the runs that are kept of its compiles. Contracts see both.
 #[derive(Drop)]
 pub struct Keeper<R: Reader, E: Engine> {
     folder: Folder,
-    kept: Table<KeptRuns<R, E>>,
+    kept: KeptRuns<R, E>,
     alloc: Global,
 }
 
@@ -51,7 +50,7 @@ impl<R: Reader, E: Engine> Keeper<R, E> {
     {
         Keeper {
             folder: Folder::new(alloc),
-            kept: Table::new(alloc),
+            kept: KeptRuns::new(alloc),
             alloc,
         }
     }
@@ -85,7 +84,7 @@ impl<R: Reader, E: Engine> Keeper<R, E> {
 
     /// Compiles an entry with these load paths: the messages and the CSS or the fault that the evaluation of the files
     /// as they are gives from nothing. Of the bodies of that evaluation those run whose run is none of the kept ones,
-    /// each with its cause, and the engine tells of just these; the runs that ended well are kept from then on. After
+    /// each with its cause, and the engine tells of just these; its runs are the latest used from then on. After
     /// `Memory` folder and kept runs are as before, the engine has told of some bodies more, and the host's functions
     /// are as they are after the first calls of that evaluation, so many as were made.
     pub fn compile<H: Hosts>(
@@ -99,19 +98,17 @@ impl<R: Reader, E: Engine> Keeper<R, E> {
         ensures ok { IfOk result (λ reply. CompilesTo
             (compiled ⟦<(R, E, H) as HasSetting>⟧.setting self.old.folder paths.now entry.now
             (H.state hosts.old))
-            entry.now reply self.old self.new (H.state hosts.new) (E.ran engine.old) (E.ran engine.new)) }
+            reply self.old self.new (H.state hosts.new) (E.ran engine.old) (E.ran engine.new)) }
         ensures err { OnErr result (BreaksOff ⟦<(R, E, H) as HasSetting>⟧.setting self.old.folder paths.now
             entry.now (H.state hosts.old) (H.state hosts.new) (E.ran engine.old) (E.ran engine.new)) }
         ensures folder { self.new.folder ≡ self.old.folder }
         ensures unchanged { OnErr result (self.new ≡ self.old) }
     {
-        let none = KeptRuns::new(self.alloc);
-        let kept = kept_of(&self.kept, &none, entry);
         let nothing = Nothing::new(self.alloc)?;
         let within = Within {
             alloc: self.alloc,
             reader,
-            kept,
+            kept: &self.kept,
             nothing: &nothing,
         };
         let Compiled { reply, runs } = compile_folder(
@@ -122,46 +119,34 @@ impl<R: Reader, E: Engine> Keeper<R, E> {
             engine,
             hosts,
         )?;
-        keep_runs(self.alloc, &mut self.kept, entry, &runs, &reply.ran)?;
+        keep_runs(
+            self.alloc,
+            &mut self.kept,
+            runs.as_slice(),
+            reply.ran.as_slice(),
+        )?;
         Ok(reply)
     }
 }
 
-/// Keeps the runs of a compile of an entry, in which these bodies ran. Where none did, all are kept already. After
-/// `Memory` the tables are as before.
-#[tactic(auto, using(crate::proofs::Tables::kept_some))]
+/// Keeps the runs of a compile, of which those ran that `ran` names. Where each stands in front of its module's list,
+/// nothing changes. After `Memory` the kept runs are as before.
 fn keep_runs<R: Reader, E: Engine>(
     alloc: Global,
-    tables: &mut Table<KeptRuns<R, E>>,
-    entry: &Name,
-    runs: &List<KeptRun<R, E>>,
-    ran: &List<(Name, Cause)>,
+    kept: &mut KeptRuns<R, E>,
+    runs: &[KeptRun<R, E>],
+    ran: &[(Name, Cause)],
 ) -> Result<(), Memory>
-    requires { Ran (kept_for tables.old entry.now) runs.now ran.now }
-    ensures ok { OnOk result (tables.new ≡ kept_after tables.old entry.now runs.now) }
-    ensures err { OnErr result (tables.new ≡ tables.old) }
+    requires { Ran (kept_in kept.old) runs.now ran.now }
+    ensures ok { OnOk result (AreKept kept.old runs.now kept.new) }
+    ensures err { OnErr result (kept.new ≡ kept.old) }
 {
-    if ran.is_empty() {
+    if kept.has_in_front(runs, ran) {
         return Ok(());
     }
-    let after = kept_with(alloc, tables, entry, runs)?;
-    tables.add(entry.share()?, after)?;
+    let after = kept.with(alloc, runs, ran)?;
+    *kept = after;
     Ok(())
-}
-
-/// The kept runs of an entry after these.
-fn kept_with<R: Reader, E: Engine>(
-    alloc: Global,
-    tables: &Table<KeptRuns<R, E>>,
-    entry: &Name,
-    runs: &List<KeptRun<R, E>>,
-) -> Result<KeptRuns<R, E>, Memory>
-    ensures { IfOk result (λ after. after ≡ with_runs (table_of tables.now entry.now) runs.now) }
-{
-    let none = KeptRuns::new(alloc);
-    let kept = kept_of(tables, &none, entry);
-    let after = kept.with(alloc, runs.as_slice())?;
-    Ok(after)
 }
 
 /// What a compile replies, and the runs that ended in it.
@@ -169,21 +154,6 @@ fn kept_with<R: Reader, E: Engine>(
 struct Compiled<R: Reader, E: Engine> {
     reply: Reply,
     runs: List<KeptRun<R, E>>,
-}
-
-/// The kept runs of an entry.
-fn kept_of<'k, R: Reader, E: Engine>(
-    tables: &'k Table<KeptRuns<R, E>>,
-    none: &'k KeptRuns<R, E>,
-    entry: &Name,
-) -> &'k KeptRuns<R, E>
-    requires { none.now ≡ [] }
-    ensures { result.now ≡ table_of tables.now entry.now }
-{
-    match tables.get(entry) {
-        Some(kept) => kept,
-        None => none,
-    }
 }
 
 fn compile_folder<R: Reader, E: Engine, H: Hosts>(

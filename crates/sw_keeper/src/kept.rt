@@ -1,14 +1,21 @@
 // Runs that are kept, of texts that read to their sheets.
-ghost use Rattle.std.specs.Prelude.{◌≡◌, [], Ok, IfOk, IfSome, OnOk};
-ghost use Rattle.std.specs.Option.{option_copied};
-ghost use Rattle.sw_keeper.specs.Keeping.{kept_at, with_run_by, with_runs};
+ghost use Rattle.std.specs.Prelude.{◌≡◌, ◌≢◌, ◌<◌, ◌≤◌, ◌↔◌, ◌++◌, ◌∷◌, [], ℕ, List, Ok, length, map, IfOk, IfSome, IsTrue, OnOk, MatchOption};
+ghost use Rattle.std.specs.Bool.{OnTrue};
+ghost use Rattle.std.specs.List.{All, Contains};
+ghost use Rattle.sw_record.specs.Ran.{Ran};
+ghost use Rattle.sw_keeper.specs.Sound.{IsSound};
+ghost use Rattle.sw_keeper.specs.Keeping.{kept_in, most_kept, IsUsed, AreKept};
+ghost use Rattle.sw_keeper.specs.Using.{IsPlaceOf, IsFirstOf, AreInFront, IsUntouched, NoneRan, without_place};
 
-use crate::Reader;
 use std::alloc::Global;
 use std::marker::{Model, PhantomData};
-use sw_record::Run;
-use sw_text::{Memory, Name, Shared};
-use sw_world::{End, Engine, Share, Table};
+use sw_modules::Reader;
+use sw_record::{Cause, Run, has_same_pairs, is_alike};
+use sw_text::{List, Memory, Name, Shared};
+use sw_world::{Engine, Share, Table};
+
+/// Of so many runs a module's list consists at the most.
+const MOST_KEPT: usize = 8;
 
 /// A run whose sheet is what its path and text read to. Contracts see the run.
 #[derive(Drop)]
@@ -35,14 +42,14 @@ impl<R: Reader, E: Engine> Model for KeptRun<R, E> {
 }
 
 impl<R: Reader, E: Engine> KeptRun<R, E> {
-    pub(crate) fn new(alloc: Global, run: Run<E>) -> Result<KeptRun<R, E>, Memory>
+    pub(crate) fn new(run: Shared<Run<E>>) -> KeptRun<R, E>
         requires { R.reads run.run.path run.run.text ≡ Ok run.sheet }
-        ensures { IfOk result (λ kept. kept ≡ run.run) }
+        ensures { result ≡ run.run }
     {
-        Ok(KeptRun {
-            run: Shared::new(alloc, run)?,
+        KeptRun {
+            run,
             read_by: PhantomData,
-        })
+        }
     }
 
     pub(crate) fn run(&self) -> &Run<E>
@@ -51,24 +58,185 @@ impl<R: Reader, E: Engine> KeptRun<R, E> {
     {
         self.run.get()
     }
+
+    fn shared(&self) -> Result<Shared<Run<E>>, Memory>
+        ensures run { IfOk result (λ run. run.run ≡ self.now) }
+        ensures sound { IfOk result (λ run. IsSound R.reads E.body run) }
+    {
+        let _seen = self.run.get().seen();
+        self.run.share()
+    }
+
+    /// Whether a run of the same module is the same one.
+    fn is(&self, other: &Run<E>) -> bool
+        requires path { other.now.run.path ≡ self.now.path }
+        requires reads { R.reads other.now.run.path other.now.run.text ≡ Ok other.now.sheet }
+        ensures { IsTrue result ↔ (other.now.run ≡ self.now) }
+    {
+        let run = self.run();
+        if !is_alike(other, run.text(), run.config()) {
+            return false;
+        }
+        has_same_pairs(other, run)
+    }
 }
 
-impl<R: Reader, E: Engine> Share for KeptRun<R, E> {
-    fn another(&self) -> Result<KeptRun<R, E>, Memory> {
-        Ok(KeptRun {
-            run: self.run.share()?,
+/// The kept runs of a module, the latest used first, eight at the most. Contracts see the list of the runs.
+#[derive(Drop)]
+pub(crate) struct KeptList<R: Reader, E: Engine> {
+    runs: Shared<List<Shared<Run<E>>>>,
+    read_by: PhantomData<R>,
+}
+
+impl<R: Reader, E: Engine> Model for KeptList<R, E> {
+    ghost use Rattle.std.specs.Prelude.{◌≤◌, List, length, map};
+    ghost use Rattle.std.specs.List.{All};
+    ghost use Rattle.std.specs.Coded.{codes};
+    ghost use Rattle.sw_tree.specs.contracts.expr.ExprKind as expr;
+    ghost use Rattle.sw_tree.specs.contracts.statement.Statement as statement;
+    ghost use Rattle.sw_values.specs.contracts.plain.Plain as plain;
+    ghost use Rattle.sw_world.specs.Body.{Run};
+    ghost use Rattle.sw_keeper.specs.Sound.{IsSound};
+    ghost use Rattle.sw_keeper.specs.Keeping.{most_kept};
+
+    ghost Value = { List Run };
+
+    ghost coded = { Prim.hlevel (codes, expr.the_row.coded, statement.the_row.coded, plain.the_row.coded) };
+
+    ghost view = { λ list. map (λ kept. kept.run) list.runs };
+
+    ghost invariant = { λ list. All (IsSound R.reads E.body) list.runs × (length list.runs ≤ most_kept) };
+}
+
+impl<R: Reader, E: Engine> KeptList<R, E> {
+    pub(crate) fn runs(&self) -> &[Shared<Run<E>>]
+        ensures same { map (λ kept. kept.run) result.now ≡ self.now }
+        ensures sound { All (IsSound R.reads E.body) result.now }
+        ensures few { length result.now ≤ most_kept }
+    {
+        self.runs.get().as_slice()
+    }
+
+    /// The list of a module of which one run alone was used.
+    fn one(alloc: Global, kept: &KeptRun<R, E>) -> Result<KeptList<R, E>, Memory>
+        ensures { IfOk result (λ list. list ≡ kept.now ∷ []) }
+    {
+        let mut runs = List::new(alloc);
+        runs.push(kept.shared()?)?;
+        Ok(KeptList {
+            runs: Shared::new(alloc, runs)?,
+            read_by: PhantomData,
+        })
+    }
+
+    /// The list after a run of its module was used. All are shared in constant time.
+    fn used(&self, alloc: Global, kept: &KeptRun<R, E>) -> Result<KeptList<R, E>, Memory>
+        requires { All (λ run. run.path ≡ kept.now.path) self.now }
+        ensures { IfOk result (λ list. IsUsed kept.now self.now list) }
+    {
+        let old = self.runs();
+        let mut runs = List::new(alloc);
+        runs.push(kept.shared()?)?;
+        share_without(&mut runs, old, place_of(old, kept))?;
+        runs.truncate(MOST_KEPT);
+        Ok(KeptList {
+            runs: Shared::new(alloc, runs)?,
             read_by: PhantomData,
         })
     }
 }
 
-/// The kept runs of an entry, by the paths of their modules. Contracts see the table.
+impl<R: Reader, E: Engine> Share for KeptList<R, E> {
+    fn another(&self) -> Result<KeptList<R, E>, Memory> {
+        let _runs = self.runs();
+        Ok(KeptList {
+            runs: self.runs.share()?,
+            read_by: PhantomData,
+        })
+    }
+}
+
+/// The place of a run among those of its module.
+fn place_of<R: Reader, E: Engine>(runs: &[Shared<Run<E>>], kept: &KeptRun<R, E>) -> Option<usize>
+    requires path { All (λ one. one.run.path ≡ kept.now.path) runs.now }
+    requires sound { All (IsSound R.reads E.body) runs.now }
+    ensures { MatchOption result (All (λ one. one.run ≢ kept.now) runs.now) (λ place. IsPlaceOf runs.now kept.now place) }
+{
+    for place in 0..runs.len() {
+        if kept.is(runs[place].get()) {
+            return Some(place);
+        }
+    }
+    None
+}
+
+/// True only where a run that is one of these is the first of them. It is so where it is none of the others, so that a
+/// run that is the only one of its module isn't looked at.
+fn is_first<R: Reader, E: Engine>(runs: &[Shared<Run<E>>], kept: &KeptRun<R, E>) -> bool
+    requires path { All (λ one. one.run.path ≡ kept.now.path) runs.now }
+    requires sound { All (IsSound R.reads E.body) runs.now }
+    requires among { Contains (map (λ one. one.run) runs.now) kept.now }
+    ensures { OnTrue result (IsFirstOf (map (λ one. one.run) runs.now) kept.now) }
+{
+    for place in 1..runs.len() {
+        if kept.is(runs[place].get()) {
+            return false;
+        }
+    }
+    true
+}
+
+/// The names of the modules whose bodies ran.
+fn touched_by(alloc: Global, ran: &[(Name, Cause)]) -> Result<Table<bool>, Memory>
+    ensures { IfOk result (λ touched. (path : List ℕ) → IsUntouched touched path → NoneRan ran.now path) }
+{
+    let mut touched = Table::new(alloc);
+    for at in 0..ran.len() {
+        touched.add(ran[at].0.share()?, true)?;
+    }
+    Ok(touched)
+}
+
+/// Adds these runs to a list but for the one at a place, each in constant time.
+fn share_without<E: Engine>(
+    runs: &mut List<Shared<Run<E>>>,
+    old: &[Shared<Run<E>>],
+    place: Option<usize>,
+) -> Result<(), Memory>
+    requires { IfSome place (λ at. at < length old.now) }
+    ensures { OnOk result (runs.new ≡ runs.old ++ without_place old.now place) }
+{
+    match place {
+        None => share_all(runs, old),
+        Some(place) => {
+            share_all(runs, &old[..place])?;
+            share_all(runs, &old[place + 1..])
+        }
+    }
+}
+
+/// Adds these runs to a list, each in constant time.
+fn share_all<E: Engine>(
+    runs: &mut List<Shared<Run<E>>>,
+    more: &[Shared<Run<E>>],
+) -> Result<(), Memory>
+    ensures { OnOk result (runs.new ≡ runs.old ++ more.now) }
+{
+    for at in 0..more.len() {
+        runs.push(more[at].share()?)?;
+    }
+    Ok(())
+}
+
+/// The kept runs by the paths of their modules. Contracts see the table.
 #[derive(Drop)]
 pub(crate) struct KeptRuns<R: Reader, E: Engine> {
-    table: Table<KeptRun<R, E>>,
+    table: Table<KeptList<R, E>>,
+    none: List<Shared<Run<E>>>,
 }
 
 impl<R: Reader, E: Engine> Model for KeptRuns<R, E> {
+    ghost use Rattle.std.specs.Prelude.{◌≡◌, []};
     ghost use Rattle.std.specs.Coded.{codes};
     ghost use Rattle.sw_tree.specs.contracts.expr.ExprKind as expr;
     ghost use Rattle.sw_tree.specs.contracts.statement.Statement as statement;
@@ -81,7 +249,7 @@ impl<R: Reader, E: Engine> Model for KeptRuns<R, E> {
 
     ghost view = { λ kept. kept.table };
 
-    ghost invariant = { λ kept. keeping.EachAtItsPath kept.table };
+    ghost invariant = { λ kept. keeping.EachAtItsPath kept.table × (kept.none ≡ []) };
 }
 
 impl<R: Reader, E: Engine> KeptRuns<R, E> {
@@ -91,73 +259,121 @@ impl<R: Reader, E: Engine> KeptRuns<R, E> {
     {
         KeptRuns {
             table: Table::new(alloc),
+            none: List::new(alloc),
         }
     }
 
-    /// Of how many modules a run is kept.
+    /// Of how many modules runs are kept.
     pub(crate) fn len(&self) -> usize {
         self.table.len()
     }
 
-    /// The kept run of a module. The place `near` and the one behind it are looked at first; what is found is the same
+    /// The kept runs of a module. The place `near` and the one behind it are looked at first; what is found is the same
     /// for every guess.
-    pub(crate) fn find(&self, path: &Name, near: usize) -> Option<&KeptRun<R, E>>
-        ensures value { option_copied result ≡ kept_at self.now path.now }
-        ensures path { IfSome result (λ kept. kept.now.path ≡ path.now) }
+    pub(crate) fn runs(&self, path: &Name, near: usize) -> &[Shared<Run<E>>]
+        ensures same { map (λ kept. kept.run) result.now ≡ kept_in self.now path.now }
+        ensures path { All (λ kept. kept.run.path ≡ path.now) result.now }
+        ensures sound { All (IsSound R.reads E.body) result.now }
+        ensures few { length result.now ≤ most_kept }
     {
         match self.table.find(path, near) {
-            Some((_, kept)) => Some(kept),
-            None => None,
+            Some((_, list)) => list.runs(),
+            None => self.none.as_slice(),
         }
     }
 
-    /// The kept run of a module.
-    pub(crate) fn get(&self, path: &Name) -> Option<&KeptRun<R, E>>
-        ensures value { option_copied result ≡ kept_at self.now path.now }
-        ensures path { IfSome result (λ kept. kept.now.path ≡ path.now) }
+    /// True only where each of these runs stands in front of its module's list, so that their use changes nothing. Those
+    /// that `ran` names aren't looked at: where a body ran, its run isn't there yet.
+    pub(crate) fn has_in_front(&self, runs: &[KeptRun<R, E>], ran: &[(Name, Cause)]) -> bool
+        requires { Ran (kept_in self.now) runs.now ran.now }
+        ensures { OnTrue result (AreInFront self.now runs.now) }
     {
-        self.table.get(path)
+        if !ran.is_empty() {
+            return false;
+        }
+        for at in 0..runs.len() {
+            if !self.is_in_front(&runs[at], at) {
+                return false;
+            }
+        }
+        true
     }
 
-    /// The kept runs after these, of which those that ended well take the places of the kept ones of their modules. All
-    /// are shared in constant time.
+    /// True only where a run that is kept stands in front of its module's list, which is looked for near a place first.
+    fn is_in_front(&self, kept: &KeptRun<R, E>, near: usize) -> bool
+        requires { Contains (kept_in self.now kept.now.path) kept.now }
+        ensures { OnTrue result (AreInFront self.now (kept.now ∷ [])) }
+    {
+        is_first(self.runs(kept.run().path(), near), kept)
+    }
+
+    /// The kept runs after these were used, in order, of which those ran that `ran` names. All are shared in constant
+    /// time, and the lists of modules whose run was in front stay as they are.
     pub(crate) fn with(
         &self,
         alloc: Global,
         runs: &[KeptRun<R, E>],
+        ran: &[(Name, Cause)],
     ) -> Result<KeptRuns<R, E>, Memory>
-        ensures { IfOk result (λ kept. kept ≡ with_runs self.now runs.now) }
+        requires { Ran (kept_in self.now) runs.now ran.now }
+        ensures { IfOk result (λ kept. AreKept self.now runs.now kept) }
     {
-        let mut table = self.table.share(alloc)?;
-        add_runs(&mut table, runs)?;
-        Ok(KeptRuns { table })
-    }
-}
-
-fn add_runs<R: Reader, E: Engine>(
-    table: &mut Table<KeptRun<R, E>>,
-    runs: &[KeptRun<R, E>],
-) -> Result<(), Memory>
-    ensures { OnOk result (table.new ≡ with_runs table.old runs.now) }
-{
-    for kept in runs {
-        add_run(table, kept)?;
-    }
-    Ok(())
-}
-
-fn add_run<R: Reader, E: Engine>(
-    table: &mut Table<KeptRun<R, E>>,
-    kept: &KeptRun<R, E>,
-) -> Result<(), Memory>
-    ensures { OnOk result (table.new ≡ with_run_by table.old kept.now kept.now.end) }
-{
-    let run = kept.run();
-    match run.end() {
-        End::Done(_) => {
-            table.add(run.path().share()?, kept.another()?)?;
-            Ok(())
+        let mut after = self.share(alloc)?;
+        let mut touched = touched_by(alloc, ran)?;
+        for at in 0..runs.len() {
+            after.add(alloc, &mut touched, &runs[at], at)?;
         }
-        End::Fault(_) => Ok(()),
+        Ok(after)
+    }
+
+    fn share(&self, alloc: Global) -> Result<KeptRuns<R, E>, Memory>
+        ensures { IfOk result (λ kept. kept ≡ self.now) }
+    {
+        let _none = self.none.as_slice();
+        Ok(KeptRuns {
+            table: self.table.share(alloc)?,
+            none: List::new(alloc),
+        })
+    }
+
+    /// A run was used; its module's list is looked for near a place first. `touched` names the modules whose lists may
+    /// not be as they were: in each other one the run stands.
+    fn add(
+        &mut self,
+        alloc: Global,
+        touched: &mut Table<bool>,
+        kept: &KeptRun<R, E>,
+        near: usize,
+    ) -> Result<(), Memory>
+        requires { IsUntouched touched.old kept.now.path → Contains (kept_in self.old kept.now.path) kept.now }
+        ensures kept { OnOk result (AreKept self.old (kept.now ∷ []) self.new) }
+        ensures others { OnOk result ((path : List ℕ) → IsUntouched touched.new path
+            → IsUntouched touched.old path × (kept_in self.new path ≡ kept_in self.old path)) }
+    {
+        if !touched.has(kept.run().path()) && self.is_in_front(kept, near) {
+            return Ok(());
+        }
+        touched.add(kept.run().path().share()?, true)?;
+        self.add_used(alloc, kept)?;
+        Ok(())
+    }
+
+    /// A run is put in front of its module's list, which is made anew.
+    fn add_used(&mut self, alloc: Global, kept: &KeptRun<R, E>) -> Result<(), Memory>
+        ensures { OnOk result (AreKept self.old (kept.now ∷ []) self.new) }
+    {
+        let path = kept.run().path().share()?;
+        let list = self.list_with(alloc, kept)?;
+        self.table.add(path, list)?;
+        Ok(())
+    }
+
+    fn list_with(&self, alloc: Global, kept: &KeptRun<R, E>) -> Result<KeptList<R, E>, Memory>
+        ensures { IfOk result (λ list. IsUsed kept.now (kept_in self.now kept.now.path) list) }
+    {
+        match self.table.get(kept.run().path()) {
+            None => KeptList::one(alloc, kept),
+            Some(list) => list.used(alloc, kept),
+        }
     }
 }

@@ -8,14 +8,11 @@ mod evaluate;
 mod keeper;
 mod kept;
 mod laws;
+mod loading;
 mod outcome;
 mod outside;
-mod reader;
 mod reading;
 mod results;
-mod setting;
 
 pub use keeper::Keeper;
-pub use laws::{css_is_of_runs, keeps_the_latest};
-pub use reader::Reader;
-pub use setting::HasSetting;
+pub use laws::{css_is_of_runs, keeps_the_latest, kept_is_one};

@@ -1,15 +1,15 @@
 // What is outside the bodies, lent for the questions that are no loads.
-ghost use Rattle.std.specs.Prelude.{◌≡◌, ◌≤◌, ◌++◌, ℕ, List, [], length, take, IfOk, OnErr};
+ghost use Rattle.std.specs.Prelude.{◌≡◌, ◌++◌, ℕ, List, [], length, IfOk, OnErr};
 ghost use Rattle.sw_world.specs.Progress.{Running, IsBody, stops, ran_by};
-ghost use Rattle.sw_record.specs.Kept.{job_of};
+ghost use Rattle.sw_record.specs.Together.{AreTogether};
 ghost use Rattle.sw_keeper.specs.Steps.{WentOn};
 ghost use Rattle.sw_keeper.specs.Cuts.{RestCut};
 ghost use Rattle.sw_keeper.specs.Replays.{AskedTo};
 
-use crate::{HasSetting, Reader};
+use crate::context::Agreeing;
 use std::alloc::Global;
-use sw_modules::{Asked, Live};
-use sw_record::{Replayed, Run, replay};
+use sw_modules::{Asked, HasSetting, Live, Reader};
+use sw_record::{Replayed, replay_all};
 use sw_text::Memory;
 use sw_world::{Engine, Hosts, Turn};
 
@@ -78,52 +78,51 @@ pub(crate) fn go_outside<R: Reader, E: Engine, H: Hosts>(
     Ok(turn)
 }
 
-/// The kept questions of a run are asked again from a place on.
+/// The questions of kept runs are asked again from where these have agreed so far.
 fn replay_asked<R: Reader, E: Engine, H: Hosts>(
     alloc: Global,
     _reader: &R,
     asked: &mut Asked<'_, '_, H>,
-    run: &Run<E>,
-    from: usize,
+    going: &Agreeing<'_, E>,
 ) -> Result<Replayed, Memory>
-    requires { from ≤ length run.now.run.seen }
-    ensures to { IfOk result (λ replayed. AskedTo ⟦<(R, E, H) as HasSetting>⟧.setting run.now from replayed
+    requires { AreTogether E.body going.now.runs.now going.now.alive going.now.at }
+    ensures to { IfOk result (λ replayed. (on : AreTogether E.body going.now.runs.now going.now.alive going.now.at)
+        → AskedTo ⟦<(R, E, H) as HasSetting>⟧.setting on.job going.now.runs.now going.now.alive on.first replayed
         (record { live = asked.old.live.now; hosts = H.state asked.old.hosts.now })
         (record { live = asked.new.live.now; hosts = H.state asked.new.hosts.now })) }
     ensures same_live { IfOk result (λ _. asked.new.live.ghost_name ≡ asked.old.live.ghost_name) }
-    ensures cut { OnErr result ((told : List (List ℕ)) → RestCut ⟦<(R, E, H) as HasSetting>⟧.setting
-        (job_of run.now) (take from run.now.run.seen)
+    ensures cut { OnErr result ((on : AreTogether E.body going.now.runs.now going.now.alive going.now.at)
+        (told : List (List ℕ)) → RestCut ⟦<(R, E, H) as HasSetting>⟧.setting on.job on.first
         (record { live = asked.old.live.now; hosts = H.state asked.old.hosts.now })
         (record { live = asked.new.live.now; hosts = H.state asked.new.hosts.now }) told told) }
     ensures err_live { OnErr result (asked.new.live.ghost_name ≡ asked.old.live.ghost_name) }
     ensures err_hosts { OnErr result (asked.new.hosts.ghost_name ≡ asked.old.hosts.ghost_name) }
     ensures same_hosts { IfOk result (λ _. asked.new.hosts.ghost_name ≡ asked.old.hosts.ghost_name) }
 {
-    let _seen = run.seen();
-    let replayed = replay(alloc, run, from, asked)?;
+    let replayed = replay_all(alloc, going.runs, going.alive, going.at, asked)?;
     Ok(replayed)
 }
 
-/// The kept questions of a run are asked again from a place on, of a state and a host that are lent for it.
+/// The questions of kept runs are asked again, of a state and a host that are lent for it.
 pub(crate) fn replay_outside<R: Reader, E: Engine, H: Hosts>(
     alloc: Global,
     reader: &R,
     live: &mut Live<'_>,
     hosts: &mut H,
-    run: &Run<E>,
-    from: usize,
+    going: &Agreeing<'_, E>,
 ) -> Result<Replayed, Memory>
-    requires { from ≤ length run.now.run.seen }
-    ensures to { IfOk result (λ replayed. AskedTo ⟦<(R, E, H) as HasSetting>⟧.setting run.now from replayed
+    requires { AreTogether E.body going.now.runs.now going.now.alive going.now.at }
+    ensures to { IfOk result (λ replayed. (on : AreTogether E.body going.now.runs.now going.now.alive going.now.at)
+        → AskedTo ⟦<(R, E, H) as HasSetting>⟧.setting on.job going.now.runs.now going.now.alive on.first replayed
         (record { live = live.old; hosts = H.state hosts.old })
         (record { live = live.new; hosts = H.state hosts.new })) }
-    ensures cut { OnErr result ((told : List (List ℕ)) → RestCut ⟦<(R, E, H) as HasSetting>⟧.setting
-        (job_of run.now) (take from run.now.run.seen)
+    ensures cut { OnErr result ((on : AreTogether E.body going.now.runs.now going.now.alive going.now.at)
+        (told : List (List ℕ)) → RestCut ⟦<(R, E, H) as HasSetting>⟧.setting on.job on.first
         (record { live = live.old; hosts = H.state hosts.old })
         (record { live = live.new; hosts = H.state hosts.new }) told told) }
     ensures depth { IfOk result (λ _. length live.new.opened ≡ length live.old.opened) }
 {
     let mut asked = Asked { live, hosts };
-    let replayed = replay_asked(alloc, reader, &mut asked, run, from)?;
+    let replayed = replay_asked(alloc, reader, &mut asked, going)?;
     Ok(replayed)
 }

@@ -3,22 +3,22 @@ ghost use Rattle.std.specs.Prelude.{◌≡◌, ◌++◌, ◌∷◌, [], Ok, IfOk
 ghost use Rattle.sw_world.specs.Body.{Goes, Ends, answers};
 ghost use Rattle.sw_keeper.specs.Steps.{job_at, run_of};
 
-use crate::Reader;
 use crate::context::Opening;
 use crate::kept::KeptRun;
 use std::alloc::Global;
 use std::marker::Model;
+use sw_modules::Reader;
 use sw_record::{Cause, Run, Trace};
 use sw_text::{List, Memory, Name, Shared};
 use sw_tree::Sheet;
-use sw_world::{Answer, End, Engine, Question, Share};
+use sw_world::{End, Engine, Pairs};
 
 /// The run of a body that ended.
 pub(crate) fn run_ended<E: Engine>(
     alloc: Global,
     opening: &Opening,
     sheet: &Shared<Sheet>,
-    seen: List<(Question, Answer)>,
+    seen: Pairs,
     end: End,
 ) -> Result<Run<E>, Memory>
     requires goes { Goes (E.body (job_at sheet.now opening.now)) [] seen }
@@ -95,17 +95,18 @@ impl<R: Reader, E: Engine> Results<R, E> {
         ensures runs { OnOk result (self.new.runs ≡ self.old.runs ++ run.run ∷ []) }
         ensures ran { OnOk result (self.new.ran ≡ self.old.ran ++ (path, cause) ∷ []) }
     {
-        self.runs.push(KeptRun::new(alloc, run)?)?;
+        self.runs.push(KeptRun::new(Shared::new(alloc, run)?))?;
         self.ran.push((path, cause))?;
         Ok(())
     }
 
     /// Takes a kept run over, in constant time, and gives its end.
-    pub(crate) fn take_over(&mut self, kept: &KeptRun<R, E>) -> Result<End, Memory>
-        ensures end { IfOk result (λ end. end ≡ kept.now.end) }
-        ensures runs { OnOk result (self.new ≡ record self.old { runs = self.old.runs ++ kept.now ∷ [] }) }
+    pub(crate) fn take_over(&mut self, run: &Shared<Run<E>>) -> Result<End, Memory>
+        requires { R.reads run.now.run.path run.now.run.text ≡ Ok run.now.sheet }
+        ensures end { IfOk result (λ end. end ≡ run.now.run.end) }
+        ensures runs { OnOk result (self.new ≡ record self.old { runs = self.old.runs ++ run.now.run ∷ [] }) }
     {
-        self.runs.push(kept.another()?)?;
-        kept.run().end().share()
+        self.runs.push(KeptRun::new(run.share()?))?;
+        run.get().end().share()
     }
 }

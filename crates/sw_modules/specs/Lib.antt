@@ -10,3 +10,4 @@ pub mod Fresh
 pub mod Law
 pub mod Ends
 pub mod Calls
+pub mod Settings

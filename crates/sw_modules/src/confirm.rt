@@ -1,5 +1,5 @@
 // Kept answers that are given still, told without making an answer.
-ghost use Rattle.std.specs.Prelude.{◌≡◌, true, Some, IfSome};
+ghost use Rattle.std.specs.Prelude.{◌≡◌, ℕ, List, [], true, false, Some, IfSome};
 ghost use Rattle.std.specs.Bool.{OnTrue};
 ghost use Rattle.std.specs.Option.{option_copied};
 ghost use Rattle.sw_modules.specs.Names.{found, value_of, is_member, built_in_member, own_member, loaded_member, member_of, public_of, used_member};
@@ -8,6 +8,7 @@ ghost use Rattle.sw_modules.specs.Outside.{IsAnswer};
 use crate::built_ins::is_sass;
 use crate::live::Recent;
 use crate::loads::is_innermost;
+use crate::names::has_own;
 use crate::{Live, Module, Uses};
 use sw_builtins::{Found as Meaning, find};
 use sw_text::{Name, Shared};
@@ -127,7 +128,10 @@ impl<'a> Live<'a> {
                     module: at.0,
                     variable: self.recent.variable,
                 };
-                place_own(at.1, site, near, named)
+                match named.kept {
+                    Answer::NoMember => place_missing(at.1, near, named),
+                    _ => place_own(at.1, site, near, named),
+                }
             }
             Some(_) => self.place_used(&at.1.uses, space, named),
         }
@@ -238,6 +242,19 @@ fn place_own(held: &Module, path: &Name, near: Recent, named: Named<'_>) -> Opti
             }
         }
         _ => None,
+    }
+}
+
+// Where a module has no such member of its own, and uses no module `as *`.
+#[inline(always)]
+fn place_missing(held: &Module, near: Recent, named: Named<'_>) -> Option<Recent>
+    ensures { IfSome result (λ _. (held.now.uses.stars ≡ [])
+        × ((path : List ℕ) → is_member (own_member named.entry.kind named.entry.name.now path held.now) ≡ false)) }
+{
+    if held.uses.stars.as_slice().is_empty() && !has_own(held, named.kind, named.name) {
+        Some(near)
+    } else {
+        None
     }
 }
 

@@ -195,7 +195,8 @@ impl<'a> Live<'a> {
         }
     }
 
-    fn close(&mut self)
+    /// Closes the innermost open load, of which nothing is recorded. Takes no memory.
+    pub fn close(&mut self)
         requires { 0 < length self.old.opened }
         ensures after { self.new ≡ closed self.old }
         ensures closes { length self.new.opened + 1 ≡ length self.old.opened }

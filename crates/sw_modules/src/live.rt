@@ -1,5 +1,5 @@
 // The live state of a compile.
-ghost use Rattle.std.specs.Prelude.{◌≡◌, ◌<◌, ◌+◌, ◌++◌, ◌∷◌, [], ℕ, length, bytes_eq, ◌≤◌, IfOk, IfSome, OnOk, OnErr, None, Some, if◌then◌else◌};
+ghost use Rattle.std.specs.Prelude.{◌≡◌, ◌<◌, ◌+◌, ◌++◌, ◌∷◌, [], ℕ, length, map, bytes_eq, ◌≤◌, IfOk, IfSome, OnOk, OnErr, None, Some, if◌then◌else◌};
 ghost use Rattle.std.specs.Map.{lookup};
 ghost use Rattle.std.specs.Option.{option_copied};
 ghost use Rattle.sw_world.specs.Questions.{IsLoad, Fits};
@@ -56,12 +56,12 @@ pub(crate) struct Recent {
 #[derive(Drop)]
 pub struct Live<'a> {
     pub(crate) alloc: Global,
-    folder: &'a Folder,
-    paths: &'a [Name],
-    nothing: &'a Nothing,
+    pub(crate) folder: &'a Folder,
+    pub(crate) paths: Shared<List<Name>>,
+    pub(crate) nothing: Nothing,
     pub(crate) loaded: Loaded,
     pub(crate) opened: Vec<Opened>,
-    says: List<Saying>,
+    pub(crate) says: List<Saying>,
     pub(crate) outputs: Outputs,
     pub(crate) recent: Recent,
 }
@@ -80,7 +80,7 @@ impl<'a> Model for Live<'a> {
 
     ghost view = { λ live. record {
       folder = live.folder.now;
-      paths = live.paths.now;
+      paths = live.paths;
       loaded = live.loaded;
       opened = live.opened.items;
       says = live.says;
@@ -92,17 +92,19 @@ impl<'a> Live<'a> {
     ghost use Rattle.sw_modules.specs.State.{nothing_loaded, closed, loaded_now, path_in, with_variable};
     ghost use Rattle.sw_modules.specs.Loads.{at_once, begun, begin_path, begin_module, built_in_used, used_with, used_unless, ended_by, left_by, entry_text, entered, AnswersLoad, IsBegun, IsEntered};
 
-    /// Nothing is loaded or open. There is room for so many modules, and for others later.
+    /// Nothing is loaded or open. There is room for so many modules, and for others later. The load paths are shared.
     pub fn new(
         alloc: Global,
         folder: &'a Folder,
-        paths: &'a [Name],
-        nothing: &'a Nothing,
+        paths: &[Name],
+        nothing: &Nothing,
         modules: usize,
     ) -> Result<Live<'a>, Memory>
         ensures { IfOk result (λ live. live ≡ nothing_loaded folder.now paths.now) }
     {
         let loaded = Loaded::with_room(alloc, modules)?;
+        let paths = share_names(alloc, paths)?;
+        let nothing = nothing.share()?;
         Ok(Live {
             alloc,
             folder,
@@ -136,6 +138,14 @@ impl<'a> Live<'a> {
             recent: _,
         } = self;
         says
+    }
+
+    /// What the bodies left behind that ended well, in the order in which they ended: their outputs are those of the
+    /// compile.
+    pub fn ended(&self) -> &[Shared<Finish>]
+        ensures { map (λ finish. finish.css) result.now ≡ self.now.outputs }
+    {
+        self.outputs.ended()
     }
 
     /// Opens the entry, or refuses it at its begin where it is no sheet of the folder. After `Memory` the state is as
@@ -196,7 +206,10 @@ impl<'a> Live<'a> {
         if is_sass(url.as_str()) {
             return self.begin_built_in(url, span, how, config);
         }
-        match self.folder.resolve(site.as_str(), url.as_str(), self.paths) {
+        match self
+            .folder
+            .resolve(site.as_str(), url.as_str(), self.paths.get().as_slice())
+        {
             Ok(path) => self.begin_path(path, span, how, config),
             Err(ResolveFault::NotFound) => begin_refused(FaultCode::NotFound, span),
             Err(ResolveFault::Ambiguous) => begin_refused(FaultCode::Ambiguous, span),

@@ -177,7 +177,7 @@ fn has_name(names: &[Name], name: &Name) -> bool
 }
 
 /// The same names, shared.
-pub(crate) fn share_names(alloc: Global, names: &[Name]) -> Result<Shared<List<Name>>, Memory>
+pub fn share_names(alloc: Global, names: &[Name]) -> Result<Shared<List<Name>>, Memory>
     ensures { IfOk result (λ all. all ≡ names.now) }
 {
     let mut all = List::new(alloc);

@@ -23,6 +23,14 @@ impl Nothing {
         })
     }
 
+    /// One more owner of both, in constant time.
+    pub(crate) fn share(&self) -> Result<Nothing, Memory> {
+        Ok(Nothing {
+            names: self.names.share()?,
+            config: self.config.share()?,
+        })
+    }
+
     /// No names, in constant time.
     pub(crate) fn names(&self) -> Result<Shared<List<Name>>, Memory>
         ensures { IfOk result (λ names. names ≡ []) }

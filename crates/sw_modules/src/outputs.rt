@@ -1,5 +1,5 @@
 // The outputs of the modules whose bodies ended.
-ghost use Rattle.std.specs.Prelude.{◌≡◌, ◌-◌, ◌++◌, ◌∷◌, [], length, take, OnOk, OnErr};
+ghost use Rattle.std.specs.Prelude.{◌≡◌, ◌-◌, ◌++◌, ◌∷◌, [], length, map, take, OnOk, OnErr};
 
 use std::alloc::Global;
 use std::marker::Model;
@@ -41,6 +41,13 @@ impl Outputs {
         ensures err { OnErr result (self.new ≡ self.old) }
     {
         self.ended.push(finish.share()?)
+    }
+
+    /// What the bodies left behind, which isn't copied.
+    pub(crate) fn ended(&self) -> &[Shared<Finish>]
+        ensures { map (λ finish. finish.css) result.now ≡ self.now }
+    {
+        self.ended.as_slice()
     }
 
     /// Takes the last one back. Takes no memory.

@@ -1,10 +1,10 @@
 -- Tails of traces.
-use Rattle.std.proofs.Common.{◌≡◌, ◌⊎◌, ℕ, zero, suc, ◌+◌, ◌-◌, ◌<◌, ◌≤◌, Bool, true, false, List, [], ◌∷◌, ◌++◌, length, take, drop, get_or, refl, sym, ◌∙◌, ap, subst, inl, inr, arith, slice_range, slice_get, slice_set, Some}
+use Rattle.std.proofs.Common.{◌≡◌, ◌⊎◌, ℕ, zero, suc, ◌+◌, ◌-◌, ◌<◌, ◌≤◌, Bool, true, false, List, [], ◌∷◌, ◌++◌, length, take, get_or, refl, sym, ◌∙◌, ap, subst, inl, inr, arith, slice_get, slice_set, Some}
 use Rattle.std.specs.Bool.{OnTrue}
-use Rattle.std.specs.List.{All, Contains}
 use Rattle.std.proofs.lemmas.List.{take_more, take_all}
-use Rattle.std.proofs.lemmas.List.Elements.{All-contains, All-push}
-use Rattle.std.proofs.lemmas.Option.{slice_get-get_or}
+use Rattle.std.proofs.lemmas.List.Elements.{All-contains, All-push, Contains-push, Contains-append_left}
+use Rattle.std.specs.List.{Contains}
+use Rattle.std.proofs.lemmas.Option.{slice_get-get_or, slice_get_within}
 use Rattle.sw_values.specs.declared.plain.Plain.{Plain}
 use Rattle.sw_world.specs.declared.question.Question.{Question}
 use Rattle.sw_world.specs.declared.answer.Answer.{Answer}
@@ -13,7 +13,7 @@ use Rattle.sw_world.specs.Questions.{IsLoad}
 use Rattle.sw_world.specs.Body.{Pair}
 use Rattle.sw_world.specs.Named.{IsOfVariable, IsOfOne, IsNamed, IsNamedIn}
 use Rattle.sw_record.specs.Replay.{AskedAgain}
-use Rattle.sw_record.specs.Tails.{IsTold, TellsUpTo, IsReadAt, IsOfRead, AreGiven, IsGivenAt, AreGivenAt}
+use Rattle.sw_record.specs.Tails.{IsTold, StandsAt, TellsUpTo, IsOfRead, AreGiven, IsGivenAt, AreGivenAt}
 use Rattle.sw_record.proofs.Leading.{asked_more}
 
 -- ---- variables of more modules, or more variables of one
@@ -78,9 +78,34 @@ named_plain (n ∷ ns) pair (inr is) load = named_plain ns pair is load
 -- ---- more questions are told
 
 pub tells_kept : (ns ns' : List NamedVariables) (alone alone' : List ℕ) (seen : List Pair) (from to : ℕ) → TellsUpTo ns alone seen from to
-    → ((place : ℕ) (pair : Pair) → IsTold ns alone place pair → IsTold ns' alone' place pair) → TellsUpTo ns' alone' seen from to
+    → ((pair : Pair) → IsTold ns alone seen pair → IsTold ns' alone' seen pair) → TellsUpTo ns' alone' seen from to
 tells_kept ns ns' alone alone' seen from to tells keeps =
-    record { ordered = tells.ordered; within = tells.within; told = λ place pair le lt here. keeps place pair (tells.told place pair le lt here) }
+    record { ordered = tells.ordered; within = tells.within; told = λ place pair le lt here. keeps pair (tells.told place pair le lt here) }
+
+same_some : (x y : ℕ) → Some x ≡ Some y → x ≡ y
+same_some x y e = cc
+
+-- one question is told
+pub tells_one : (ns : List NamedVariables) (alone : List ℕ) (seen : List Pair) (at : ℕ) → at < length seen
+    → ((pair : Pair) → slice_get seen at ≡ Some pair → StandsAt seen alone pair) → TellsUpTo ns alone seen at (at + 1)
+tells_one ns alone seen at lt told =
+    record { ordered = omega arith; within = omega (arith, lt); told = λ place pair le below here. let is : place ≡ at = omega (arith, le, below) in inr (told pair (rw is at here)) }
+
+pub told_more : (ns : List NamedVariables) (old new : List ℕ) (seen : List Pair) → ((pair : Pair) → StandsAt seen old pair → StandsAt seen new pair)
+    → (pair : Pair) → IsTold ns old seen pair → IsTold ns new seen pair
+told_more ns old new seen keeps pair (inl named) = inl named
+told_more ns old new seen keeps pair (inr stands) = inr (keeps pair stands)
+
+pub contained : (places : List ℕ) (k place : ℕ) → slice_get places k ≡ Some place → Contains places place
+contained places k place here =
+    let within = slice_get_within places k place here in
+    (k, within, same_some _ _ (sym (slice_get-get_or places k place within) ∙ here))
+
+pub stands_pushed : (seen : List Pair) (places : List ℕ) (at : ℕ) (pair : Pair) → slice_get seen at ≡ Some pair → StandsAt seen (places ++ at ∷ []) pair
+stands_pushed seen places at pair here = (at, Contains-push places at, here)
+
+pub stands_still : (seen : List Pair) (places : List ℕ) (at : ℕ) (pair : Pair) → StandsAt seen places pair → StandsAt seen (places ++ at ∷ []) pair
+stands_still seen places at pair (place, among, here) = (place, Contains-append_left places (at ∷ []) place among, here)
 
 lt_or_le : (a b : ℕ) → (a < b) ⊎ (b ≤ a)
 lt_or_le a b = grind arith
@@ -90,7 +115,7 @@ pub tells_on : (ns : List NamedVariables) (alone : List ℕ) (seen : List Pair) 
 tells_on ns alone seen from at to first second =
     record { ordered = omega (arith, first.ordered, second.ordered); within = second.within; told = λ place pair le lt here. by place pair le lt here (lt_or_le place at) }
   where
-    by : (place : ℕ) (pair : Pair) → from ≤ place → place < to → slice_get seen place ≡ Some pair → (place < at) ⊎ (at ≤ place) → IsTold ns alone place pair
+    by : (place : ℕ) (pair : Pair) → from ≤ place → place < to → slice_get seen place ≡ Some pair → (place < at) ⊎ (at ≤ place) → IsTold ns alone seen pair
     by place pair le lt here (inl before) = first.told place pair le before here
     by place pair le lt here (inr behind) = second.told place pair behind lt here
 
@@ -142,9 +167,9 @@ asked_tail {W} gives w seen from to named alone tells given given_at =
     subst (λ n. AskedAgain gives seen from n w w) up
     (asked_up gives seen from (to - from) w (rw up tells.within) (λ place pair le lt here. by place pair here (tells.told place pair le (omega (arith, lt, tells.ordered)) here)))
   where
-    by : (place : ℕ) (pair : Pair) → slice_get seen place ≡ Some pair → IsTold named alone place pair → (IsLoad pair.0 → ⊥) × gives w pair.0 pair.1 w
+    by : (place : ℕ) (pair : Pair) → slice_get seen place ≡ Some pair → IsTold named alone seen pair → (IsLoad pair.0 → ⊥) × gives w pair.0 pair.1 w
     by place pair here (inl is) = (named_plain named pair is, given pair is)
-    by place pair here (inr among) = All-contains (IsGivenAt gives w seen) alone place given_at among pair here
+    by place pair here (inr (told, among, there)) = All-contains (IsGivenAt gives w seen) alone told given_at among pair there
 
 pub on_true : (b : Bool) {P Q : Type 0} → (P → Q) → OnTrue b P → OnTrue b Q
 on_true true f h = f h

@@ -1,4 +1,5 @@
 pub mod Kept
 pub mod Replay
+pub mod Together
 pub mod Ran
 pub mod Tails

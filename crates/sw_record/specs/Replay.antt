@@ -1,11 +1,11 @@
--- What asking the questions of a kept run again comes to (this project's own rule).
+-- What asking the questions of one kept run again comes to (this project's own rule).
 use Rattle.std.specs.Prelude.{◌≡◌, ℕ, ◌≤◌, List, length, Option, None, Some, slice_get, slice_range}
 use Rattle.sw_world.specs.declared.question.Question.{Question}
 use Rattle.sw_world.specs.declared.answer.Answer.{Answer}
 use Rattle.sw_world.specs.Questions.{IsLoad, Fits}
 use Rattle.sw_world.specs.Body.{Pair, Leads}
-use Rattle.sw_record.specs.declared.again.Replayed.{Replayed}
-use Rattle.sw_record.specs.declared.again.Replayed.TheVariants.{Same, Load, Differs}
+use Rattle.sw_record.specs.declared.again.Again.{Again}
+use Rattle.sw_record.specs.declared.again.Again.TheVariants.{Same, Load, Differs}
 
 -- the questions from one place up to another, asked in order, are answered as they were kept; none is a load
 abbrev pub AskedAgain : {W : Type 0} → (W → Question → Answer → W → Type 0) → List Pair → ℕ → ℕ → W → W → Type 0
@@ -33,8 +33,8 @@ pub record DiffersAt {W : Type 0} (gives : W → Question → Answer → W → T
   pub differs : pair.1 ≡ answer → ⊥
   pub fits : Fits pair.0 answer
 
-abbrev pub IsReplay : {W : Type 0} → (W → Question → Answer → W → Type 0) → List Pair → ℕ → Replayed → W → W → Type 0
-IsReplay gives seen from Same w after = AskedAgain gives seen from (length seen) w after
-IsReplay gives seen from (Load at) w after = AskedAgain gives seen from at w after × LoadAt seen at
-IsReplay {W} gives seen from (Differs at answer) w after =
+abbrev pub IsAgain : {W : Type 0} → (W → Question → Answer → W → Type 0) → List Pair → ℕ → Again → W → W → Type 0
+IsAgain gives seen from Same w after = AskedAgain gives seen from (length seen) w after
+IsAgain gives seen from (Load at) w after = AskedAgain gives seen from at w after × LoadAt seen at
+IsAgain {W} gives seen from (Differs at answer) w after =
     (mid : W) × AskedAgain gives seen from at w mid × DiffersAt gives seen at answer mid after

@@ -13,9 +13,13 @@ use Rattle.sw_world.specs.Body.{Pair}
 use Rattle.sw_world.specs.Named.{IsOfVariable, IsNamedIn}
 use Rattle.sw_record.specs.declared.tail.Tail.{Tail}
 
--- the question at a place stands for a variable that is named, or its place is told
-abbrev pub IsTold : List NamedVariables → List ℕ → ℕ → Pair → Type 0
-IsTold named alone place pair = IsNamedIn named pair ⊎ Contains alone place
+-- the pair stands at one of these places
+abbrev pub StandsAt : List Pair → List ℕ → Pair → Type 0
+StandsAt seen places pair = (place : ℕ) × Contains places place × (slice_get seen place ≡ Some pair)
+
+-- it stands for a variable that is named, or at a place that is told
+abbrev pub IsTold : List NamedVariables → List ℕ → List Pair → Pair → Type 0
+IsTold named alone seen pair = IsNamedIn named pair ⊎ StandsAt seen alone pair
 
 -- so are all from one place up to another
 pub record TellsUpTo (named : List NamedVariables) (alone : List ℕ) (seen : List Pair) (from to : ℕ) : Type 0 where
@@ -23,7 +27,7 @@ pub record TellsUpTo (named : List NamedVariables) (alone : List ℕ) (seen : Li
   pub within : to ≤ length seen
   pub told :
       (place : ℕ) (pair : Pair) → from ≤ place → place < to → slice_get seen place ≡ Some pair
-      → IsTold named alone place pair
+      → IsTold named alone seen pair
 
 abbrev pub IsTail : List Pair → Tail → Type 0
 IsTail seen tail = TellsUpTo tail.named tail.alone seen tail.from tail.to

@@ -1,18 +1,18 @@
-// The replay of a kept run's questions.
+// The replay of the questions of one kept run.
 ghost use Rattle.std.specs.Prelude.{◌≡◌, ℕ, ◌≤◌, IfOk, OnErr, length};
 ghost use Rattle.sw_world.specs.Questions.{IsLoad};
 ghost use Rattle.std.specs.Bool.{OnTrue};
-ghost use Rattle.sw_record.specs.Replay.{IsReplay, AskedAgain, IsOther};
+ghost use Rattle.sw_record.specs.Replay.{IsAgain, AskedAgain, IsOther};
 ghost use Rattle.sw_record.specs.Tails.{IsTail, AreGiven, AreGivenAt, IsGivenAt};
 
 use crate::{Run, Tail};
 use std::alloc::Global;
 use sw_text::Memory;
-use sw_world::{Answer, ConfirmsNamed, Engine, NamedVariables, Question, World};
+use sw_world::{Answer, ConfirmsNamed, Engine, NamedVariables, Pairs, Question, World};
 
-/// What asking the questions of a kept run again comes to.
+/// What asking the questions of one kept run again comes to.
 #[derive(Drop)]
-pub enum Replayed {
+pub enum Again {
     /// All were answered as before.
     Same,
     /// At this place is a load, which wasn't asked; all before it were answered as before.
@@ -23,32 +23,32 @@ pub enum Replayed {
 
 /// Asks the kept questions from a place on, in order, up to the first load or the first answer that isn't the kept one.
 /// Takes no memory of its own. After `Memory` some first questions of these were asked, and answered as before.
-pub fn replay<E: Engine, W: ConfirmsNamed>(
+pub(crate) fn replay<E: Engine, W: ConfirmsNamed>(
     alloc: Global,
     run: &Run<E>,
     from: usize,
     world: &mut W,
-) -> Result<Replayed, Memory>
+) -> Result<Again, Memory>
     requires { from ≤ length run.now.run.seen }
-    ensures ok { IfOk result (λ replayed. IsReplay W.gives run.now.run.seen from replayed world.old world.new) }
+    ensures ok { IfOk result (λ again. IsAgain W.gives run.now.run.seen from again world.old world.new) }
     ensures err { OnErr result ((to : ℕ) × AskedAgain W.gives run.now.run.seen from to world.old world.new) }
 {
     let seen = run.seen();
     let begin = begin_of(run, from, world);
     for at in begin..seen.len() {
-        let (op, kept) = &seen[at];
+        let (op, kept) = seen.pair(at);
         if op.is_load() {
-            return Ok(Replayed::Load(at));
+            return Ok(Again::Load(at));
         }
         if world.confirms(op, kept) {
             continue;
         }
         match other_answer(alloc, op, kept, world)? {
             None => {}
-            Some(answer) => return Ok(Replayed::Differs { at, answer }),
+            Some(answer) => return Ok(Again::Differs { at, answer }),
         }
     }
-    Ok(Replayed::Same)
+    Ok(Again::Same)
 }
 
 /// The place from which on questions are asked one by one: behind the tail, where that begins at this place and is
@@ -67,7 +67,7 @@ fn begin_of<E: Engine, W: ConfirmsNamed>(run: &Run<E>, from: usize, world: &mut 
 }
 
 /// True only where the questions of a tail are answered as before, which changes nothing. Takes no memory.
-fn is_confirmed<W: ConfirmsNamed>(seen: &[(Question, Answer)], tail: &Tail, world: &mut W) -> bool
+fn is_confirmed<W: ConfirmsNamed>(seen: &Pairs, tail: &Tail, world: &mut W) -> bool
     requires { IsTail seen.now tail.now }
     ensures asked { OnTrue result (AskedAgain W.gives seen.now tail.now.from tail.now.to world.old world.old) }
     ensures same { world.new ≡ world.old }
@@ -90,11 +90,7 @@ fn are_confirmed<W: ConfirmsNamed>(named: &[NamedVariables], world: &mut W) -> b
 }
 
 /// True only where the questions at these places are answered as before.
-fn are_confirmed_at<W: ConfirmsNamed>(
-    seen: &[(Question, Answer)],
-    places: &[usize],
-    world: &mut W,
-) -> bool
+fn are_confirmed_at<W: ConfirmsNamed>(seen: &Pairs, places: &[usize], world: &mut W) -> bool
     ensures given { OnTrue result (AreGivenAt W.gives world.old seen.now places.now) }
     ensures same { world.new ≡ world.old }
 {
@@ -107,11 +103,7 @@ fn are_confirmed_at<W: ConfirmsNamed>(
 }
 
 /// True only where the question at a place is answered as before.
-fn is_confirmed_at<W: ConfirmsNamed>(
-    seen: &[(Question, Answer)],
-    place: usize,
-    world: &mut W,
-) -> bool
+fn is_confirmed_at<W: ConfirmsNamed>(seen: &Pairs, place: usize, world: &mut W) -> bool
     ensures given { OnTrue result (IsGivenAt W.gives world.old seen.now place) }
     ensures same { world.new ≡ world.old }
 {
@@ -124,7 +116,7 @@ fn is_confirmed_at<W: ConfirmsNamed>(
 // The answer to a question that is answered otherwise than it was kept. It is large to move, so it has a function of
 // its own, and a confirmed answer none.
 #[inline(never)]
-fn other_answer<W: World>(
+pub(crate) fn other_answer<W: World>(
     alloc: Global,
     op: &Question,
     kept: &Answer,

@@ -5,7 +5,6 @@ ghost use Rattle.sw_world.specs.Body.{Goes, Ends, answers};
 ghost use Rattle.sw_record.specs.Kept.{IsKept, kept_of, job_of, printed_of};
 ghost use Rattle.sw_record.specs.Tails.{IsTail};
 
-use crate::configs::share_configs;
 use crate::tail::tail_of;
 use crate::{Tail, Trace};
 use std::alloc::Global;
@@ -13,7 +12,7 @@ use std::marker::{Model, PhantomData};
 use sw_css_print::{Printed, print_one};
 use sw_text::{Memory, Name, Shared};
 use sw_tree::Sheet;
-use sw_world::{Answer, Config, End, Engine, Question};
+use sw_world::{Config, End, Engine, Pairs};
 
 /// A body that ran from its start to its end, with the sheet that it ran. Its questions and its end are those of the
 /// engine's body; where it ended well, its output is kept as it is printed.
@@ -60,8 +59,8 @@ impl<E: Engine> Run<E> {
             end,
         } = trace;
         let printed = printed_of(alloc, &end)?;
-        let seen = share_configs(seen)?;
-        let tail = tail_of(alloc, seen.as_slice())?;
+        let seen = seen.with_shared_configs()?;
+        let tail = tail_of(alloc, &seen)?;
         Ok(Run {
             trace: Trace {
                 path,
@@ -106,11 +105,11 @@ impl<E: Engine> Run<E> {
     }
 
     /// The questions with their answers, in order.
-    pub fn seen(&self) -> &[(Question, Answer)]
+    pub fn seen(&self) -> &Pairs
         ensures seen { result.now ≡ self.now.run.seen }
         ensures is_kept { IsKept E.body self.now }
     {
-        self.trace.seen.as_slice()
+        &self.trace.seen
     }
 
     /// The questions behind its last load, as they are asked again at once.

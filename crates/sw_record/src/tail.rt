@@ -1,20 +1,22 @@
 // The questions behind the last load of a trace, as they are asked again at once.
 ghost use Rattle.std.specs.Prelude.{◌≡◌, ◌<◌, ◌≤◌, ◌+◌, ℕ, true, length, slice_get, Some, IfOk, IfSome, OnOk};
+ghost use Rattle.std.specs.Bool.{OnTrue};
+ghost use Rattle.std.specs.List.{Contains};
 ghost use Rattle.sw_tree.specs.declared.callable.Kind.TheVariants.{Variable as Variable_kind};
 ghost use Rattle.sw_world.specs.declared.question.Question.TheVariants.{Find, Get};
 ghost use Rattle.sw_world.specs.declared.answer.Answer.TheVariants.{Owner, Value as Value_answer};
 ghost use Rattle.sw_world.specs.Body.{Pair};
 ghost use Rattle.sw_world.specs.Named.{IsNamedIn};
-ghost use Rattle.sw_record.specs.Tails.{IsTold, IsTail, TellsUpTo, IsReadAt, IsOfRead};
+ghost use Rattle.sw_record.specs.Tails.{IsTold, IsTail, StandsAt, TellsUpTo, IsReadAt, IsOfRead};
 
 use std::alloc::Global;
 use sw_text::{List, Memory, Name};
 use sw_tree::Kind;
 use sw_values::Value;
-use sw_world::{Answer, NamedVariables, Question, Table};
+use sw_world::{Answer, NamedVariables, Pairs, Question, Table};
 
 /// The questions behind the last load of a trace, from one place up to another: the variables for whose names and
-/// values two questions stand, by the modules that have them, and the places of all other questions.
+/// values two questions stand, by the modules that have them, and a place of each other question.
 #[derive(Drop)]
 pub struct Tail {
     pub(crate) from: usize,
@@ -33,18 +35,19 @@ struct ReadVariable<'s> {
     value: &'s Value,
 }
 
-/// What a tail is gathered in: the variables, the place of each module's by its path, which is a guess, and the places
-/// of the questions that are alone.
+/// What a tail is gathered in: the variables, the place of each module's by its path, which is a guess, the places of
+/// the questions that are alone, and for each distinct pair which of these are its own, a guess too.
 #[derive(Drop)]
 struct Gathering {
     named: Vec<NamedVariables>,
     places: Table<usize>,
     near: usize,
     alone: List<usize>,
+    guesses: Vec<usize>,
 }
 
 /// The tail of a trace: it begins behind the last load, and ends where a question may change what is outside.
-pub(crate) fn tail_of(alloc: Global, seen: &[(Question, Answer)]) -> Result<Tail, Memory>
+pub(crate) fn tail_of(alloc: Global, seen: &Pairs) -> Result<Tail, Memory>
     ensures { IfOk result (λ tail. IsTail seen.now tail) }
 {
     let from = behind_loads(seen);
@@ -53,6 +56,7 @@ pub(crate) fn tail_of(alloc: Global, seen: &[(Question, Answer)]) -> Result<Tail
         places: Table::new(alloc),
         near: 0,
         alone: List::new(alloc),
+        guesses: no_guesses(alloc, seen.count_distinct())?,
     };
     let to = gathering.add_from(alloc, seen, from)?;
     let Gathering {
@@ -60,6 +64,7 @@ pub(crate) fn tail_of(alloc: Global, seen: &[(Question, Answer)]) -> Result<Tail
         places: _,
         near: _,
         alone,
+        guesses: _,
     } = gathering;
     Ok(Tail {
         from,
@@ -70,25 +75,35 @@ pub(crate) fn tail_of(alloc: Global, seen: &[(Question, Answer)]) -> Result<Tail
 }
 
 /// The place behind the last load.
-fn behind_loads(seen: &[(Question, Answer)]) -> usize
+fn behind_loads(seen: &Pairs) -> usize
     ensures { result ≤ length seen.now }
 {
     let mut behind = 0;
     for at in 0..seen.len() {
-        if seen[at].0.is_load() {
+        if seen.pair(at).0.is_load() {
             behind = at + 1;
         }
     }
     behind
 }
 
+/// A guess for each of so many distinct pairs.
+fn no_guesses(alloc: Global, count: usize) -> Result<Vec<usize>, Memory> {
+    let mut guesses = Vec::with_capacity(alloc, count)?;
+    for _ in 0..count {
+        guesses.push(0)?;
+    }
+    Ok(guesses)
+}
+
 /// The variable that the questions at a place and behind it stand for.
-fn variable_at<'s>(seen: &'s [(Question, Answer)], at: usize) -> Option<ReadVariable<'s>>
+fn variable_at<'s>(seen: &'s Pairs, at: usize) -> Option<ReadVariable<'s>>
     requires { at < length seen.now }
     ensures { IfSome result (λ read. IsReadAt seen.now at read.site.now read.space.now read.path.now read.name.now
         read.value.now) }
 {
-    match (seen.get(at), seen.get(at + 1)) {
+    let behind = at.checked_add(1)?;
+    match (seen.get(at), seen.get(behind)) {
         (
             Some(
                 (
@@ -121,12 +136,7 @@ fn variable_at<'s>(seen: &'s [(Question, Answer)], at: usize) -> Option<ReadVari
 
 impl Gathering {
     /// Adds the questions from a place on, and tells up to where.
-    fn add_from(
-        &mut self,
-        alloc: Global,
-        seen: &[(Question, Answer)],
-        from: usize,
-    ) -> Result<usize, Memory>
+    fn add_from(&mut self, alloc: Global, seen: &Pairs, from: usize) -> Result<usize, Memory>
         requires { from ≤ length seen.now }
         ensures { IfOk result (λ to. TellsUpTo self.new.named.items self.new.alone seen.now from to) }
     {
@@ -143,28 +153,71 @@ impl Gathering {
 
     /// Adds the question at a place, with the one behind it where both stand for a variable, and tells how many these
     /// are: none where the question may change what is outside.
-    fn add_at(
-        &mut self,
-        alloc: Global,
-        seen: &[(Question, Answer)],
-        at: usize,
-    ) -> Result<usize, Memory>
+    fn add_at(&mut self, alloc: Global, seen: &Pairs, at: usize) -> Result<usize, Memory>
         requires { at < length seen.now }
         ensures told { IfOk result (λ step. TellsUpTo self.new.named.items self.new.alone seen.now at (at + step)) }
-        ensures keeps { OnOk result ((place : ℕ) (pair : Pair) → IsTold self.old.named.items self.old.alone place pair
-            → IsTold self.new.named.items self.new.alone place pair) }
+        ensures keeps { OnOk result ((pair : Pair) → IsTold self.old.named.items self.old.alone seen.now pair
+            → IsTold self.new.named.items self.new.alone seen.now pair) }
     {
         if let Some(read) = variable_at(seen, at) {
             if self.add_variable(alloc, &read)? {
                 return Ok(2);
             }
         }
-        match &seen[at].0 {
+        match &seen.pair(at).0 {
             Question::Find { .. } | Question::Get { .. } => {
-                self.alone.push(at)?;
+                self.add_alone(seen, at)?;
                 Ok(1)
             }
             _ => Ok(0),
+        }
+    }
+
+    /// Adds the place of a question, in constant time, where an equal one's isn't there.
+    fn add_alone(&mut self, seen: &Pairs, at: usize) -> Result<(), Memory>
+        ensures has { OnOk result ((pair : Pair) → slice_get seen.now at ≡ Some pair
+            → StandsAt seen.now self.new.alone pair) }
+        ensures keeps { OnOk result ((pair : Pair) → StandsAt seen.now self.old.alone pair
+            → StandsAt seen.now self.new.alone pair) }
+        ensures named { self.new.named ≡ self.old.named }
+    {
+        let number = seen.number_at(at);
+        if self.is_told(seen, at, number) {
+            return Ok(());
+        }
+        self.guess(number);
+        self.alone.push(at)
+    }
+
+    /// Whether the pair at a place stands at a place that is told, as far as the guess for its number tells.
+    fn is_told(&self, seen: &Pairs, at: usize, number: Option<usize>) -> bool
+        ensures { OnTrue result ((place : ℕ) × Contains self.now.alone place
+            × (slice_get seen.now place ≡ slice_get seen.now at)) }
+    {
+        match self.guessed(number) {
+            None => false,
+            Some(place) => seen.stands_again(place, at),
+        }
+    }
+
+    /// The place that is told where a guess leads.
+    fn guessed(&self, number: Option<usize>) -> Option<usize>
+        ensures { IfSome result (λ place. Contains self.now.alone place) }
+    {
+        let guess = *self.guesses.get(number?)?;
+        let place = self.alone.get(guess)?;
+        Some(*place)
+    }
+
+    /// The next place that is told is that of the pair with this number.
+    fn guess(&mut self, number: Option<usize>)
+        ensures named { self.new.named ≡ self.old.named }
+        ensures alone { self.new.alone ≡ self.old.alone }
+    {
+        if let Some(number) = number {
+            if number < self.guesses.len() {
+                self.guesses[number] = self.alone.len();
+            }
         }
     }
 

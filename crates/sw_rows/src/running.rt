@@ -47,7 +47,7 @@ pub fn ended(
             return Err(AllocError);
         }
     }
-    let mut engine = Evaluator::new(alloc);
+    let mut engine = Evaluator::new();
     if !row.detached.is_empty() {
         let ending = ended_over_keeper(alloc, row, &mut engine, &mut hosts)?;
         return Ok(Run { ending, faults: 0 });

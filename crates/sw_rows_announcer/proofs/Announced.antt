@@ -1,5 +1,5 @@
 -- What the turns of a body do.
-use Rattle.std.proofs.Common.{◌≡◌, ℕ, ◌<◌, ◌≤◌, Option, None, Some, List, [], ◌∷◌, ◌++◌, length, refl, sym, ◌∙◌, ap, subst, append-nil, arith}
+use Rattle.std.proofs.Common.{◌≡◌, ℕ, ◌<◌, ◌≤◌, Option, None, Some, List, [], ◌∷◌, ◌++◌, length, slice_get, refl, sym, ◌∙◌, ap, subst, append-nil, arith}
 use Rattle.sw_text.specs.declared.place.Span.{Span}
 use Rattle.sw_text.specs.declared.fault.Fault.{Fault}
 use Rattle.sw_text.specs.declared.fault.FaultCode.TheVariants.{UnknownVariable}
@@ -14,7 +14,7 @@ use Rattle.sw_world.specs.declared.end.Turn.TheVariants.{Load as Turn_Load, Ende
 use Rattle.sw_world.specs.Questions.{IsLoad, Fits}
 use Rattle.sw_world.specs.Body.{Pair, Next, Asks, Ends, answers}
 use Rattle.sw_rows_announcer.specs.Turns.{TurnDid, IsStep}
-use Rattle.sw_rows_announcer.specs.Announcing.{begin_of, leaves_nothing, end_by, does_at, asks_at, loaded_at, load_of, message_of, first_refusal, IsLoaded}
+use Rattle.sw_rows_announcer.specs.Announcing.{begin_of, leaves_nothing, end_by, does_at, asks_at, loaded_at, load_of, message_of, refusal, first_refusal, IsLoaded}
 
 pub did_none : {W : Type 0} (gives : W → Question → Answer → W → Type 0) (next : List Answer → Next) (ps qs : List Pair) (w x : W) → qs ≡ ps → x ≡ w → TurnDid gives next ps w qs x
 did_none gives next ps qs w x same stays = record { asked = []; grew = same ∙ sym (append-nil ps); led = stays; goes = tt }
@@ -23,11 +23,20 @@ pub waits : (own : End) (path : List ℕ) (qs : List Pair) (op : Question) → q
 waits own path [] op none is = (ap Asks (sym is), subst (λ (o : Question). IsLoad o) (sym is) tt)
 waits own path (q ∷ qs) op none is = absurd cc
 
-pub is_loaded : (ps : List Pair) → (ps ≡ [] → ⊥) → first_refusal ps ≡ None → IsLoaded ps
+-- why the first answer refuses the load, where there is one
+pub no_refusal : (ps : List Pair) → None ≡ slice_get ps 0 → None ≡ first_refusal ps
+no_refusal [] e = refl
+no_refusal (p ∷ ps) e = absurd cc
+
+pub refusal_there : (ps : List Pair) (p : Pair) → Some p ≡ slice_get ps 0 → refusal p.1 ≡ first_refusal ps
+refusal_there [] p e = absurd cc
+refusal_there (q ∷ ps) p e = let same : p ≡ q = cc in ap (λ (r : Pair). refusal r.1) same
+
+pub is_loaded : (ps : List Pair) → (length ps ≡ 0 → ⊥) → first_refusal ps ≡ None → IsLoaded ps
 is_loaded [] some none = absurd (some refl)
 is_loaded (p ∷ ps) some none = none
 
-pub is_refused : (own : End) (path : List ℕ) (ps : List Pair) (fault : Fault) → (ps ≡ [] → ⊥) → first_refusal ps ≡ Some fault → IsStep (asks_at own path) ps (Turn_Ended (Fault_end fault))
+pub is_refused : (own : End) (path : List ℕ) (ps : List Pair) (fault : Fault) → (length ps ≡ 0 → ⊥) → first_refusal ps ≡ Some fault → IsStep (asks_at own path) ps (Turn_Ended (Fault_end fault))
 is_refused own path [] fault some is = absurd (some refl)
 is_refused own path (p ∷ ps) fault some is = ap (λ (r : Option Fault). loaded_at own path r (answers ps)) is
 

@@ -1,5 +1,5 @@
 -- What the calls of the engine owe, over the fields of a body.
-use Rattle.std.proofs.Common.{◌≡◌, ℕ, Bool, true, false, if◌then◌else◌, List, [], ◌∷◌, ◌++◌, refl, sym, ◌∙◌, ap, subst, append-nil, append_assoc, inr}
+use Rattle.std.proofs.Common.{◌≡◌, Bool, true, false, if◌then◌else◌, List, [], ◌∷◌, ◌++◌, refl, sym, ◌∙◌, ap, subst, append-nil, append_assoc, inr}
 use Rattle.sw_world.specs.declared.question.Question.{Question}
 use Rattle.sw_world.specs.declared.answer.Answer.{Answer}
 use Rattle.sw_world.specs.declared.end.Turn.{Turn}
@@ -52,10 +52,10 @@ waiting_at At_Running op e = absurd cc
 waiting_at (At_Waiting other) op e = let k : other ≡ op = cc in ap At_Waiting k
 waiting_at (At_Ended end) op e = absurd cc
 
-pub room_running : (p : Place) (len capacity : ℕ) → status_of p ≡ Running → HasRoom p len capacity
-room_running At_Running len capacity e = tt
-room_running (At_Waiting op) len capacity e = absurd cc
-room_running (At_Ended end) len capacity e = tt
+pub room_running : (p : Place) (has_room : Bool) → status_of p ≡ Running → HasRoom p has_room
+room_running At_Running has_room e = tt
+room_running (At_Waiting op) has_room e = absurd cc
+room_running (At_Ended end) has_room e = tt
 
 pub status_stops : (t : Turn) → status_of (place_of t) ≡ stops t
 status_stops (Load op) = refl

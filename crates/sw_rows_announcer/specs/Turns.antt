@@ -1,5 +1,5 @@
 -- Turns of a body of the announcer, and what is kept of it between them (this project's own).
-use Rattle.std.specs.Prelude.{◌≡◌, ℕ, ◌<◌, ◌++◌, Bool, if◌then◌else◌, List, []}
+use Rattle.std.specs.Prelude.{◌≡◌, ◌++◌, Bool, IsTrue, if◌then◌else◌, List, []}
 use Rattle.sw_world.specs.declared.question.Question.{Question}
 use Rattle.sw_world.specs.declared.answer.Answer.{Answer}
 use Rattle.sw_world.specs.declared.end.Turn.{Turn}
@@ -10,9 +10,9 @@ use Rattle.sw_world.specs.Progress.{Status, Running, Waiting, Ended, Progress}
 use Rattle.sw_rows_announcer.specs.declared.place.Place.{Place}
 use Rattle.sw_rows_announcer.specs.declared.place.Place.TheVariants.{Running as At_Running, Waiting as At_Waiting, Ended as At_Ended}
 
-abbrev pub HasRoom : Place → ℕ → ℕ → Type 0
-HasRoom (At_Waiting op) len capacity = len < capacity
-HasRoom _ len capacity = Unit {0}
+abbrev pub HasRoom : Place → Bool → Type 0
+HasRoom (At_Waiting op) has_room = IsTrue has_room
+HasRoom _ has_room = Unit {0}
 
 -- what a turn of a body did
 pub record TurnDid {W : Type 0} (gives : W → Question → Answer → W → Type 0) (b : List Answer → Next) (ps : List Pair)
@@ -31,8 +31,8 @@ abbrev pub place_of : Turn → Place
 place_of (Turn_Load op) = At_Waiting op
 place_of (Turn_Ended end) = At_Ended end
 
-abbrev pub HasRoomAt : Turn → ℕ → ℕ → Type 0
-HasRoomAt turn len capacity = HasRoom (place_of turn) len capacity
+abbrev pub HasRoomAt : Turn → Bool → Type 0
+HasRoomAt turn has_room = HasRoom (place_of turn) has_room
 
 -- what contracts see of a body
 pub record Shown : Type 0 where

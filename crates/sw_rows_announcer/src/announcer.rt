@@ -8,13 +8,13 @@ ghost use Rattle.sw_rows_announcer.specs.Announcing.{announces};
 
 use crate::place::Place;
 use crate::stop::{note, stop_at};
-use crate::turn::{body_turn, push_pair};
+use crate::turn::body_turn;
 use std::alloc::Global;
 use std::marker::Model;
 use std::mem;
-use sw_text::{List, Memory, Name, Shared};
+use sw_text::{Memory, Name, Shared};
 use sw_tree::Sheet;
-use sw_world::{Answer, Config, Engine, Question, Turn, World, share_pairs};
+use sw_world::{Answer, Config, Engine, GrowingPairs, Pairs, Turn, World};
 
 /// A body of the announcer: its sheet, its pairs, and where it is.
 #[derive(Drop)]
@@ -22,13 +22,12 @@ pub struct Announcement {
     sheet: Shared<Sheet>,
     config: Config,
     path: Name,
-    pairs: Vec<(Question, Answer)>,
+    pairs: GrowingPairs,
     started: bool,
     place: Place,
 }
 
 impl Model for Announcement {
-    ghost use Rattle.std.specs.Prelude.{vec_len, vec_capacity};
     ghost use Rattle.std.specs.Coded.{codes};
     ghost use Rattle.sw_rows_announcer.specs.Turns.{Shown, HasRoom};
     ghost use Rattle.sw_tree.specs.contracts.expr.ExprKind as e;
@@ -46,7 +45,7 @@ impl Model for Announcement {
       place = b.place;
     } };
 
-    ghost invariant = { λ b. HasRoom b.place (vec_len b.pairs) (vec_capacity b.pairs) };
+    ghost invariant = { λ b. HasRoom b.place b.pairs.has_room };
 }
 
 // A turn, with what it adds to what ran. Room for the path is taken first.
@@ -83,7 +82,7 @@ fn give_to(b: &mut Announcement, answer: Answer)
 {
     b.started = true;
     if let Place::Waiting(op) = mem::replace(&mut b.place, Place::Running) {
-        push_pair(&mut b.pairs, op, answer);
+        b.pairs.push(op, answer);
     }
 }
 
@@ -131,9 +130,9 @@ impl Engine for Announcer {
         sheet: &Shared<Sheet>,
         config: &Config,
         path: &Name,
-        known: &[(Question, Answer)],
+        known: &Pairs,
     ) -> Result<Announcement, Memory> {
-        let pairs = share_pairs(alloc, known)?.into_vec();
+        let pairs = known.grown(alloc, known.len())?;
         let sheet = sheet.share()?;
         let config = config.share()?;
         let path = path.share()?;
@@ -161,7 +160,7 @@ impl Engine for Announcer {
         Ok(turn)
     }
 
-    fn close(&self, running: Announcement) -> List<(Question, Answer)> {
+    fn close(&self, running: Announcement) -> Pairs {
         let Announcement {
             mut pairs,
             started,
@@ -170,7 +169,7 @@ impl Engine for Announcer {
         if !started {
             pairs.clear();
         }
-        List::from_vec(pairs)
+        pairs.into_pairs()
     }
 
     ghost ends_for_good = { ends_for_good };

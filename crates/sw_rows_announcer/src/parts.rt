@@ -6,7 +6,7 @@ use std::alloc::Global;
 use sw_css_tree::CssTree;
 use sw_text::{Fault, FaultCode, List, Memory, Name, Pos, Shared, Span};
 use sw_tree::{Sheet, globals_of};
-use sw_world::{Answer, End, Finish, How, Question, SayKind, Table};
+use sw_world::{Answer, End, Finish, GrowingPairs, How, Question, SayKind, Table};
 
 fn begin_of(path: &Name) -> Result<Span, Memory>
     ensures { IfOk result (λ span. span ≡ begin_of path.now) }
@@ -61,12 +61,12 @@ fn refusal(answer: &Answer) -> Result<Option<Fault>, Memory>
 }
 
 /// Why the first of these answers refuses the load.
-pub(crate) fn first_refusal(pairs: &[(Question, Answer)]) -> Result<Option<Fault>, Memory>
-    ensures { IfOk result (λ fault. fault ≡ first_refusal pairs.now) }
+pub(crate) fn first_refusal(pairs: &GrowingPairs) -> Result<Option<Fault>, Memory>
+    ensures { IfOk result (λ fault. fault ≡ first_refusal pairs.now.items) }
 {
-    match pairs {
-        [] => Ok(None),
-        [pair, ..] => refusal(&pair.1),
+    match pairs.get(0) {
+        None => Ok(None),
+        Some(pair) => refusal(&pair.1),
     }
 }
 

@@ -1,5 +1,5 @@
 // A turn of a body: on to its load, or to its end.
-ghost use Rattle.std.specs.Prelude.{◌≡◌, ◌<◌, [], ◌∷◌, ◌++◌, IfOk, OnOk, vec_len, vec_capacity};
+ghost use Rattle.std.specs.Prelude.{◌≡◌, [], IfOk, OnOk};
 ghost use Rattle.sw_world.specs.declared.end.End.{End};
 ghost use Rattle.sw_world.specs.Body.{Ends, answers};
 ghost use Rattle.sw_rows_announcer.specs.Turns.{TurnDid, IsStep, HasRoomAt};
@@ -9,26 +9,18 @@ use crate::parts::{end_of, first_refusal, load_of, message_of};
 use std::alloc::Global;
 use sw_text::{Memory, Name};
 use sw_tree::Sheet;
-use sw_world::{Answer, End, Question, Turn, World};
+use sw_world::{End, GrowingPairs, Turn, World};
 
 // The load that a body begins with. Room for its answer is taken.
 #[tactic(auto, using(crate::proofs::Announced::waits))]
-fn wait(alloc: Global, path: &Name, pairs: &mut Vec<(Question, Answer)>) -> Result<Turn, Memory>
+fn wait(alloc: Global, path: &Name, pairs: &mut GrowingPairs) -> Result<Turn, Memory>
     requires { pairs.old.items ≡ [] }
     ensures pairs { pairs.new.items ≡ pairs.old.items }
     ensures step { IfOk result (λ t. (end : End) → IsStep (asks_at end path.now) pairs.new.items t) }
-    ensures room { IfOk result (λ t. HasRoomAt t (vec_len pairs.new) (vec_capacity pairs.new)) }
+    ensures room { IfOk result (λ t. HasRoomAt t pairs.new.has_room) }
 {
-    pairs.reserve(1)?;
+    pairs.reserve(alloc)?;
     Ok(Turn::Load(load_of(alloc, path)?))
-}
-
-/// Puts a pair behind the others, for which there is room.
-pub(crate) fn push_pair(pairs: &mut Vec<(Question, Answer)>, op: Question, answer: Answer)
-    requires { vec_len pairs.old < vec_capacity pairs.old }
-    ensures { pairs.new.items ≡ pairs.old.items ++ (op, answer) ∷ [] }
-{
-    let _ = pairs.push((op, answer));
 }
 
 // Says the message where it isn't said.
@@ -36,7 +28,7 @@ pub(crate) fn push_pair(pairs: &mut Vec<(Question, Answer)>, op: Question, answe
 fn say<W: World>(
     alloc: Global,
     path: &Name,
-    pairs: &mut Vec<(Question, Answer)>,
+    pairs: &mut GrowingPairs,
     world: &mut W,
 ) -> Result<(), Memory>
     requires { IsLoaded pairs.old.items }
@@ -46,10 +38,10 @@ fn say<W: World>(
     if pairs.len() > 1 {
         return Ok(());
     }
-    pairs.reserve(1)?;
+    pairs.reserve(alloc)?;
     let op = message_of(path)?;
     let answer = world.ask(alloc, &op)?;
-    push_pair(pairs, op, answer);
+    pairs.push(op, answer);
     Ok(())
 }
 
@@ -58,14 +50,14 @@ fn end<W: World>(
     alloc: Global,
     sheet: &Sheet,
     path: &Name,
-    pairs: &mut Vec<(Question, Answer)>,
+    pairs: &mut GrowingPairs,
     world: &mut W,
 ) -> Result<Turn, Memory>
     requires { IsLoaded pairs.old.items }
     ensures did { TurnDid W.gives (asks_at (end_of sheet.now path.now) path.now) pairs.old.items world.old
         pairs.new.items world.new }
     ensures step { IfOk result (λ t. IsStep (asks_at (end_of sheet.now path.now) path.now) pairs.new.items t) }
-    ensures room { IfOk result (λ t. HasRoomAt t (vec_len pairs.new) (vec_capacity pairs.new)) }
+    ensures room { IfOk result (λ t. HasRoomAt t pairs.new.has_room) }
 {
     say(alloc, path, pairs, world)?;
     Ok(Turn::Ended(end_of(alloc, sheet, path)?))
@@ -77,18 +69,18 @@ fn ask_on<W: World>(
     alloc: Global,
     sheet: &Sheet,
     path: &Name,
-    pairs: &mut Vec<(Question, Answer)>,
+    pairs: &mut GrowingPairs,
     world: &mut W,
 ) -> Result<Turn, Memory>
     ensures did { TurnDid W.gives (asks_at (end_of sheet.now path.now) path.now) pairs.old.items world.old
         pairs.new.items world.new }
     ensures step { IfOk result (λ t. IsStep (asks_at (end_of sheet.now path.now) path.now) pairs.new.items t) }
-    ensures room { IfOk result (λ t. HasRoomAt t (vec_len pairs.new) (vec_capacity pairs.new)) }
+    ensures room { IfOk result (λ t. HasRoomAt t pairs.new.has_room) }
 {
-    if pairs.is_empty() {
+    if pairs.len() == 0 {
         return wait(alloc, path, pairs);
     }
-    match first_refusal(pairs.as_slice())? {
+    match first_refusal(pairs)? {
         Some(fault) => Ok(Turn::Ended(End::Fault(fault))),
         None => end(alloc, sheet, path, pairs, world),
     }
@@ -100,12 +92,12 @@ pub(crate) fn body_turn<W: World>(
     alloc: Global,
     sheet: &Sheet,
     path: &Name,
-    pairs: &mut Vec<(Question, Answer)>,
+    pairs: &mut GrowingPairs,
     world: &mut W,
 ) -> Result<Turn, Memory>
     ensures did { TurnDid W.gives (announces_at sheet.now path.now) pairs.old.items world.old pairs.new.items world.new }
     ensures step { IfOk result (λ t. IsStep (announces_at sheet.now path.now) pairs.new.items t) }
-    ensures room { IfOk result (λ t. HasRoomAt t (vec_len pairs.new) (vec_capacity pairs.new)) }
+    ensures room { IfOk result (λ t. HasRoomAt t pairs.new.has_room) }
 {
     if sheet.statements.as_slice().is_empty() {
         return Ok(Turn::Ended(end_of(alloc, sheet, path)?));

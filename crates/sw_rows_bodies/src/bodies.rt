@@ -9,7 +9,7 @@ use crate::module::Module;
 use crate::told::Told;
 use std::alloc::Global;
 use sw_text::Memory;
-use sw_world::{Answer, End, Engine, Turn};
+use sw_world::{Answer, End, Engine, Pairs, Turn};
 
 // A body here stops at fewer loads.
 const MOST_LOADS: u32 = 100;
@@ -18,7 +18,8 @@ const MOST_LOADS: u32 = 100;
 pub fn begin<E: Engine>(alloc: Global, engine: &E, module: &Module) -> Result<E::Body, Memory>
     ensures { IfOk result (λ body. IsReady E.body (E.progress body)) }
 {
-    let body = engine.start(alloc, &module.sheet, &module.config, &module.path, &[])?;
+    let none = Pairs::new(alloc);
+    let body = engine.start(alloc, &module.sheet, &module.config, &module.path, &none)?;
     Ok(body)
 }
 

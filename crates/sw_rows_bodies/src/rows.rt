@@ -67,7 +67,7 @@ fn run_body<E: Engine>(
     let seen = engine.close(body);
     Ok(Run {
         starved: world.was_fed(),
-        line: line(alloc, world.answered, seen.as_slice(), &end)?,
+        line: line(alloc, world.answered, &seen, &end)?,
     })
 }
 

@@ -2,20 +2,15 @@
 use std::alloc::{AllocError, Global};
 use sw_css_tree::Line;
 use sw_text::Fault;
-use sw_world::{Answer, End, Finish, Question};
+use sw_world::{End, Finish, Pairs, Question};
 
 /// How many questions the world answered, all questions with what each is about, and the end.
-pub fn line(
-    alloc: Global,
-    answered: u32,
-    seen: &[(Question, Answer)],
-    end: &End,
-) -> Result<String, AllocError> {
+pub fn line(alloc: Global, answered: u32, seen: &Pairs, end: &End) -> Result<String, AllocError> {
     let mut line = format!(in alloc; "{answered} answered")?;
     let mut gap = ": ";
-    for (op, _) in seen {
+    for at in 0..seen.len() {
         line.push_str(gap)?;
-        line.push_str(question(alloc, op)?.as_str())?;
+        line.push_str(question(alloc, &seen.pair(at).0)?.as_str())?;
         gap = ", ";
     }
     line.push_str("; ")?;

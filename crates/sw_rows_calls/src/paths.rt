@@ -1,6 +1,7 @@
-// Calls on paths and files: `path a/b.scss`, `unread a.scss ; 3`, and
+// Calls on paths and files: `path a/b.scss`, `unread a.scss ; 3`,
 // `resolve main.scss ; lib ; lib.scss a/lib.scss ; a`, which is a sheet, a URL in it, the files of a folder, and load
-// paths.
+// paths, and `copied a.scss ; a.scss b.scss`, which is a file that is taken out of a folder with these files once the
+// folder was copied.
 use std::alloc::Global;
 use sw_folder::{EditFault, Folder, ResolveFault, is_path, unread_fault};
 use sw_rows_files::{Refusal, answer_of, names, yes_or_no};
@@ -13,6 +14,7 @@ pub fn answer(alloc: Global, name: &str, text: &str) -> Result<String, Refusal> 
         "path" => yes_or_no(alloc, is_path(text)),
         "unread" => unread(alloc, text),
         "resolve" => resolved(alloc, text),
+        "copied" => copied(alloc, text),
         _ => Err(Refusal::NoCall),
     }
 }
@@ -32,6 +34,18 @@ fn resolved(alloc: Global, text: &str) -> Result<String, Refusal> {
     let paths = names(alloc, paths, ' ')?;
     let folder = answer_of(alloc, folder(alloc, files))?;
     path_text(alloc, folder.resolve(from, url, &paths))
+}
+
+// Whether the copy of a folder has a file still that was taken out of the folder itself.
+fn copied(alloc: Global, text: &str) -> Result<String, Refusal> {
+    let (path, files) = text.split_once(" ; ").unwrap_or((text, ""));
+    let mut folder = answer_of(alloc, folder(alloc, files))?;
+    let copy = answer_of(alloc, folder.copy())?;
+    answer_of(alloc, folder.remove(path))?;
+    yes_or_no(
+        alloc,
+        folder.text(path).is_none() && copy.text(path).is_some(),
+    )
 }
 
 fn path_text(alloc: Global, path: Result<Name, ResolveFault>) -> Result<String, Refusal> {

@@ -35,7 +35,7 @@ abbrev pub Below : Option ℕ → ℕ → Type 0
 Below None n = Unit {0}
 Below (Some i) n = i < n
 
-place-below : (vs : List Variable) (name : List ℕ) → Below (place vs name) (length vs)
+pub place-below : (vs : List Variable) (name : List ℕ) → Below (place vs name) (length vs)
 place-below [] name = tt
 place-below (v ∷ vs) name = step (place vs name) (bytes_eq v.0 name) (place-below vs name)
   where
@@ -79,14 +79,14 @@ found-start n m ms vs name is =
 
 -- ---- looking
 
-slice_get-take : (n i : ℕ) (vs : List Variable) → i < n → slice_get (take n vs) i ≡ slice_get vs i
+pub slice_get-take : (n i : ℕ) (vs : List Variable) → i < n → slice_get (take n vs) i ≡ slice_get vs i
 slice_get-take zero i [] lt = refl
 slice_get-take (suc n) i [] lt = refl
 slice_get-take zero i (v ∷ vs) lt = absurd (omega arith)
 slice_get-take (suc n) zero (v ∷ vs) lt = refl
 slice_get-take (suc n) (suc i) (v ∷ vs) lt = slice_get-take n i vs (omega arith)
 
-slice_get-drop : (n i : ℕ) (vs : List Variable) → slice_get (drop n vs) i ≡ slice_get vs (n + i)
+pub slice_get-drop : (n i : ℕ) (vs : List Variable) → slice_get (drop n vs) i ≡ slice_get vs (n + i)
 slice_get-drop zero i [] = refl
 slice_get-drop (suc n) i [] = refl
 slice_get-drop zero i (v ∷ vs) = let e : 0 + i ≡ i = omega arith in ap (slice_get (v ∷ vs)) (sym e)

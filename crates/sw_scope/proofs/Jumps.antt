@@ -6,11 +6,12 @@ use Rattle.sw_scope.specs.declared.mark.FrameMark.{FrameMark}
 use Rattle.sw_scope.specs.declared.mark.FrameKind.TheVariants.{Flow}
 use Rattle.sw_scope.specs.Frames.{Variable, place, is_flow}
 use Rattle.sw_scope.specs.Cut.{back, IsCut, StandsLower, found, shifted, flows}
+use Rattle.sw_scope.specs.Index.{AreIndexed}
 use Rattle.sw_scope.proofs.Cuts.{length-back, back-take}
 
 -- what a read of a mark gives where there is none
 abbrev pub none : FrameMark
-none = record { kind = Flow; below = 0; start = 0 }
+none = record { kind = Flow; below = 0; start = 0; index = None }
 
 -- the marks of the first frames, the last first
 abbrev pub lower : List FrameMark → ℕ → List FrameMark
@@ -83,6 +84,19 @@ module _ (ms : List FrameMark) where
       ∙ ap (λ ws. found k (lower ms (k + d)) ws name) (take-take (start_at ms (k + d)) (start_at ms l) vs opened.0)
       ∙ jump_found d k (k + d) vs name refl (omega arith) opened.2
 
+  pub jump_indexed : (d k l : ℕ) (vs : List Variable) → l ≡ k + d → l < length ms → IsCut (lower ms l) (start_at ms l) → AreIndexed (lower ms l) (take (start_at ms l) vs)
+      → AreIndexed (lower ms k) (take (start_at ms k) vs)
+  jump_indexed zero k l vs e lt cut is =
+      let same : l ≡ k = omega arith in
+      subst (λ (i : ℕ). AreIndexed (lower ms i) (take (start_at ms i) vs)) same is
+  jump_indexed (suc d) k l vs e lt cut is =
+      let same : l ≡ suc (k + d) = omega arith in
+      let open_is : lower ms l ≡ get_or ms (k + d) none ∷ lower ms (k + d) = ap (lower ms) same ∙ back-take ms (k + d) none (omega arith) in
+      let opened : IsCut (get_or ms (k + d) none ∷ lower ms (k + d)) (start_at ms l) = subst (λ (xs : List FrameMark). IsCut xs (start_at ms l)) open_is cut in
+      let indexed : AreIndexed (get_or ms (k + d) none ∷ lower ms (k + d)) (take (start_at ms l) vs) = subst (λ (xs : List FrameMark). AreIndexed xs (take (start_at ms l) vs)) open_is is in
+      jump_indexed d k (k + d) vs refl (omega arith) opened.2
+      (subst (λ (ws : List Variable). AreIndexed (lower ms (k + d)) ws) (take-take (start_at ms (k + d)) (start_at ms l) vs opened.0) indexed.1)
+
   pub jump_lower : (d k l : ℕ) → l ≡ k + d → l ≤ length ms → StandsLower (lower ms l) → StandsLower (lower ms k)
   jump_lower zero k l e le is = let same : l ≡ k = omega arith in subst (λ (i : ℕ). StandsLower (lower ms i)) same is
   jump_lower (suc d) k l e le is =
@@ -103,6 +117,18 @@ module _ (ms : List FrameMark) where
 
   abbrev pub mark_of : ℕ → FrameMark
   mark_of n = get_or ms (n - 1) none
+
+  -- what a read gives is the same for each default
+  pub read : (i : ℕ) (m d : FrameMark) → i < length ms → get_or ms i m ≡ get_or ms i d
+  read i m d lt = same ms i lt
+    where
+      same : (xs : List FrameMark) (k : ℕ) → k < length xs → get_or xs k m ≡ get_or xs k d
+      same [] k l = absurd (omega (arith, l))
+      same (x ∷ xs) zero l = refl
+      same (x ∷ xs) (suc k) l = same xs k (omega (arith, l))
+
+  pub mark_is : (n : ℕ) (m : FrameMark) → 0 < n → n ≤ length ms → m ≡ get_or ms (n - 1) m → m ≡ mark_of n
+  mark_is n m some le is = is ∙ read (n - 1) m none (omega arith)
 
   opens : (n : ℕ) → 0 < n → n ≤ length ms → lower ms n ≡ mark_of n ∷ lower ms (n - 1)
   opens n some le = let same : n ≡ suc (n - 1) = omega arith in ap (lower ms) same ∙ back-take ms (n - 1) none (omega arith)
@@ -131,16 +157,20 @@ module _ (ms : List FrameMark) where
   rest_found n end i vs name o some le inside e p =
       sym (opened_at n end vs name o some le inside e ∙ ap (λ q. shifted (mark_of n).start q (found (mark_of n).below (lower ms (n - 1)) (take (mark_of n).start vs) name)) (sym p))
 
+  pub indexed_of : (n end : ℕ) (vs : List Variable) → 0 < n → n ≤ length ms → AreIndexed (lower ms n) (take end vs) → AreIndexed (mark_of n ∷ lower ms (n - 1)) (take end vs)
+  indexed_of n end vs some le is = subst (λ (xs : List FrameMark). AreIndexed xs (take end vs)) (opens n some le) is
+
   -- what holds at the frame on which this one stands
   pub record IsBelow (vs : List Variable) (name : List ℕ) (o : Option ℕ) (k : ℕ) : Type 0 where
     pub within : k ≤ length ms
     pub end_within : start_at ms k ≤ length vs
+    pub are_indexed : AreIndexed (lower ms k) (take (start_at ms k) vs)
     pub is_cut : IsCut (lower ms k) (start_at ms k)
     pub is_rest : o ≡ found k (lower ms k) (take (start_at ms k) vs) name
 
-  pub rest_below : (n end : ℕ) (vs : List Variable) (name : List ℕ) (o : Option ℕ) → 0 < n → n ≤ length ms → end ≤ length vs → IsCut (lower ms n) end → o ≡ rest n end vs name
-      → None ≡ part n end vs name → IsBelow vs name o (mark_of n).below
-  rest_below n end vs name o some le inside is e p =
+  pub rest_below : (n end : ℕ) (vs : List Variable) (name : List ℕ) (o : Option ℕ) → 0 < n → n ≤ length ms → end ≤ length vs → IsCut (lower ms n) end
+      → AreIndexed (lower ms n) (take end vs) → o ≡ rest n end vs name → None ≡ part n end vs name → IsBelow vs name o (mark_of n).below
+  rest_below n end vs name o some le inside is indexed e p =
       let m : FrameMark = mark_of n in
       let opened = cut_of n end some le is in
       let lt : m.below < n = below_of n end some le is in
@@ -149,6 +179,8 @@ module _ (ms : List FrameMark) where
       record {
         within = omega (arith, lt, le);
         end_within = omega (arith, jump.1, opened.0, inside);
+        are_indexed = jump_indexed ((n - 1) - m.below) m.below (n - 1) vs apart (omega arith) opened.2
+            (subst (λ (ws : List Variable). AreIndexed (lower ms (n - 1)) ws) (take-take m.start end vs opened.0) (indexed_of n end vs some le indexed).1);
         is_cut = jump.0;
         is_rest = opened_at n end vs name o some le opened.0 e ∙ ap (λ q. shifted m.start q (found m.below (lower ms (n - 1)) (take m.start vs) name)) (sym p)
             ∙ jump_found ((n - 1) - m.below) m.below (n - 1) vs name apart (omega arith) opened.2;

@@ -5,3 +5,4 @@ pub mod Nodes
 pub mod Places
 pub mod Seen
 pub mod Sights
+pub mod Indexes

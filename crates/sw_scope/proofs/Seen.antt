@@ -54,14 +54,14 @@ drop-all : (vs : List Variable) → drop (length vs) vs ≡ []
 drop-all [] = refl
 drop-all (v ∷ vs) = drop-all vs
 
-pub put_is : (ms ns : List FrameMark) (vs : List Variable) (n b : ℕ) (kind : FrameKind) (fs : List Standing) → frames ms vs ≡ fs → ns ≡ ms ++ record { kind = kind; below = b; start = length vs } ∷ []
+pub put_is : (ms ns : List FrameMark) (vs : List Variable) (n b : ℕ) (kind : FrameKind) (fs : List Standing) → frames ms vs ≡ fs → ns ≡ ms ++ record { kind = kind; below = b; start = length vs; index = None } ∷ []
     → b ≡ cond (nat_le n (length ms)) n (length ms) → frames ns vs ≡ put_on fs n kind
 unfolding frames put_on
 put_is ms ns vs n b kind fs same grew below =
-    rw (grew, back-push ms (record { kind = kind; below = b; start = length vs }), drop-all vs, take-length vs, below, sym same, length-cut (back ms) vs, length-back ms) refl
+    rw (grew, back-push ms (record { kind = kind; below = b; start = length vs; index = None }), drop-all vs, take-length vs, below, sym same, length-cut (back ms) vs, length-back ms) refl
 
-pub put_cuts : (ms ns : List FrameMark) (vs : List Variable) (b : ℕ) (kind : FrameKind) → IsCut (back ms) (length vs) → b ≤ length ms → ns ≡ ms ++ record { kind = kind; below = b; start = length vs } ∷ [] → IsCut (back ns) (length vs)
-put_cuts ms ns vs b kind is le grew = rw (grew, back-push ms (record { kind = kind; below = b; start = length vs })) (omega arith, omega (arith, le, length-back ms), is)
+pub put_cuts : (ms ns : List FrameMark) (vs : List Variable) (b : ℕ) (kind : FrameKind) → IsCut (back ms) (length vs) → b ≤ length ms → ns ≡ ms ++ record { kind = kind; below = b; start = length vs; index = None } ∷ [] → IsCut (back ns) (length vs)
+put_cuts ms ns vs b kind is le grew = rw (grew, back-push ms (record { kind = kind; below = b; start = length vs; index = None })) (omega arith, omega (arith, le, length-back ms), is)
 
 pub same_marks : (ms ns : List FrameMark) (vs : List Variable) → IsCut (back ms) (length vs) → ns ≡ ms → IsCut (back ns) (length vs)
 same_marks ms ns vs is same = rw same is

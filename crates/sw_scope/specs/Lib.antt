@@ -4,3 +4,4 @@ pub mod Cut
 pub mod Scopes
 pub mod Passed
 pub mod Bind
+pub mod Index

@@ -1,14 +1,19 @@
 // Frames in one vector.
-ghost use Rattle.std.specs.Prelude.{◌≡◌, ◌≤◌, nat_le, if◌then◌else◌, [], length, OnOk, OnErr, None, MatchOption};
+ghost use Rattle.std.specs.Prelude.{◌≡◌, ℕ, List, ◌-◌, ◌<◌, ◌≤◌, nat_le, if◌then◌else◌, [], ◌∷◌, ◌++◌, false, length, take, drop, OnOk, OnErr, None, MatchOption};
 ghost use Rattle.std.specs.Option.{option_copied};
 ghost use Rattle.sw_values.specs.declared.plain.Plain.{Plain};
-ghost use Rattle.sw_scope.specs.Frames.{look_in, all_flow};
+ghost use Rattle.sw_scope.specs.declared.mark.FrameMark.{FrameMark};
+ghost use Rattle.sw_scope.specs.Cut.{back, frames, IsCut};
+ghost use Rattle.sw_scope.specs.Frames.{Variable, look_in, all_flow};
+ghost use Rattle.sw_scope.specs.Index.{AreIndexed, head_index, head_with};
 ghost use Rattle.sw_scope.specs.Stack.{seen, set_on, declare_on, put_on, popped};
 
-use crate::find::{flows, seen};
+use crate::find::{flows, seen, start_of};
+use crate::index::{Index, MANY, grown};
 use crate::mark::{FrameKind, FrameMark};
 use std::alloc::Global;
 use std::marker::Model;
+use std::mem;
 use sw_text::{List, Memory, Name};
 use sw_values::Value;
 
@@ -18,6 +23,7 @@ use sw_values::Value;
 pub(crate) struct Frames {
     vars: List<(Name, Value)>,
     marks: List<FrameMark>,
+    alloc: Global,
 }
 
 impl Model for Frames {
@@ -26,6 +32,7 @@ impl Model for Frames {
     ghost use Rattle.sw_values.specs.contracts.plain.Plain as p;
     ghost use Rattle.sw_scope.specs.Stack.{Standing};
     ghost use Rattle.sw_scope.specs.Cut.{frames, back, IsCut};
+    ghost use Rattle.sw_scope.specs.Index.{AreIndexed};
 
     ghost Value = { List Standing };
 
@@ -33,7 +40,7 @@ impl Model for Frames {
 
     ghost view = { λ s. frames s.marks s.vars };
 
-    ghost invariant = { λ s. IsCut (back s.marks) (length s.vars) };
+    ghost invariant = { λ s. IsCut (back s.marks) (length s.vars) × AreIndexed (back s.marks) s.vars };
 }
 
 impl Frames {
@@ -44,6 +51,7 @@ impl Frames {
         Frames {
             vars: List::new(alloc),
             marks: List::new(alloc),
+            alloc,
         }
     }
 
@@ -92,7 +100,11 @@ impl Frames {
         ensures ok { OnOk result (self.new ≡ declare_on self.old (name, value)) }
         ensures err { OnErr result (self.new ≡ self.old) }
     {
-        self.vars.push((name, value))
+        self.vars.push((name, value))?;
+        if is_noted(self.marks.as_slice(), self.vars.len()) {
+            note(self.alloc, &mut self.marks, self.vars.as_slice());
+        }
+        Ok(())
     }
 
     /// A new frame, which stands on the one of this number, or on the innermost where that isn't there.
@@ -103,17 +115,102 @@ impl Frames {
     {
         let below = lower(number, self.marks.len());
         let start = self.vars.len();
-        self.marks.push(FrameMark { kind, below, start })
+        self.marks.push(FrameMark {
+            kind,
+            below,
+            start,
+            index: None,
+        })
     }
 
     /// Takes the innermost frame away with its variables, if one is there. Takes no memory.
     pub fn pop(&mut self)
         ensures { self.new ≡ popped self.old }
     {
-        if let Some(mark) = self.marks.pop() {
-            self.vars.truncate(mark.start);
+        if let Some(start) = pop_start(&mut self.marks) {
+            self.vars.truncate(start);
         }
     }
+}
+
+// Takes the last mark away, and tells where its variables start.
+fn pop_start(marks: &mut List<FrameMark>) -> Option<usize>
+    ensures { MatchOption result ((marks.old ≡ []) × (marks.new ≡ []))
+        (λ start. (m : FrameMark) × (m.start ≡ start) × (marks.old ≡ marks.new ++ m ∷ [])) }
+{
+    match marks.pop() {
+        Some(mark) => Some(mark.start),
+        None => None,
+    }
+}
+
+// Whether the innermost of frames up to here has an index, or so many variables that it gets one.
+fn is_noted(marks: &[FrameMark], end: usize) -> bool
+    ensures { result ≡ false → head_index (back marks.now) ≡ None }
+{
+    let count = marks.len();
+    if count == 0 {
+        return false;
+    }
+    let mark = &marks[count - 1];
+    mark.index.is_some() || end.saturating_sub(mark.start) == MANY
+}
+
+fn swap_last(marks: &mut Vec<FrameMark>, index: Option<Index>) -> Option<Index>
+    ensures new { back marks.new.items ≡ head_with index (back marks.old.items) }
+    ensures old { result ≡ head_index (back marks.old.items) }
+{
+    let count = marks.len();
+    if count == 0 {
+        return None;
+    }
+    let last = count - 1;
+    let mark = FrameMark {
+        kind: marks[last].kind,
+        below: marks[last].below,
+        start: marks[last].start,
+        index,
+    };
+    let FrameMark { index: before, .. } = mem::replace(&mut marks[last], mark);
+    before
+}
+
+// Gives the innermost frame an index, and takes the one that it had.
+fn swap_index(alloc: Global, marks: &mut List<FrameMark>, index: Option<Index>) -> Option<Index>
+    ensures new { back marks.new ≡ head_with index (back marks.old) }
+    ensures old { result ≡ head_index (back marks.old) }
+{
+    let mut all = mem::replace(marks, List::new(alloc)).into_vec();
+    let before = swap_last(&mut all, index);
+    *marks = List::from_vec(all);
+    before
+}
+
+// The variables from a place on.
+fn from(vars: &[(Name, Value)], start: usize) -> &[(Name, Value)]
+    requires { start ≤ length vars.now }
+    ensures { result.now ≡ drop start vars.now }
+{
+    &vars[start..]
+}
+
+// Keeps the index of the innermost frame, which has a new variable.
+fn note(alloc: Global, marks: &mut List<FrameMark>, vars: &[(Name, Value)])
+    requires some { 0 < length vars.now }
+    requires cut { IsCut (back marks.old) (length vars.now - 1) }
+    requires indexed { AreIndexed (back marks.old) (take (length vars.now - 1) vars.now) }
+    ensures frames { (vs : List Variable) → frames marks.new vs ≡ frames marks.old vs }
+    ensures cut { (n : ℕ) → IsCut (back marks.old) n → IsCut (back marks.new) n }
+    ensures indexed { AreIndexed (back marks.new) vars.now }
+{
+    let count = marks.len();
+    if count == 0 {
+        return;
+    }
+    let start = start_of(marks.as_slice(), count - 1);
+    let before = swap_index(alloc, marks, None);
+    let after = grown(alloc, before, from(vars, start));
+    let _ = swap_index(alloc, marks, after);
 }
 
 // The lower one.

@@ -8,6 +8,7 @@ mod binding;
 mod fault;
 mod find;
 mod frames;
+mod index;
 mod laws;
 mod mark;
 mod passed;

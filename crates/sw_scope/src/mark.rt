@@ -1,6 +1,7 @@
 // Marks of frames, and whose code runs.
 ghost use Rattle.std.specs.Prelude.{◌≡◌};
 
+use crate::index::Index;
 use std::marker::Model;
 
 /// What a frame is of: flow, as `@if` or a loop, or a block of its own.
@@ -49,10 +50,11 @@ impl Mark {
 }
 
 /// Where the vector of variables is cut: what the frame is of, how many frames lie up to the one on which it stands,
-/// and where its variables start.
-#[derive(Clone, Copy, Debug)]
+/// where its variables start, and their index where it has many.
+#[derive(Drop)]
 pub(crate) struct FrameMark {
     pub kind: FrameKind,
     pub below: usize,
     pub start: usize,
+    pub index: Option<Index>,
 }

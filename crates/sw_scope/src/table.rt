@@ -10,7 +10,8 @@ use std::marker::Model;
 use sw_text::{Memory, Name};
 use sw_values::Value;
 
-/// Variables in the order in which their names came. Contracts see the list of the names and values.
+/// Variables in the order in which their names came, of which calls often have none: then no name is hashed. Contracts
+/// see the list of the names and values.
 #[derive(Drop)]
 pub(crate) struct Table {
     entries: IndexMap<Name, Value>,
@@ -43,6 +44,9 @@ impl Table {
     pub fn get(&self, name: &Name) -> Option<&Value>
         ensures { option_copied result ≡ lookup (bytes_eq name.now) self.now }
     {
+        if self.entries.is_empty() {
+            return None;
+        }
         self.entries.get(name)
     }
 
@@ -50,6 +54,9 @@ impl Table {
     pub fn has(&self, name: &Name) -> bool
         ensures { result ≡ is_some (lookup (bytes_eq name.now) self.now) }
     {
+        if self.entries.is_empty() {
+            return false;
+        }
         self.entries.contains_key(name)
     }
 

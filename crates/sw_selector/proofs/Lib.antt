@@ -26,3 +26,4 @@ pub mod Unrolled
 pub mod Deep
 pub mod Others
 pub mod Back
+pub mod Rooms

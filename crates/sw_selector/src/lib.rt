@@ -13,6 +13,7 @@ mod nesting;
 mod parents;
 mod prepare;
 mod reader;
+mod room;
 mod selector;
 mod simple;
 mod splice;

@@ -1,10 +1,11 @@
 // How selectors are written.
-ghost use Rattle.std.specs.Prelude.{◌≡◌, ◌++◌, ◌∷◌, [], List, IfOk, OnOk, true, codes, if◌then◌else◌};
+ghost use Rattle.std.specs.Prelude.{◌≡◌, ◌≤◌, ◌++◌, ◌∷◌, [], List, length, IfOk, OnOk, MatchOption, true, codes, if◌then◌else◌};
 ghost use Rattle.std.specs.String.{string_bytes};
 ghost use Rattle.sw_selector.specs.declared.selector.Part.{Part};
 ghost use Rattle.sw_selector.specs.Writing.{combinator_text, part_text, parts_text, separator, list_text, written, text_of};
 
 use crate::holds::{Sought, complex_holds};
+use crate::room::{behind_parts, behind_separator};
 use crate::{Combinator, Complex, Part, Selectors};
 use std::alloc::Global;
 use sw_text::{Memory, Name};
@@ -18,6 +19,42 @@ impl Selectors {
         let text = text_of(alloc, self.as_slice())?;
         Name::new(alloc, text.as_str())
     }
+
+    /// The same where it has fewer bytes than this; `None` where it has as many, and then no more than these are looked
+    /// at or written.
+    pub fn write_within(&self, alloc: Global, bytes: usize) -> Result<Option<Name>, Memory>
+        ensures { IfOk result (λ text. MatchOption text (bytes ≤ length (text_of self.now))
+            (λ whole. whole ≡ text_of self.now)) }
+    {
+        match text_within(alloc, bytes, self.as_slice())? {
+            Some(text) => Ok(Some(Name::new(alloc, text.as_str())?)),
+            None => Ok(None),
+        }
+    }
+}
+
+// Each complex selector is counted before it is written.
+#[tactic(auto, using(crate::proofs::Rooms::shown_turn, crate::proofs::Rooms::hidden_turn, crate::proofs::Rooms::none_left))]
+fn text_within(alloc: Global, bytes: usize, list: &[Complex]) -> Result<Option<String>, Memory>
+    ensures { IfOk result (λ text. MatchOption text (bytes ≤ length (text_of list.now))
+        (λ whole. string_bytes whole ≡ text_of list.now)) }
+{
+    let mut out = String::new(alloc);
+    let mut left = bytes;
+    let mut first = true;
+    'list: for complex in list {
+        if complex_holds(Sought::Placeholder, complex.as_slice()) {
+            continue;
+        }
+        left = behind_parts(behind_separator(left, first), complex.as_slice());
+        if left == 0 {
+            return Ok(None);
+        }
+        separate(&mut out, first)?;
+        write_parts(alloc, &mut out, complex.as_slice())?;
+        first = false;
+    }
+    Ok(Some(out))
 }
 
 fn text_of(alloc: Global, list: &[Complex]) -> Result<String, Memory>

@@ -4,10 +4,13 @@
 #![tactic(auto)]
 
 mod answer;
+mod configs;
 mod confirms;
 mod end;
 mod engine;
+mod growing;
 mod hosts;
+mod pairs;
 mod parts;
 mod question;
 mod share;
@@ -19,8 +22,9 @@ pub use answer::Answer;
 pub use confirms::ConfirmsNamed;
 pub use end::{Config, End, Finish, Turn};
 pub use engine::Engine;
+pub use growing::GrowingPairs;
 pub use hosts::{Hosts, NoHosts};
-pub use parts::share_pairs;
+pub use pairs::Pairs;
 pub use question::{Filter, Given, How, Member, Question, SayKind, Saying};
 pub use share::Share;
 pub use table::{Table, find_in};

@@ -4,7 +4,7 @@ use Rattle.sw_io.proofs.Causes.{fine_ok, fine_else}
 use Rattle.sw_cmd_disk_folder.specs.Held.{IsRead, IsBrokenOff}
 use Rattle.sw_cmd_line.specs.Forms.{target_seen}
 use Rattle.sw_keeper.specs.Keeping.{Keeping}
-use Rattle.sw_keeper.specs.Settings.{hostless}
+use Rattle.sw_modules.specs.Settings.{hostless}
 use Rattle.sw_cmd_disk_compile.specs.Once.{surroundings}
 use Rattle.sw_cmd_disk_compile.proofs.Compiling.{unread, compiles, ends_by}
 use Rattle.sw_cmd_disk_compile.proofs.compile.once.Goals as goal

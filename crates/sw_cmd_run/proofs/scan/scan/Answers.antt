@@ -3,7 +3,7 @@ use Rattle.sw_io.specs.declared.disk.DiskEnd.TheVariants.{Failed, Memory}
 use Rattle.sw_io.proofs.Causes.{failed_so, failed_else, fine_ok, fine_else, spared}
 use Rattle.sw_cmd_disk_folder.specs.Held.{IsRead, IsBrokenOff}
 use Rattle.sw_cmd_line.specs.Forms.{target_seen}
-use Rattle.sw_keeper.specs.Keeping.{Tables}
+use Rattle.sw_keeper.specs.Keeping.{Table}
 use Rattle.sw_cmd_protocol.specs.Heard.{told_of}
 use Rattle.sw_cmd_protocol.specs.Turns.{standing, Says, SayStops}
 use Rattle.sw_cmd_protocol.proofs.Fronts.{if_ok, if_err}
@@ -20,7 +20,7 @@ returns-in-Ok-clause-ok g c =
     let before = g.D.Disk.course c.args.disk.now c.args.target.now.dir.now in
     let now = g.D.Disk.course c.read_folder.new.disk c.args.target.now.dir.now in
     let read = subst (λ (d : List ℕ). IsRead (g.D.Disk.course c.args.disk.now d) (g.D.Disk.course c.read_folder.new.disk d) c.read_folder.new.holder.folder) c.as_str.ensures c.in-Ok.ensures.ok in
-    if_ok c.compile.result (λ reply says. subst (λ (kept : Tables). Says (poll setting) Scan (told_of reply) (standing (held t before kept) (g.E.Engine.ran c.args.engine.now))
+    if_ok c.compile.result (λ reply says. subst (λ (kept : Table). Says (poll setting) Scan (told_of reply) (standing (held t before kept) (g.E.Engine.ran c.args.engine.now))
     (standing (held t now c.compile.new.watched.kept) (g.E.Engine.ran c.compile.new.engine)) (g.K.Sink.written c.args.sink.now) (g.K.Sink.written c.compile.new.sink))
     (c.read_folder.ensures.rest ∙ c.clear.ensures.kept) (says before now read)) c.compile.ensures.ok
 
@@ -31,7 +31,7 @@ returns-in-Ok-clause-err g c =
     let before = g.D.Disk.course c.args.disk.now c.args.target.now.dir.now in
     let now = g.D.Disk.course c.read_folder.new.disk c.args.target.now.dir.now in
     let read = subst (λ (d : List ℕ). IsRead (g.D.Disk.course c.args.disk.now d) (g.D.Disk.course c.read_folder.new.disk d) c.read_folder.new.holder.folder) c.as_str.ensures c.in-Ok.ensures.ok in
-    if_err c.compile.result (λ stop says. subst (λ (kept : Tables). SayStops (poll setting) stop Scan (standing (held t before kept) (g.E.Engine.ran c.args.engine.now))
+    if_err c.compile.result (λ stop says. subst (λ (kept : Table). SayStops (poll setting) stop Scan (standing (held t before kept) (g.E.Engine.ran c.args.engine.now))
     (standing (held t now c.compile.new.watched.kept) (g.E.Engine.ran c.compile.new.engine)) (g.K.Sink.written c.args.sink.now) (g.K.Sink.written c.compile.new.sink))
     (c.read_folder.ensures.rest ∙ c.clear.ensures.kept) (says before now read)) c.compile.ensures.err
 

@@ -1,6 +1,6 @@
 use Rattle.std.proofs.Common.{[], refl, sym, ap, subst}
 use Rattle.sw_cmd_line.specs.Forms.{Target, target_seen}
-use Rattle.sw_keeper.specs.Keeping.{Keeping, Tables}
+use Rattle.sw_keeper.specs.Keeping.{Keeping, Table}
 use Rattle.sw_cmd_protocol.specs.Served as protocol
 use Rattle.sw_cmd_protocol.specs.Heard.{ServedAndHeard}
 use Rattle.sw_cmd_protocol.specs.Turns.{standing}
@@ -23,7 +23,7 @@ returns-in-Ok-clause-served g c =
     let holds = held (target_seen c.answer_all.new.self.protocol.target) (g.D.Disk.course c.answer_all.new.outside c.answer_all.new.self.protocol.target.dir.now) c.answer_all.new.self.protocol.watched.kept in
     let before = protocol.surroundings (g.S.Source.left c.args.source.now) (g.K.Sink.written c.args.output.now.sink) (held (target_seen c.args.target.now) (g.D.Disk.course c.args.disk.now dir) []) (g.E.Engine.ran c.args.engine.now) in
     let after = protocol.surroundings (g.S.Source.left c.answer_all.new.source) (g.K.Sink.written c.answer_all.new.output.sink) holds (g.E.Engine.ran c.answer_all.new.engine) in
-    let all = subst (λ (kept : Tables). ServedAndHeard (poll (hostless g.E.Engine.body)) g.T.Audience.hears 1000000 c.answer_all.result
+    let all = subst (λ (kept : Table). ServedAndHeard (poll (hostless g.E.Engine.body)) g.T.Audience.hears 1000000 c.answer_all.result
     (protocol.surroundings (g.S.Source.left c.args.source.now) (g.K.Sink.written c.args.output.now.sink) (held (target_seen c.args.target.now) (g.D.Disk.course c.args.disk.now dir) kept) (g.E.Engine.ran c.args.engine.now))
     (protocol.surroundings (g.S.Source.left c.answer_all.new.source) (g.K.Sink.written c.answer_all.new.output.sink) holds (g.E.Engine.ran c.answer_all.new.engine))
     (g.T.Audience.state c.args.output.now.audience) (g.T.Audience.state c.answer_all.new.output.audience))

@@ -1,6 +1,6 @@
 use Rattle.std.proofs.Common.{◌≡◌, ℕ, [], refl, sym, subst, arith}
 use Rattle.std.proofs.lemmas.List.{append-nil}
-use Rattle.sw_keeper.specs.Settings.{hostless}
+use Rattle.sw_modules.specs.Settings.{hostless}
 use Rattle.sw_cmd_workload.specs.Ends.{standing, Counts}
 use Rattle.sw_cmd_workload.proofs.Going.{going_start, nothing_yet, on_err, going_breaks, uncounted, going_on}
 use Rattle.sw_cmd_workload.proofs.making.all_compiles.Goals as goal

@@ -1,4 +1,4 @@
-use Rattle.sw_keeper.specs.Settings.{hostless}
+use Rattle.sw_modules.specs.Settings.{hostless}
 use Rattle.sw_cmd_workload.specs.Ends.{standing}
 use Rattle.sw_cmd_workload.proofs.Summing.{sums}
 use Rattle.sw_cmd_workload.proofs.making.make.Goals as goal

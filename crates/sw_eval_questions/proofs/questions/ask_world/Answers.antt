@@ -11,7 +11,7 @@ returns-in_err-answer-clause-did g c = λ q at is.
 pub returns-clause-did : goal.returns-clause-did
 unfolding most_asked
 returns-clause-did g c = λ q at is.
-    let grew = rw c.in_ok-answer.ensures.pairs at c.push_pair.ensures in
+    let grew = rw c.in_ok-answer.ensures.pairs at c.push.ensures in
     ask_asks q c.args.op at nothing c.args.asked.now.path c.args.asked.now.pairs.items _ _ _ _ c.in_ok-answer.answer _ c.requires.few c.requires.at_end is c.requires.plain c.in_ok-answer.ensures.given c.in_ok-answer.ensures.fits grew (c.taken-result.ensures.did)
 
 pub returns-clause-few : goal.returns-clause-few

@@ -1,5 +1,3 @@
-use Rattle.std.proofs.Common.{◌<◌, length, refl, arith, ⊎_elim}
-use Rattle.std.proofs.lemmas.Option.{slice_get_read}
 use Rattle.sw_world.specs.Laws.{most_asked}
 use Rattle.sw_eval_questions.proofs.Steps.{ask_full, ask_takes}
 use Rattle.sw_eval_questions.specs.Did.{nothing}
@@ -17,9 +15,7 @@ returns-then-asked-ge1000000-clause-few g c = fails_ok c.fails.result _ nothing 
 pub returns-clause-did : goal.returns-clause-did
 unfolding most_asked
 returns-clause-did g c = λ q op is.
-    let ps = c.args.asked.now.pairs.items in
-    let lt : c.args.asked.now.at < length ps = ⊎_elim (λ a. a) (λ b. absurd (omega (arith, b, c.if-asked-ge1000000.false))) c.requires in
-    ask_takes q op c.args.span.now nothing c.args.asked.now.path ps _ _ c.index.result.now _ c.if-asked-ge1000000.false is (slice_get_read ps (length ps) c.args.asked.now.at c.index.result.now refl lt c.index.ensures) c.taken.ensures.did
+    ask_takes q op c.args.span.now nothing c.args.asked.now.path c.args.asked.now.pairs.items _ _ c.pair.result.now _ c.if-asked-ge1000000.false is c.pair.ensures c.taken.ensures.did
 
 pub returns-clause-few : goal.returns-clause-few
 returns-clause-few g c = number_few c.taken.result _ 1000000 c.taken.ensures.number c.if-asked-ge1000000.false

@@ -18,7 +18,7 @@ returns-in-Ok-clause-ok g c =
     let after = standing (holding c.compile.new.self (g.H.Hosts.state c.compile.new.hosts)) (g.E.Engine.ran c.compile.new.engine) in
     given_by (λ reply. Says (session setting) (Compile c.args.entry.now c.args.paths.now) (told_of reply) before after (g.K.Sink.written c.args.sink.now) (g.K.Sink.written c.send_reply.new.sink))
     (Some c.in-Ok.reply) c.send_reply.result c.send_reply.ensures.back c.send_reply.ensures.ok (compile_says setting c.args.entry.now c.args.paths.now before after c.in-Ok.reply _ _
-    (subst (λ (p : List (List ℕ)). CompilesTo (compiled setting c.args.self.now.keeper.folder p c.args.entry.now (g.H.Hosts.state c.args.hosts.now)) c.args.entry.now c.in-Ok.reply (keeping before.held) (keeping after.held) after.held.hosts before.ran after.ran) c.as_slice.ensures
+    (subst (λ (p : List (List ℕ)). CompilesTo (compiled setting c.args.self.now.keeper.folder p c.args.entry.now (g.H.Hosts.state c.args.hosts.now)) c.in-Ok.reply (keeping before.held) (keeping after.held) after.held.hosts before.ran after.ran) c.as_slice.ensures
     e.ok))
 
 pub returns-in-Ok-clause-err : goal.returns-in-Ok-clause-err
@@ -28,7 +28,7 @@ returns-in-Ok-clause-err g c =
     let before = standing (holding c.args.self.now.keeper (g.H.Hosts.state c.args.hosts.now)) (g.E.Engine.ran c.args.engine.now) in
     let after = standing (holding c.compile.new.self (g.H.Hosts.state c.compile.new.hosts)) (g.E.Engine.ran c.compile.new.engine) in
     if_err c.send_reply.result (compile_stops setting c.args.entry.now c.args.paths.now before after c.in-Ok.reply _ _
-    (subst (λ (p : List (List ℕ)). CompilesTo (compiled setting c.args.self.now.keeper.folder p c.args.entry.now (g.H.Hosts.state c.args.hosts.now)) c.args.entry.now c.in-Ok.reply (keeping before.held) (keeping after.held) after.held.hosts before.ran after.ran) c.as_slice.ensures
+    (subst (λ (p : List (List ℕ)). CompilesTo (compiled setting c.args.self.now.keeper.folder p c.args.entry.now (g.H.Hosts.state c.args.hosts.now)) c.in-Ok.reply (keeping before.held) (keeping after.held) after.held.hosts before.ran after.ran) c.as_slice.ensures
     e.ok)) c.send_reply.ensures.err
 
 pub returns-in-Ok-send-clause-ok : goal.returns-in-Ok-send-clause-ok

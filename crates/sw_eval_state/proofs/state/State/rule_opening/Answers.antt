@@ -1,23 +1,10 @@
-use Rattle.sw_eval_state.specs.Rules.{rule_opening}
-use Rattle.sw_eval_questions.proofs.Steps.{plain_err, plain_then}
 use Rattle.sw_eval_state.proofs.Answering.{out_of_memory}
+use Rattle.sw_eval_state.proofs.Large.{too_large, none_of}
 use Rattle.sw_eval_state.proofs.state.State.rule_opening.Goals as goal
 
 pub returns-in_err-text : goal.returns-in_err-text
 returns-in_err-text c = out_of_memory _ _ _ c.from_residual.ensures
 
-pub returns-in_err-opened : goal.returns-in_err-opened
-unfolding rule_opening
-returns-in_err-opened c =
-    plain_err _ _ _ _ _ _ (rw c.in_ok-text.ensures at c.in_err-opened.ensures) c.from_residual-in_err-opened.ensures
-
-pub returns-in_err-parents : goal.returns-in_err-parents
-returns-in_err-parents c = out_of_memory _ _ _ c.from_residual-in_err-parents.ensures
-
-pub returns-in_err-around : goal.returns-in_err-around
-returns-in_err-around c = out_of_memory _ _ _ c.from_residual-in_err-around.ensures
-
-pub returns : goal.returns
-unfolding rule_opening
-returns c =
-    plain_then _ _ _ _ _ _ (rw c.in_ok-text.ensures at c.in_ok-opened.ensures) (rw (c.in_rule.ensures, c.in_ok-parents.ensures, c.in_ok-around.ensures) at c.nest.ensures)
+pub returns-in-None : goal.returns-in-None
+returns-in-None c =
+    rw (too_large c.args.selectors c.args.span.now c.args.self.now (none_of _ _ _ c.in_ok-text.ensures c.in-None.is)) (c.fails.ensures c.args.self.now)
