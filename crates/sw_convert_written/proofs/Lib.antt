@@ -1,2 +1,4 @@
 pub mod Unrolled
 pub mod Joins
+pub mod UnrolledStatements
+pub mod Tops

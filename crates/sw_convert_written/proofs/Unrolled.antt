@@ -1,5 +1,5 @@
 -- What the definition of a text says of each kind of expression.
-use Rattle.std.proofs.Common.{◌≡◌, ℕ, List, [], ◌∷◌, ◌++◌, map, refl, sym, ◌∙◌, ap}
+use Rattle.std.proofs.Common.{◌≡◌, ℕ, true, List, [], ◌∷◌, ◌++◌, map, refl, sym, ◌∙◌, ap}
 use Rattle.std.specs.Prelude.{codes}
 use Rattle.sw_tree.specs.declared.expr.Argument.{Argument, fold-Argument, fold_out-Argument}
 use Rattle.sw_tree.specs.declared.expr.Around.{Around}
@@ -22,10 +22,10 @@ use Rattle.sw_tree.specs.declared.text.Piece.TheVariants as pieces
 use Rattle.sw_tree.specs.declared.text.Text.{Text, fold-Text, fold_out-Text}
 use Rattle.sw_convert_written.specs.declared.manner.Manner.TheVariants as manners
 use Rattle.sw_convert_written.specs.declared.sort.Sort.TheVariants as sorts
-use Rattle.sw_convert_written.specs.Names.{name_text, number_text}
+use Rattle.sw_convert_written.specs.Names.{dollar_name, number_text}
 use Rattle.sw_convert_written.specs.Pieces.{Written, Said, Inserted, Value, pieces_text}
 use Rattle.sw_convert_written.specs.Signs.{constant_text}
-use Rattle.sw_convert_written.specs.Expressions.{Shown, ShownArgument, ShownCallee, ShownLink, joined, comma, qualified_text, signs_text, arguments_text, argument_text, chain_text, list_text, call_text, quoted_text, argument_shown, callee_shown, pair_shown, kind_step, parts_step, piece_step, argument_step, callee_step, expr_step, link_step, pair_step, text_step, kind_shown, parts_written, piece_written, expr_shown, expr_text, link_shown, of_argument, of_callee, pair_text}
+use Rattle.sw_convert_written.specs.Expressions.{Shown, ShownArgument, ShownCallee, ShownLink, with_commas, qualified_text, signs_text, arguments_text, argument_text, chain_text, list_text, call_text, quoted_text, argument_shown, callee_shown, pair_shown, kind_step, parts_step, piece_step, argument_step, callee_step, expr_step, link_step, pair_step, text_step, kind_shown, parts_written, piece_written, expr_shown, expr_text, link_shown, of_argument, of_callee, pair_text}
 
 -- ---- the folds of what has a place of its own
 
@@ -77,7 +77,7 @@ pair_is x =
     ∙ ap (λ (value : Shown). pair_shown (expr_shown x.key) value) (expr_is x.value)
 
 -- what is the same of each is the same of all
-maps_are : {A B : Type 0} (f g : A → B) → ((x : A) → f x ≡ g x) → (xs : List A) → map f xs ≡ map g xs
+pub maps_are : {A B : Type 0} (f g : A → B) → ((x : A) → f x ≡ g x) → (xs : List A) → map f xs ≡ map g xs
 maps_are f g same [] = refl
 maps_are {A} {B} f g same (x ∷ xs) =
     ap (λ (y : B). y ∷ map f xs) (same x) ∙ ap (λ (ys : List B). g x ∷ ys) (maps_are f g same xs)
@@ -113,7 +113,7 @@ url_is x = ap (λ k. (kind_shown k).text) (sym (exprs.rolls-Url x)) ∙ ap (λ (
 pub special_is : (x : Parts) → (kind_shown (exprs.Special x)).text ≡ pieces_text manners.Seamed (parts_written x)
 special_is x = ap (λ k. (kind_shown k).text) (sym (exprs.rolls-Special x)) ∙ ap (λ (s : Shown). s.text) (rolled (ExprKind-F.Special x))
 
-pub variable_is : (x : List ℕ) → (kind_shown (exprs.Variable x)).text ≡ codes "$" ++ name_text x
+pub variable_is : (x : List ℕ) → (kind_shown (exprs.Variable x)).text ≡ dollar_name x
 variable_is x = ap (λ k. (kind_shown k).text) (sym (exprs.rolls-Variable x)) ∙ ap (λ (s : Shown). s.text) (rolled (ExprKind-F.Variable x))
 
 pub qualified_is : (x : Qualified) → (kind_shown (exprs.Qualified x)).text ≡ qualified_text x
@@ -125,8 +125,8 @@ call_is x xs =
     ∙ ap (λ (callee : ShownCallee). call_text callee (map by_argument xs)) (callee_is x)
     ∙ ap (λ (arguments : List ShownArgument). call_text (of_callee x) arguments) (maps_are by_argument of_argument argument_is xs)
 
-pub arguments_are : (xs : List Argument) → arguments_text (map of_argument xs) ≡ joined comma (map argument_text xs)
-arguments_are xs = ap (joined comma) (texts_of xs)
+pub arguments_are : (xs : List Argument) → arguments_text (map of_argument xs) ≡ with_commas true (map argument_text xs)
+arguments_are xs = ap (with_commas true) (texts_of xs)
   where
     texts_of : (ys : List Argument) → map (λ (a : ShownArgument). a.text) (map of_argument ys) ≡ map argument_text ys
     texts_of [] = refl
@@ -166,10 +166,10 @@ paren_is x =
     ap (λ k. (kind_shown k).text) (sym (exprs.rolls-Paren x)) ∙ ap (λ (s : Shown). s.text) (rolled (ExprKind-F.Paren x))
     ∙ ap (λ (s : Shown). codes "(" ++ (s.text ++ codes ")")) (expr_is x)
 
-pub map_is : (xs : List Pair) → (kind_shown (exprs.Map xs)).text ≡ codes "(" ++ (joined comma (map pair_text xs) ++ codes ")")
+pub map_is : (xs : List Pair) → (kind_shown (exprs.Map xs)).text ≡ codes "(" ++ (with_commas true (map pair_text xs) ++ codes ")")
 map_is xs =
     ap (λ k. (kind_shown k).text) (sym (exprs.rolls-Map xs)) ∙ ap (λ (s : Shown). s.text) (rolled (ExprKind-F.Map xs))
-    ∙ ap (λ (pairs : List (List ℕ)). codes "(" ++ (joined comma pairs ++ codes ")")) (maps_are by_pair pair_text pair_is xs)
+    ∙ ap (λ (pairs : List (List ℕ)). codes "(" ++ (with_commas true pairs ++ codes ")")) (maps_are by_pair pair_text pair_is xs)
 
 -- ---- texts and their pieces
 

@@ -25,7 +25,7 @@ use Rattle.sw_convert_written.specs.declared.manner.Manner.TheVariants as manner
 use Rattle.sw_convert_written.specs.declared.sort.Sort.{Sort}
 use Rattle.sw_convert_written.specs.declared.sort.Sort.TheVariants.{Number, Opaque, Other}
 use Rattle.sw_convert_written.specs.Escapes.{space_behind}
-use Rattle.sw_convert_written.specs.Names.{name_text, number_text}
+use Rattle.sw_convert_written.specs.Names.{name_text, dollar_name, number_text}
 use Rattle.sw_convert_written.specs.Pieces.{Written, Said, Inserted, Value, pieces_text}
 use Rattle.sw_convert_written.specs.Signs.{sign_text, operator_text, constant_text, opening, closing}
 
@@ -59,14 +59,15 @@ pub record ShownLink : Type 0 where
   pub operator : Operator
   pub operand : Shown
 
--- texts with what stands between two, which depends on the first
-abbrev pub joined : (List ℕ → List ℕ) → List (List ℕ) → List ℕ
-joined gap [] = []
-joined gap (text ∷ []) = text
-joined gap (text ∷ next ∷ texts) = text ++ (gap text ++ joined gap (next ∷ texts))
+-- a comma before each text but the first
+abbrev pub comma_before : Bool → List ℕ
+comma_before true = []
+comma_before false = codes ", "
 
-abbrev pub comma : List ℕ → List ℕ
-comma text = codes ", "
+-- texts with commas between them, of which the next is the first or not
+abbrev pub with_commas : Bool → List (List ℕ) → List ℕ
+with_commas first [] = []
+with_commas first (text ∷ texts) = comma_before first ++ (text ++ with_commas false texts)
 
 -- ---- operators
 
@@ -79,25 +80,31 @@ abbrev pub is_quotient : Shown → List ShownLink → Bool
 is_quotient first links =
     is_number first.sort && list_all (λ link. is_divide link.operator && is_number link.operand.sort) links
 
-abbrev pub divided : List ShownLink → List ℕ
-divided [] = []
-divided (link ∷ links) = codes "/" ++ (link.operand.text ++ divided links)
+-- an operator behind an operand, and all behind it
+abbrev pub infix_text : Bool → Operator → List ℕ → List ℕ
+infix_text true operator before = codes "/"
+infix_text false operator before = space_behind before ++ operator_text operator
 
--- an operator and what stands behind it
-abbrev pub link_text : ShownLink → List ℕ
-link_text link = operator_text link.operator ++ link.operand.text
+abbrev pub links_text : Bool → List ℕ → List ShownLink → List ℕ
+links_text quotient before [] = []
+links_text quotient before (link ∷ links) =
+    infix_text quotient link.operator before ++ (link.operand.text ++ links_text quotient link.operand.text links)
 
 abbrev pub chain_text : Shown → List ShownLink → List ℕ
-chain_text first links =
-    if is_quotient first links then first.text ++ divided links
-    else joined space_behind (first.text ∷ map link_text links)
+chain_text first links = first.text ++ links_text (is_quotient first links) first.text links
 
 -- ---- lists
 
--- behind an item
-abbrev pub gap : Separator → List ℕ → List ℕ
-gap separators.Comma item = comma item
-gap _ item = space_behind item
+-- between an item and the next; before the first there is nothing
+abbrev pub gap : Separator → Bool → List ℕ → List ℕ
+gap separator true before = []
+gap separators.Comma false before = codes ", "
+gap _ false before = space_behind before
+
+abbrev pub items_behind : Separator → Bool → List ℕ → List (List ℕ) → List ℕ
+items_behind separator first before [] = []
+items_behind separator first before (item ∷ items) =
+    gap separator first before ++ (item ++ items_behind separator false item items)
 
 -- one item keeps the comma behind it
 abbrev pub trailing : Separator → List (List ℕ) → List ℕ
@@ -105,7 +112,7 @@ trailing separators.Comma (item ∷ []) = codes ","
 trailing _ _ = []
 
 abbrev pub items_text : Separator → List (List ℕ) → List ℕ
-items_text separator items = joined (gap separator) items ++ trailing separator items
+items_text separator items = items_behind separator true [] items ++ trailing separator items
 
 abbrev pub list_text : List (List ℕ) → Separator → Around → List ℕ
 list_text items separator around = opening around ++ (items_text separator items ++ closing around)
@@ -130,16 +137,19 @@ guard [] = codes "/**/ /**/"
 guard (argument ∷ arguments) = if argument.opaque then [] else codes "/**/ "
 
 abbrev pub arguments_text : List ShownArgument → List ℕ
-arguments_text arguments = joined comma (map (λ argument. argument.text) arguments)
+arguments_text arguments = with_commas true (map (λ argument. argument.text) arguments)
+
+-- what stands behind the name of a call
+abbrev pub call_opening : Bool → List ShownArgument → List ℕ
+call_opening url arguments = codes "(" ++ (if url then guard arguments else [])
 
 abbrev pub call_text : ShownCallee → List ShownArgument → List ℕ
 call_text callee arguments =
-    callee.text ++ (codes "("
-    ++ ((if callee.url then guard arguments else []) ++ (arguments_text arguments ++ codes ")")))
+    callee.text ++ (call_opening callee.url arguments ++ (arguments_text arguments ++ codes ")"))
 
 abbrev pub label : Option (List ℕ) → List ℕ
 label None = []
-label (Some name) = codes "$" ++ (name_text name ++ codes ": ")
+label (Some name) = dollar_name name ++ codes ": "
 
 abbrev pub signs_text : List Sign → List ℕ
 signs_text [] = []
@@ -163,7 +173,7 @@ kind_step (ExprKind-F.Hash name) = other name
 kind_step (ExprKind-F.Constant constant) = other (constant_text constant)
 kind_step (ExprKind-F.Url parts) = other (pieces_text manners.Joined parts)
 kind_step (ExprKind-F.Special parts) = other (pieces_text manners.Seamed parts)
-kind_step (ExprKind-F.Variable name) = record { text = codes "$" ++ name_text name; sort = Opaque }
+kind_step (ExprKind-F.Variable name) = record { text = dollar_name name; sort = Opaque }
 kind_step (ExprKind-F.Qualified qualified) = other (qualified_text qualified)
 kind_step (ExprKind-F.Call callee arguments) = other (call_text callee arguments)
 kind_step ExprKind-F.Parent = other (codes "&")
@@ -173,7 +183,7 @@ kind_step (ExprKind-F.Chain first links) = other (chain_text first links)
 kind_step (ExprKind-F.List items separator around) =
     other (list_text (map (λ item. item.text) items) separator around)
 kind_step (ExprKind-F.Paren value) = other (codes "(" ++ (value.text ++ codes ")"))
-kind_step (ExprKind-F.Map pairs) = other (codes "(" ++ (joined comma pairs ++ codes ")"))
+kind_step (ExprKind-F.Map pairs) = other (codes "(" ++ (with_commas true pairs ++ codes ")"))
 
 abbrev pub parts_step :
     Parts-F Shown (List Written) Written ShownArgument ShownCallee Shown ShownLink (List ℕ) (List Written) → List Written
@@ -248,10 +258,6 @@ expr_text value = (kind_shown value.kind).text
 
 abbrev pub link_shown : Link → ShownLink
 link_shown link = record { operator = link.operator; operand = expr_shown link.operand }
-
--- the text of an operator and what stands behind it
-abbrev pub of_link : Link → List ℕ
-of_link link = link_text (link_shown link)
 
 abbrev pub of_argument : Argument → ShownArgument
 of_argument argument = argument_shown argument.name (expr_shown argument.value) argument.spread

@@ -1,20 +1,25 @@
 //! What the converter writes: the text of a tree. A tree comes in, and its bytes go out.
 #![tactic(auto)]
 
+mod bytes;
+mod commas;
 mod escapes;
+mod expr;
+mod heads;
 mod kinds;
 mod manner;
+mod members;
 mod names;
 mod pieces;
+mod rules;
+mod sheet;
 mod signs;
 mod sort;
+mod statement;
 mod strings;
 
-pub use escapes::{ends_unclosed, put_apart, put_space};
-pub use kinds::{is_opaque, is_quotient, is_url, sort_of};
+pub use expr::put_expr;
 pub use manner::Manner;
-pub use names::{put_name, put_number, put_text};
-pub use pieces::{is_parted, put_said};
-pub use signs::{put_closing, put_constant, put_opening, put_operator, put_signs};
+pub use rules::Place;
+pub use sheet::scss_text;
 pub use sort::Sort;
-pub use strings::put_escaped;

@@ -2,7 +2,7 @@
 ghost use Rattle.std.specs.Prelude.{◌≡◌, ◌++◌, OnOk};
 ghost use Rattle.sw_text_scan.specs.Words.{is_exponent};
 ghost use Rattle.sw_convert_spelling.specs.Numerals.{begins_exponent, value_text};
-ghost use Rattle.sw_convert_written.specs.Names.{begins_no_name, name_text, number_text};
+ghost use Rattle.sw_convert_written.specs.Names.{begins_no_name, name_text, dollar_name, number_text};
 
 use sw_fixed::Fixed;
 use sw_text::{Memory, Name};
@@ -37,6 +37,14 @@ pub fn put_name(out: &mut Vec<u8>, name: &Name) -> Result<(), Memory>
     ensures { OnOk result (out.new.items ≡ out.old.items ++ name_text name.now) }
 {
     put_bytes(out, name.as_str().as_bytes())
+}
+
+/// Puts the name of a variable.
+pub fn put_dollar_name(out: &mut Vec<u8>, name: &Name) -> Result<(), Memory>
+    ensures { OnOk result (out.new.items ≡ out.old.items ++ dollar_name name.now) }
+{
+    out.push(b'$')?;
+    put_name(out, name)
 }
 
 /// Puts a text as it is.
