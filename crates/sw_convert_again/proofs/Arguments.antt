@@ -16,9 +16,10 @@ use Rattle.sw_parse_table.specs.Expressions.{argument, named_argument, plain_arg
 use Rattle.sw_convert_alike.specs.Expressions.{Like, LikeParts, LikeArguments, like, space_of}
 use Rattle.sw_convert_alike.specs.Expressions as alike
 use Rattle.sw_convert_again.specs.Tokens.{Tok, tok, sign, Dashed, Bytes, Stands, Old}
-use Rattle.sw_convert_again.specs.Spells.{Spells, SpellsArgument, SpellsMore, SpellsArguments, undollared, call_tokens}
+use Rattle.sw_convert_again.specs.Spells.{Spells, SpellsPlain, unlisted, SpellsArgument, SpellsMore, SpellsArguments, undollared, call_tokens}
 use Rattle.sw_convert_again.specs.Spells as spells
 use Rattle.sw_convert_again.specs.Again.{Reads, Again, called_by_name, called_by_owner}
+use Rattle.sw_convert_again.proofs.Bare.{spaces_plain}
 use Rattle.sw_convert_again.proofs.Tokens.{one_byte, old_of, is_of, split, begins_more}
 use Rattle.sw_convert_again.proofs.Dollars.{dollared, undollared_first}
 use Rattle.sw_convert_again.proofs.Words.{word_again}
@@ -72,7 +73,7 @@ module _ (source written : Source) (n : ℕ) (operand : Again source written n s
         is = e7 ∙ ap (to_named source i j) parts;
         tokens = sign terminals.DollarNamed ∷ second ∷ sign terminals.Colon ∷ value.tokens;
         spells = spells.named_argument one two (subst (λ (x : ℕ). Old source x (just terminals.Colon)) end value.colon)
-            (subst (λ (x : ℕ). Spells source (suc x) j value.value value.tokens) end value.spells);
+            (subst (λ (x : ℕ). SpellsPlain source (suc x) j value.value value.tokens) end value.spells);
         back = λ p q stand. let f = value.back (suc (suc p)) q stand.1.1 in record {
           found = argument_of (Some (dashed (bytes_at written (suc p)))) f.found false;
           reads = inl (
@@ -105,7 +106,9 @@ module _ (source written : Source) (n : ℕ) (operand : Again source written n s
         value = argument_of None one.value false;
         is = e4 ∙ ap to_spread parts;
         tokens = undollared one.tokens;
-        spells = spells.placed_argument (subst (λ (x : ℕ). Spells source i x one.value one.tokens) (sym e1) one.spells);
+        spells = spells.placed_argument
+            (unlisted (spaces_plain source n i k u1 one.value d one.is)
+            (subst (λ (x : ℕ). Spells source i x one.value one.tokens) (sym e1) one.spells));
         back = λ p q stand. let f = one.back p q (dollared written p q one.tokens stand) in record {
           found = argument_of None f.found false;
           reads = inr (
@@ -135,7 +138,8 @@ module _ (source written : Source) (n : ℕ) (operand : Again source written n s
         spells = subst
             (λ (x : ℕ). SpellsArgument source i x (argument_of None one.value true)
             (undollared one.tokens ++ sign terminals.Ellipsis ∷ []))
-            (sym e1) (spells.spread_argument one.spells dots);
+            (sym e1)
+            (spells.spread_argument (unlisted (spaces_plain source n i k u1 one.value d one.is) one.spells) dots);
         back = λ p q stand.
             let (place, left, right) = split written q (undollared one.tokens) (sign terminals.Ellipsis ∷ []) p stand in
             let f = one.back p place (dollared written p place one.tokens left) in record {

@@ -19,9 +19,11 @@ use Rattle.sw_parse_table.specs.Expressions.{prefix, primary, unary, link, linke
 use Rattle.sw_convert_alike.specs.Expressions.{Like, LikeLinks, like}
 use Rattle.sw_convert_alike.specs.Expressions as alike
 use Rattle.sw_convert_again.specs.Tokens.{Tok, sign, Stands, Begins}
-use Rattle.sw_convert_again.specs.Spells.{Spells, SpellsSigns, SpellsLinks, no_signs, more_signs, no_links, more_links}
+use Rattle.sw_convert_again.specs.Bare.{is_bare}
+use Rattle.sw_convert_again.specs.Spells.{Spells, unlisted, SpellsSigns, SpellsLinks, no_signs, more_signs, no_links, more_links}
 use Rattle.sw_convert_again.specs.Spells as spells
 use Rattle.sw_convert_again.specs.Again.{Reads, Found, Back, IsAgain, Again}
+use Rattle.sw_convert_again.proofs.Bare.{Plain, primaries_plain, sides_plain}
 use Rattle.sw_convert_again.proofs.Tokens.{old_of, old_begins, split, begins_more, of_set, operator_same, sign_same}
 
 -- what is listed is listed again
@@ -100,11 +102,11 @@ module _ (source written : Source) (n : ℕ) where
   module _ (operand : Again source written n primary) where
     unary_by : (i j k : ℕ) (w : List Part) (signs : List Sign) (tokens : List Tok) → SpellsSigns source i k signs tokens
         → ((p q : ℕ) → Stands written p tokens q → Row (Is (prefix written)) p q (map Signs signs))
-        → (e : Expr) (others : List Tok) → Spells source k j e others → Begins others
+        → (e : Expr) (others : List Tok) → Spells source k j e others → is_bare e ≡ false → Begins others
         → Back written n (primary written) e others
         → w ≡ prefixed (span_between source i j) signs (e ∷ []) → IsAgain source written n (unary written) i j w
     unfolding unary
-    unary_by i j k w [] tokens before row e others spelled begins back is = record {
+    unary_by i j k w [] tokens before row e others spelled alone begins back is = record {
       value = e;
       is = is;
       tokens = others;
@@ -119,12 +121,12 @@ module _ (source written : Source) (n : ℕ) where
       where
         none : {x y : ℕ} {ts : List Tok} → SpellsSigns source x y [] ts → x ≡ y
         none no_signs = refl
-    unary_by i j k w (first ∷ signs) tokens before row e others spelled begins back is =
+    unary_by i j k w (first ∷ signs) tokens before row e others spelled alone begins back is =
         let span = span_between source i j in record {
           value = expression (exprs.Prefixed (first ∷ signs) e) span;
           is = is;
           tokens = tokens ++ others;
-          spells = spells.prefixed first span before spelled;
+          spells = spells.prefixed first span before (unlisted alone spelled);
           begins = begins_more tokens others (sign_begins before);
           back = λ p q stand.
               let (place, left, right) = split written q tokens others p stand in
@@ -152,7 +154,7 @@ module _ (source written : Source) (n : ℕ) where
         e5 ∙ ap (λ (x : List Part). x ++ u2) before.is
         ∙ ap (λ (x : List Part). map Signs before.signs ++ x) value.is in
         unary_by i j k w before.signs before.tokens before.spells before.back value.value value.tokens value.spells
-        value.begins value.back
+        (primaries_plain source n k j u2 value.value d value.is) value.begins value.back
         (e6 ∙ ap (to_unary source i j) parts
         ∙ ap (λ (x : List Sign). prefixed (span_between source i j) x
         (values_of (map Signs before.signs ++ Values value.value ∷ [])))
@@ -160,7 +162,8 @@ module _ (source written : Source) (n : ℕ) where
         ∙ ap (prefixed (span_between source i j) before.signs) (operand_listed before.signs value.value))
 
   -- operators
-  module _ (precedence : Precedence) (side : Source → Grammar Part Form) (operand : Again source written n side) where
+  module _ (precedence : Precedence) (side : Source → Grammar Part Form) (operand : Again source written n side)
+      (alone : Plain source n (side source)) where
     record LinksAgain (i j : ℕ) (w : List Part) : Type 0 where
       links : List Link
       is : w ≡ map Links links
@@ -192,7 +195,8 @@ module _ (source written : Source) (n : ℕ) where
           is = ap (λ (x : List Part). x ++ v) same ∙ ap (λ (x : List Part). Links one ∷ x) rest.is;
           tokens = token ∷ (value.tokens ++ rest.tokens);
           spells = more_links precedence old
-              (subst (λ (x : ℕ). Spells source x k value.value value.tokens) e1 value.spells) rest.spells;
+              (unlisted (alone b k v2 value.value d value.is)
+              (subst (λ (x : ℕ). Spells source x k value.value value.tokens) e1 value.spells)) rest.spells;
           back = λ p q stand.
               let (place, left, right) = split written q value.tokens rest.tokens (suc p) stand.1 in
               let f = value.back (suc p) place left in
@@ -220,7 +224,8 @@ module _ (source written : Source) (n : ℕ) where
         → Like (expression (exprs.Chain a xs) s) (expression (exprs.Chain b ys) s')
     like_chain a b xs ys s s' l ls = like (alike.chain l ls)
 
-    chain_by : (i j k : ℕ) (w : List Part) (e : Expr) (tokens : List Tok) → Spells source i k e tokens → Begins tokens
+    chain_by : (i j k : ℕ) (w : List Part) (e : Expr) (tokens : List Tok) → Spells source i k e tokens
+        → is_bare e ≡ false → Begins tokens
         → Back written n (side written) e tokens → (links : List Link) (others : List Tok)
         → SpellsLinks source k j links others
         → ((p q : ℕ) → Stands written p others q
@@ -228,7 +233,7 @@ module _ (source written : Source) (n : ℕ) where
         links found)
         → w ≡ chained (span_between source i j) (e ∷ []) links
         → IsAgain source written n (linked written precedence (side written)) i j w
-    chain_by i j k w e tokens spelled begins back [] others before row is = record {
+    chain_by i j k w e tokens spelled plain begins back [] others before row is = record {
       value = e;
       is = is;
       tokens = tokens;
@@ -243,12 +248,12 @@ module _ (source written : Source) (n : ℕ) where
       where
         none : {x y : ℕ} {ts : List Tok} → SpellsLinks source x y [] ts → x ≡ y
         none no_links = refl
-    chain_by i j k w e tokens spelled begins back (first ∷ links) others before row is =
+    chain_by i j k w e tokens spelled plain begins back (first ∷ links) others before row is =
         let span = span_between source i j in record {
           value = expression (exprs.Chain e (first ∷ links)) span;
           is = is;
           tokens = tokens ++ others;
-          spells = spells.chain first span spelled before;
+          spells = spells.chain first span (unlisted plain spelled) before;
           begins = begins_more tokens others begins;
           back = λ p q stand.
               let (place, left, right) = split written q tokens others p stand in
@@ -286,7 +291,8 @@ module _ (source written : Source) (n : ℕ) where
         let parts : u ≡ Values value.value ∷ map Links rest.links =
         e5 ∙ ap (λ (x : List Part). x ++ u2) value.is
         ∙ ap (λ (x : List Part). Values value.value ∷ x) rest.is in
-        chain_by i j k w value.value value.tokens value.spells value.begins value.back rest.links rest.tokens
+        chain_by i j k w value.value value.tokens value.spells
+        (alone i k u1 value.value d value.is) value.begins value.back rest.links rest.tokens
         rest.spells rest.back
         (e6 ∙ ap (to_chain source i j) parts
         ∙ ap (λ (x : List Expr). chained (span_between source i j) (value.value ∷ x)
@@ -297,24 +303,24 @@ module _ (source written : Source) (n : ℕ) where
   module _ (operand : Again source written n primary) where
     product_again : Again source written n product
     unfolding product
-    product_again = linked_again precedences.Product unary (unary_again operand)
+    product_again = linked_again precedences.Product unary (unary_again operand) (sides_plain source n precedences.Product)
 
     pub sum_again : Again source written n sum
     unfolding sum
-    sum_again = linked_again precedences.Sum product product_again
+    sum_again = linked_again precedences.Sum product product_again (sides_plain source n precedences.Sum)
 
     relation_again : Again source written n relation
     unfolding relation
-    relation_again = linked_again precedences.Relation sum sum_again
+    relation_again = linked_again precedences.Relation sum sum_again (sides_plain source n precedences.Relation)
 
     equality_again : Again source written n equality
     unfolding equality
-    equality_again = linked_again precedences.Equality relation relation_again
+    equality_again = linked_again precedences.Equality relation relation_again (sides_plain source n precedences.Equality)
 
     conjunction_again : Again source written n conjunction
     unfolding conjunction
-    conjunction_again = linked_again precedences.And equality equality_again
+    conjunction_again = linked_again precedences.And equality equality_again (sides_plain source n precedences.And)
 
     pub disjunction_again : Again source written n disjunction
     unfolding disjunction
-    disjunction_again = linked_again precedences.Or conjunction conjunction_again
+    disjunction_again = linked_again precedences.Or conjunction conjunction_again (sides_plain source n precedences.Or)

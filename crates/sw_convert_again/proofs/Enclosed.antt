@@ -18,9 +18,10 @@ use Rattle.sw_parse_table.specs.Expressions.{brackets, items, parens, inside, pa
 use Rattle.sw_convert_alike.specs.Expressions.{Like, LikePairs, like}
 use Rattle.sw_convert_alike.specs.Expressions as alike
 use Rattle.sw_convert_again.specs.Tokens.{Tok, sign, Stands, Old}
-use Rattle.sw_convert_again.specs.Spells.{Spells, SpellsPairs, no_pairs, more_pairs, within, paren}
+use Rattle.sw_convert_again.specs.Spells.{Spells, SpellsPlain, unlisted, SpellsPairs, no_pairs, more_pairs, within, paren}
 use Rattle.sw_convert_again.specs.Spells as spells
 use Rattle.sw_convert_again.specs.Again.{Reads, Found, Again}
+use Rattle.sw_convert_again.proofs.Bare.{spaces_plain}
 use Rattle.sw_convert_again.proofs.Tokens.{old_of, is_of, split}
 use Rattle.sw_convert_again.proofs.Around.{like_in_brackets, like_in_parens}
 use Rattle.sw_convert_again.proofs.Lists.{values_listed, listed_again}
@@ -108,7 +109,7 @@ module _ (source written : Source) (n : ℕ) (operand : Again source written n s
     pub is : w ≡ Values value ∷ []
     pub colon : Old source i (just terminals.Colon)
     pub tokens : List Tok
-    pub spells : Spells source (suc i) j value tokens
+    pub spells : SpellsPlain source (suc i) j value tokens
     pub back : (p q : ℕ) → Stands written p (sign terminals.Colon ∷ tokens) q
         → Found written n (colon_space written) value p q
 
@@ -120,7 +121,8 @@ module _ (source written : Source) (n : ℕ) (operand : Again source written n s
         is = e3 ∙ ap (λ (x : List Part). x ++ v) e2 ∙ one.is;
         colon = old_of source i (just terminals.Colon) refl m;
         tokens = one.tokens;
-        spells = subst (λ (x : ℕ). Spells source x j one.value one.tokens) e1 one.spells;
+        spells = unlisted (spaces_plain source n k j v one.value d one.is)
+            (subst (λ (x : ℕ). Spells source x j one.value one.tokens) e1 one.spells);
         back = λ p q stand. let f = one.back (suc p) q stand.1 in record {
           found = f.found;
           reads = (
@@ -171,7 +173,8 @@ module _ (source written : Source) (n : ℕ) (operand : Again source written n s
         pairs = one ∷ rest.pairs;
         is = ap (λ (t : List Part). t ++ v) same ∙ ap (λ (t : List Part). Pairs one ∷ t) rest.is;
         tokens = sign terminals.Comma ∷ (key.tokens ++ sign terminals.Colon ∷ (value.tokens ++ rest.tokens));
-        spells = more_pairs (old_of source i (just terminals.Comma) refl m) key.spells value.colon value.spells
+        spells = more_pairs (old_of source i (just terminals.Comma) refl m)
+            (unlisted (spaces_plain source n (suc i) place y key.value dk key.is) key.spells) value.colon value.spells
             rest.spells;
         back = λ p q stand.
             let (a, left, right) = split written q key.tokens (sign terminals.Colon ∷ (value.tokens ++ rest.tokens))
@@ -288,7 +291,9 @@ module _ (source written : Source) (n : ℕ) (operand : Again source written n s
             ∙ ap (λ (x : List Pair). value_of (exprs.Map (one ∷ x)) span) (pairs_listed rest.pairs);
         tokens = tokens;
         spells = λ open_at e open_old close_old span.
-            spells.map span open_old (subst (λ (x : ℕ). Spells source x k key.value key.tokens) (sym e) key.spells)
+            spells.map span open_old
+            (unlisted (spaces_plain source n i k u1 key.value d key.is)
+            (subst (λ (x : ℕ). Spells source x k key.value key.tokens) (sym e) key.spells))
             value.colon value.spells
             rest.spells (old_end stop j end) close_old;
         back = λ p q stand.

@@ -1,6 +1,6 @@
 -- Values of one token or a few are read again.
 use Rattle.std.proofs.Common.{◌≡◌, ℕ, suc, ◌+◌, Bool, true, false, if◌then◌else◌, List, [], ◌∷◌, ◌++◌, inl, inr, refl, sym, ◌∙◌, ap, subst, arith}
-use Rattle.sw_parse_grammar.specs.Grammar.{member}
+use Rattle.sw_parse_grammar.specs.Grammar.{member, skip, seq, alt}
 use Rattle.sw_text.specs.Names.{dashed}
 use Rattle.sw_text.specs.declared.place.Span.{Span}
 use Rattle.sw_tree.specs.declared.text.Parts.{Parts}
@@ -20,10 +20,10 @@ use Rattle.sw_parse_table.specs.Values.{expression, value_of, to_variable}
 use Rattle.sw_parse_table.specs.Expressions.{number, quoted, hash, constant, url, variable, range, parent, important}
 use Rattle.sw_convert_alike.specs.Expressions.{Like, LikeParts, LikePieces, like, plain}
 use Rattle.sw_convert_alike.specs.Expressions as alike
-use Rattle.sw_convert_again.specs.Tokens.{tok, sign, Begins, Dashed, Decoded, Bytes, Numeral, Plain, Stands}
-use Rattle.sw_convert_again.specs.Spells.{Spells, below_zero, number_tokens, dollar}
+use Rattle.sw_convert_again.specs.Tokens.{tok, sign, Begins, Dashed, Decoded, Bytes, Numeral, Plain, Stands, Old}
+use Rattle.sw_convert_again.specs.Spells.{Spells, OldNumber, unsigned, signed, below_zero, number_tokens, dollar}
 use Rattle.sw_convert_again.specs.Spells as spells
-use Rattle.sw_convert_again.specs.Again.{Found, Again}
+use Rattle.sw_convert_again.specs.Again.{Reads, Found, Again}
 use Rattle.sw_convert_again.proofs.Tokens.{old_of, is_of, old_begins, of_set, constant_same}
 
 -- texts are alike as they stand
@@ -90,6 +90,18 @@ module _ (source written : Source) (n : ℕ) where
   number_begins true value = refl
   number_begins false value = refl
 
+  old_number : (i j : ℕ) (u : List Part)
+      → Reads source n (alt (seq (skip (just terminals.Sign)) (skip (just terminals.Number))) (skip (just terminals.Number)))
+      i j u
+      → OldNumber source i j
+  old_number i j u (inl (k, u1, u2, (m1, e1, e2), (m2, e3, e4), e5)) =
+      let second = old_of source k (just terminals.Number) refl m2 in
+      subst (λ (x : ℕ). OldNumber source i x) (sym (e3 ∙ ap suc e1))
+      (signed (old_of source i (just terminals.Sign) refl m1)
+      (subst (λ (x : ℕ). Old source x (just terminals.Number)) e1 second))
+  old_number i j u (inr (m, e1, e2)) =
+      subst (λ (x : ℕ). OldNumber source i x) (sym e1) (unsigned (old_of source i (just terminals.Number) refl m))
+
   pub number_again : Again source written n number
   unfolding number
   number_again i j w (u, d, e) =
@@ -98,7 +110,7 @@ module _ (source written : Source) (n : ℕ) where
         value = expression (exprs.Number value) span;
         is = e;
         tokens = number_tokens value;
-        spells = spells.number value span refl;
+        spells = spells.number value span refl (old_number i j u d);
         begins = number_begins (below_zero value) value;
         back = number_back (below_zero value) value span;
       }

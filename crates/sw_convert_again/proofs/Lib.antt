@@ -1,7 +1,8 @@
 pub mod Lasts
-mod Ends
+pub mod Ends
 pub mod Whole
 pub mod Tokens
+pub mod Bare
 pub mod Leaves
 pub mod Templates
 pub mod Rows
@@ -13,21 +14,21 @@ pub mod Around
 pub mod Enclosed
 pub mod Dollars
 pub mod Arguments
-mod Owned
-mod Extents
-mod Special
-mod Values
-mod RawTexts
-mod Statements
-mod Variables
-mod Customs
-mod Contents
-mod Loops
-mod AtRules
-mod Params
-mod Callables
-mod Includes
-mod Branches
-mod Declarations
-mod Nested
-mod Blocks
+pub mod Owned
+pub mod Extents
+pub mod Special
+pub mod Values
+pub mod RawTexts
+pub mod Statements
+pub mod Variables
+pub mod Customs
+pub mod Contents
+pub mod Loops
+pub mod AtRules
+pub mod Params
+pub mod Callables
+pub mod Includes
+pub mod Branches
+pub mod Declarations
+pub mod Nested
+pub mod Blocks

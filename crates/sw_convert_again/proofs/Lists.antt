@@ -21,10 +21,12 @@ use Rattle.sw_convert_alike.specs.Expressions.{Like, LikeItems, like}
 use Rattle.sw_convert_alike.specs.Expressions as alike
 use Rattle.sw_convert_again.specs.Lasts.{last}
 use Rattle.sw_convert_again.specs.Tokens.{Tok, sign, Stands, Old, Begins}
-use Rattle.sw_convert_again.specs.Spells.{Spells, SpellsItems, SpellsCommas, no_items, more_items, no_commas, more_commas}
+use Rattle.sw_convert_again.specs.Bare.{is_bare}
+use Rattle.sw_convert_again.specs.Spells.{Spells, unlisted, SpellsItems, SpellsCommas, no_items, more_items, no_commas, more_commas}
 use Rattle.sw_convert_again.specs.Spells as spells
 use Rattle.sw_convert_again.specs.Again.{Reads, Found, Back, IsAgain, Again}
 use Rattle.sw_convert_again.proofs.Lasts.{le, null, ends, derives_le}
+use Rattle.sw_convert_again.proofs.Bare.{disjunctions_plain, spaces_plain}
 use Rattle.sw_convert_again.proofs.Tokens.{old_of, is_of, split, begins_more, unending}
 
 pub values_listed : (es : List Expr) → values_of (map Values es) ≡ es
@@ -119,7 +121,7 @@ module _ (source written : Source) (n : ℕ) where
           values = one.value ∷ rest.values;
           is = ap (λ (x : List Part). x ++ v) one.is ∙ ap (λ (x : List Part). Values one.value ∷ x) rest.is;
           tokens = one.tokens ++ rest.tokens;
-          spells = more_items one.spells rest.spells;
+          spells = more_items (unlisted (disjunctions_plain source n i k u one.value d one.is) one.spells) rest.spells;
           back = λ p q stand.
               let (place, left, right) = split written q one.tokens rest.tokens p stand in
               let f = one.back p place left in
@@ -131,14 +133,15 @@ module _ (source written : Source) (n : ℕ) where
               );
         }
 
-    space_by : (i j k : ℕ) (w : List Part) (e : Expr) (tokens : List Tok) → Spells source i k e tokens → Begins tokens
+    space_by : (i j k : ℕ) (w : List Part) (e : Expr) (tokens : List Tok) → Spells source i k e tokens
+        → is_bare e ≡ false → Begins tokens
         → Back written n (disjunction written) e tokens → (es : List Expr) (others : List Tok)
         → SpellsItems source k j es others
         → ((p q : ℕ) → Stands written p others q
         → (found : List Expr) × Row (Is (space_item written)) p q (map Values found) × LikeItems es found)
         → w ≡ spaced (span_between source i j) (e ∷ es) → IsAgain source written n (space written) i j w
     unfolding space
-    space_by i j k w e tokens spelled begins back [] others before row is = record {
+    space_by i j k w e tokens spelled alone begins back [] others before row is = record {
       value = e;
       is = is;
       tokens = tokens;
@@ -153,11 +156,11 @@ module _ (source written : Source) (n : ℕ) where
       where
         none : {x y : ℕ} {ts : List Tok} → SpellsItems source x y [] ts → x ≡ y
         none no_items = refl
-    space_by i j k w e tokens spelled begins back (next ∷ es) others before row is = record {
+    space_by i j k w e tokens spelled alone begins back (next ∷ es) others before row is = record {
       value = expression (exprs.List (e ∷ next ∷ es) separators.Space arounds.Nothing) (span_between source i j);
       is = is;
       tokens = tokens ++ others;
-      spells = spells.spaced next (span_between source i j) spelled before;
+      spells = spells.spaced next (span_between source i j) (unlisted alone spelled) before;
       begins = begins_more tokens others begins;
       back = λ p q stand.
           let (place, left, right) = split written q tokens others p stand in
@@ -191,7 +194,8 @@ module _ (source written : Source) (n : ℕ) where
         let rest = items_again row in
         let parts : u ≡ Values one.value ∷ map Values rest.values =
         e5 ∙ ap (λ (x : List Part). x ++ u2) one.is ∙ ap (λ (x : List Part). Values one.value ∷ x) rest.is in
-        space_by i j k w one.value one.tokens one.spells one.begins one.back rest.values rest.tokens rest.spells
+        space_by i j k w one.value one.tokens one.spells (disjunctions_plain source n i k u1 one.value d one.is) one.begins
+        one.back rest.values rest.tokens rest.spells
         rest.back
         (e6 ∙ ap (to_space source i j) parts
         ∙ ap (λ (x : List Expr). spaced (span_between source i j) (one.value ∷ x)) (values_listed rest.values))
@@ -230,7 +234,7 @@ module _ (source written : Source) (n : ℕ) where
           values = one.value ∷ rest.values;
           is = ap (λ (x : List Part). x ++ v) one.is ∙ ap (λ (x : List Part). Values one.value ∷ x) rest.is;
           tokens = sign terminals.Comma ∷ (one.tokens ++ rest.tokens);
-          spells = more_commas old one.spells rest.spells;
+          spells = more_commas old (unlisted (spaces_plain source n (suc i) k u one.value d one.is) one.spells) rest.spells;
           back = λ p q stand.
               let (place, left, right) = split written q one.tokens rest.tokens (suc p) stand.1 in
               let f = one.back (suc p) place left in
@@ -288,7 +292,7 @@ module _ (source written : Source) (n : ℕ) where
   none_left no_commas = refl
 
   module _ (i j k m : ℕ) (w : List Part) (e : Expr) (tokens : List Tok) (spelled : Spells source i k e tokens)
-      (begins : Begins tokens)
+      (alone : is_bare e ≡ false) (begins : Begins tokens)
       (back : Back written n (space written) e tokens) (calm : ends_with_comma source k ≡ false) (end : End m j) where
     listed_by : (ended : Bool) → ends_with_comma source j ≡ ended → (es : List Expr) (others : List Tok)
         → SpellsCommas source k m es others
@@ -326,7 +330,7 @@ module _ (source written : Source) (n : ℕ) where
           spells = subst
               (λ (x : ℕ). Spells source i x (comma_list (span_between source i j) (e ∷ []))
               (tokens ++ sign terminals.Comma ∷ [])) (sym at)
-              (spells.comma_one (span_between source i j) spelled old);
+              (spells.comma_one (span_between source i j) (unlisted alone spelled) old);
           begins = begins_more tokens (sign terminals.Comma ∷ []) begins;
           back = λ p q stand.
               let (place, left, right) = split written q tokens (sign terminals.Comma ∷ []) p stand in
@@ -351,7 +355,7 @@ module _ (source written : Source) (n : ℕ) where
       value = comma_list (span_between source i j) (e ∷ next ∷ es);
       is = is;
       tokens = tokens ++ others;
-      spells = spells.comma_more next (span_between source i j) spelled before (old_end m j end);
+      spells = spells.comma_more next (span_between source i j) (unlisted alone spelled) before (old_end m j end);
       begins = begins_more tokens others begins;
       back = λ p q stand.
           let (place, left, right) = split written q tokens others p stand in
@@ -389,7 +393,8 @@ module _ (source written : Source) (n : ℕ) where
     listed_again i j k m u v w d row end is =
         let one = operand i k u d in
         let rest = commas_again operand row in
-        listed_by i j k m w one.value one.tokens one.spells one.begins one.back (uncommaed source n i k u d) end
+        listed_by i j k m w one.value one.tokens one.spells (spaces_plain source n i k u one.value d one.is) one.begins
+        one.back (uncommaed source n i k u d) end
         (ends_with_comma source j)
         refl rest.values rest.tokens rest.spells rest.back (is one.value rest.values one.is rest.is)
 

@@ -13,7 +13,7 @@ use Rattle.sw_parse_table.specs.Actions.{name_at, params_with, to_param, to_para
 use Rattle.sw_parse_table.specs.Statements.{param, taking, params}
 use Rattle.sw_convert_alike.specs.Statements.{LikeEach, LikeParam, LikeParams}
 use Rattle.sw_convert_again.specs.Tokens.{Tok, sign, Stands, Old}
-use Rattle.sw_convert_again.specs.Spells.{Spells}
+use Rattle.sw_convert_again.specs.Spells.{SpellsPlain}
 use Rattle.sw_convert_again.specs.Again.{Reads}
 use Rattle.sw_convert_again.specs.Params.{SpellsParam, plain_param, default_param, rest_param, SpellsMoreParams, no_more_params, more_params, SpellsParams, no_params, some_params, dollar_tokens, after_comma, comma_joined, rest_texts, params_in, SpellsHeadParams, in_head}
 use Rattle.sw_convert_again.proofs.Tokens.{old_of, is_of, split}
@@ -133,7 +133,7 @@ module _ (source written : Source) (n : ℕ) where
         is = e2 ∙ ap (to_param source i j) parts;
         texts = (dollar_tokens (name_at source (suc i)) ++ sign terminals.Colon ∷ value.tokens) ∷ [];
         spells = default_param name.2 name.3 (subst (λ (x : ℕ). Old source x (just terminals.Colon)) name.0 value.colon)
-            (subst (λ (x : ℕ). Spells source (suc x) j value.value value.tokens) name.0 value.spells);
+            (subst (λ (x : ℕ). SpellsPlain source (suc x) j value.value value.tokens) name.0 value.spells);
         fits = fit_more
             (λ p q stand.
             let (place, left, right) = split written q (dollar_tokens (name_at source (suc i))) (sign terminals.Colon ∷ value.tokens) p stand in

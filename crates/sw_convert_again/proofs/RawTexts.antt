@@ -19,16 +19,16 @@ use Rattle.sw_convert_again.proofs.Extents.{LikeValues, none, inserted, shift, b
 use Rattle.sw_convert_again.proofs.Values.{values_again}
 
 -- the first of these tokens says nothing
-abbrev Unsaid : List Tok → Type 0
+abbrev pub Unsaid : List Tok → Type 0
 Unsaid [] = ⊥
 Unsaid (token ∷ tokens) = token.said ≡ Nothing
 
-unsaid_more : (tokens others : List Tok) → Unsaid tokens → Unsaid (tokens ++ others)
+pub unsaid_more : (tokens others : List Tok) → Unsaid tokens → Unsaid (tokens ++ others)
 unsaid_more [] others u = absurd u
 unsaid_more (token ∷ tokens) others u = u
 
 -- what it says where it says something
-unsaid : (source : Source) (said : Said) (tokens : List Tok) → Unsaid tokens → (p q : ℕ)
+pub unsaid : (source : Source) (said : Said) (tokens : List Tok) → Unsaid tokens → (p q : ℕ)
     → Stands source p (saying said tokens) q → Stands source p tokens q × Says source p said
 unsaid source said [] u p q s = absurd u
 unsaid source said (token ∷ tokens) u p q (is, more) = (

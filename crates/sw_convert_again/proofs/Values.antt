@@ -1,7 +1,7 @@
 -- All values are read again, by their productions and through any number of brackets.
 use Rattle.std.proofs.Common.{◌≡◌, ℕ, zero, suc, inl, inr, subst, arith}
 use Rattle.sw_parse_table.specs.declared.source.Source.{Source}
-use Rattle.sw_parse_table.specs.Expressions.{number, quoted, template, hash, constant, url, url_template, special, variable, owned, called, range, parent, important, parens, brackets, literal, other, primary, space, expr}
+use Rattle.sw_parse_table.specs.Expressions.{number, quoted, template, hash, constant, url, url_template, special, variable, owned, called, range, parent, important, parens, brackets, literal, other, primary, sum, space, expr}
 use Rattle.sw_convert_again.specs.Again.{Again, called_by_name, called_by_owner, ValuesAgain}
 use Rattle.sw_convert_again.proofs.Leaves.{number_again, quoted_again, hash_again, constant_again, url_again, variable_again, range_again, parent_again, important_again}
 use Rattle.sw_convert_again.proofs.Templates.{template_again}
@@ -10,7 +10,7 @@ use Rattle.sw_convert_again.proofs.Owned.{into, owned_again}
 use Rattle.sw_convert_again.proofs.Special.{ItemsAgain, item_again, special_again}
 use Rattle.sw_convert_again.proofs.Words.{called_again}
 use Rattle.sw_convert_again.proofs.Arguments.{named_calls_again, owned_calls_again}
-use Rattle.sw_convert_again.proofs.Chains.{disjunction_again}
+use Rattle.sw_convert_again.proofs.Chains.{sum_again, disjunction_again}
 use Rattle.sw_convert_again.proofs.Lists.{space_again, expr_again}
 use Rattle.sw_convert_again.proofs.Enclosed.{brackets_again, parens_again}
 
@@ -69,8 +69,9 @@ module _ (source written : Source) (n : ℕ) where
       into source written n (brackets written) (primary written) (λ p q x r. inr (inr (inr (inr (inr (inr (inr (inr (inr r))))))))) i
       j w (square i j w d)
 
--- with so many brackets around: lists without commas, and items of the text of special functions
+-- with so many brackets around: sums, lists without commas, and items of the text of special functions
 record Claim (source written : Source) (n : ℕ) : Type 0 where
+  sums : Again source written n sum
   spaces : Again source written n space
   items : ItemsAgain source written n
 
@@ -83,12 +84,12 @@ module _ (source written : Source) where
       → Again source written m expr = λ m e. expr_again source written m (deep_space m e) in
       let deep_items : (m : ℕ) → n ≡ suc m → ItemsAgain source written m = λ m e. (deep m e).items in
       let calls = named_calls_again source written n deep_expr deep_space in
-      let owned_calls = owned_calls_again source written n deep_expr deep_space in record {
-        spaces = space_again source written n
-            (disjunction_again source written n
-            (primary_again source written n deep_expr (special_again source written n deep_items) calls owned_calls
-            (template_again source written n deep_expr)
-            (parens_again source written n deep_space) (brackets_again source written n deep_expr)));
+      let owned_calls = owned_calls_again source written n deep_expr deep_space in
+      let operands = primary_again source written n deep_expr (special_again source written n deep_items) calls owned_calls
+      (template_again source written n deep_expr)
+      (parens_again source written n deep_space) (brackets_again source written n deep_expr) in record {
+        sums = sum_again source written n operands;
+        spaces = space_again source written n (disjunction_again source written n operands);
         items = item_again source written n deep_expr deep_items (owned_again source written n owned_calls)
             (called_again source written n deep_expr calls);
       }
@@ -101,6 +102,9 @@ module _ (source written : Source) where
 
 pub values_again : ValuesAgain
 values_again source written n = expr_again source written n (claims source written n).spaces
+
+pub sums_again : (source written : Source) (n : ℕ) → Again source written n sum
+sums_again source written n = (claims source written n).sums
 
 pub spaces_again : (source written : Source) (n : ℕ) → Again source written n space
 spaces_again source written n = (claims source written n).spaces

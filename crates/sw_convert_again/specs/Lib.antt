@@ -1,9 +1,13 @@
 pub mod Closed
 pub mod Lasts
 pub mod Tokens
+pub mod Bare
 pub mod Spells
 pub mod Again
 pub mod RawTexts
 pub mod Params
+pub mod Comments
+pub mod Loads
+pub mod Queries
 pub mod Statements
 pub mod Claims

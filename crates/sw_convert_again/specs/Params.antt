@@ -13,7 +13,7 @@ use Rattle.sw_parse_table.specs.Sources.{bytes_at}
 use Rattle.sw_parse_table.specs.Values.{namespaced}
 use Rattle.sw_parse_table.specs.Actions.{name_at, params_with}
 use Rattle.sw_convert_again.specs.Tokens.{Dashed, Bytes, Tok, tok, sign, Old}
-use Rattle.sw_convert_again.specs.Spells.{Spells, dollar, within}
+use Rattle.sw_convert_again.specs.Spells.{SpellsPlain, dollar, within}
 
 -- the name of a variable
 abbrev pub dollar_tokens : List ℕ → List Tok
@@ -26,7 +26,7 @@ pub data SpellsParam (source : Source) : ℕ → ℕ → Part → List (List Tok
       (dollar_tokens (name_at source (suc i)) ∷ [])
   default_param : {i j : ℕ} {value : Expr} {tokens : List Tok} → Old source i dollars
       → Old source (suc i) (just terminals.VariableName) → Old source (suc (suc i)) (just terminals.Colon)
-      → Spells source (suc (suc (suc i))) j value tokens
+      → SpellsPlain source (suc (suc (suc i))) j value tokens
       → SpellsParam source i j (Takes (record { name = name_at source (suc i); default = Some value }))
       ((dollar_tokens (name_at source (suc i)) ++ sign terminals.Colon ∷ tokens) ∷ [])
   rest_param : {i : ℕ} → Old source i dollars → Old source (suc i) (just terminals.VariableName)

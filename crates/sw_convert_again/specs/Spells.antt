@@ -28,6 +28,7 @@ use Rattle.sw_parse_table.specs.Numerals.{numeral}
 use Rattle.sw_parse_table.specs.Operators.{operator_at, sign_at, constant_at}
 use Rattle.sw_parse_table.specs.Sets.{constants, dollars, bangs, parens_opening, prefixes, operators, special_texts}
 use Rattle.sw_parse_table.specs.Values.{expression, comma_list, in_parens, in_brackets, qualified_of, argument_of, callee_of, namespaced}
+use Rattle.sw_convert_again.specs.Bare.{is_bare}
 use Rattle.sw_convert_again.specs.Tokens.{Said, Nothing, Dashed, Decoded, Bytes, Numeral, Plain, Before, All, Between, Behind, text_up_to, text_to_end, Tok, tok, sign, Old, Parted, Extent, extent, shifted, around}
 
 abbrev pub below_zero : Number → Bool
@@ -95,10 +96,16 @@ text_said source at place parts [] count = Plain count (parts_between source at 
 text_said source at place parts (one ∷ extents) count =
     Parted count (one ∷ extents) (around source (stretch_between source at place) (extents_of parts))
 
+-- a number that was read, with a sign or without one
+pub data OldNumber (source : Source) : ℕ → ℕ → Type 0 where
+  unsigned : {i : ℕ} → Old source i (just terminals.Number) → OldNumber source i (suc i)
+  signed : {i : ℕ} → Old source i (just terminals.Sign) → Old source (suc i) (just terminals.Number)
+      → OldNumber source i (suc (suc i))
+
 mutual
   pub data Spells (source : Source) : ℕ → ℕ → Expr → List Tok → Type 0 where
     number : {i j : ℕ} → (number : Number) (span : Span) → numeral (bytes_between source i j) ≡ number
-        → Spells source i j (expression (exprs.Number number) span) (number_tokens number)
+        → OldNumber source i j → Spells source i j (expression (exprs.Number number) span) (number_tokens number)
     quoted : {i : ℕ} → (span : Span) → Old source i (just terminals.Quoted)
         → Spells source i (suc i) (expression (exprs.Quoted (PlainParts (decoded_at source i))) span)
         (tok terminals.Quoted (Decoded (decoded_at source i)) ∷ [])
@@ -173,22 +180,22 @@ mutual
         (sign terminals.Bang ∷ sign terminals.Important ∷ [])
     prefixed : {i k j : ℕ} {signs : List Sign} {operand : Expr} {before tokens : List Tok}
         → (first : Sign) (span : Span)
-        → SpellsSigns source i k (first ∷ signs) before → Spells source k j operand tokens
+        → SpellsSigns source i k (first ∷ signs) before → SpellsPlain source k j operand tokens
         → Spells source i j (expression (exprs.Prefixed (first ∷ signs) operand) span) (before ++ tokens)
     chain : {i k j : ℕ} {first : Expr} {links : List Link} {tokens others : List Tok} → (link : Link) (span : Span)
-        → Spells source i k first tokens → SpellsLinks source k j (link ∷ links) others
+        → SpellsPlain source i k first tokens → SpellsLinks source k j (link ∷ links) others
         → Spells source i j (expression (exprs.Chain first (link ∷ links)) span) (tokens ++ others)
     spaced : {i k j : ℕ} {first : Expr} {items : List Expr} {tokens others : List Tok} → (next : Expr) (span : Span)
-        → Spells source i k first tokens → SpellsItems source k j (next ∷ items) others
+        → SpellsPlain source i k first tokens → SpellsItems source k j (next ∷ items) others
         → Spells source i j (expression (exprs.List (first ∷ next ∷ items) separators.Space arounds.Nothing) span)
         (tokens ++ others)
     -- one item keeps the comma behind it, more lose it
-    comma_one : {i k : ℕ} {item : Expr} {tokens : List Tok} → (span : Span) → Spells source i k item tokens
+    comma_one : {i k : ℕ} {item : Expr} {tokens : List Tok} → (span : Span) → SpellsPlain source i k item tokens
         → Old source k (just terminals.Comma)
         → Spells source i (suc k) (comma_list span (item ∷ [])) (tokens ++ sign terminals.Comma ∷ [])
     comma_more : {i k m j : ℕ} {first : Expr} {items : List Expr} {tokens others : List Tok}
         → (next : Expr) (span : Span)
-        → Spells source i k first tokens → SpellsCommas source k m (next ∷ items) others
+        → SpellsPlain source i k first tokens → SpellsCommas source k m (next ∷ items) others
         → (j ≡ m) ⊎ ((j ≡ suc m) × Old source m (just terminals.Comma))
         → Spells source i j (comma_list span (first ∷ next ∷ items)) (tokens ++ others)
     in_brackets_none : {i : ℕ} → (span : Span) → Old source i (just terminals.Bracket)
@@ -207,12 +214,17 @@ mutual
         → Spells source (suc i) k value tokens → Old source k (just terminals.ParenEnd)
         → Spells source i (suc k) (in_parens span value) (within paren tokens terminals.ParenEnd)
     map : {i k m stop close : ℕ} {key value : Expr} {pairs : List Pair} {tokens others more : List Tok} → (span : Span)
-        → Old source i parens_opening → Spells source (suc i) k key tokens → Old source k (just terminals.Colon)
-        → Spells source (suc k) m value others → SpellsPairs source m stop pairs more
+        → Old source i parens_opening → SpellsPlain source (suc i) k key tokens → Old source k (just terminals.Colon)
+        → SpellsPlain source (suc k) m value others → SpellsPairs source m stop pairs more
         → (close ≡ stop) ⊎ ((close ≡ suc stop) × Old source stop (just terminals.Comma))
         → Old source close (just terminals.ParenEnd)
         → Spells source i (suc close) (expression (exprs.Map (record { key = key; value = value } ∷ pairs)) span)
         (within paren (tokens ++ sign terminals.Colon ∷ (others ++ more)) terminals.ParenEnd)
+
+  -- a value that is no list with commas and without brackets
+  pub data SpellsPlain (source : Source) : ℕ → ℕ → Expr → List Tok → Type 0 where
+    unlisted : {i j : ℕ} {value : Expr} {tokens : List Tok} → is_bare value ≡ false → Spells source i j value tokens
+        → SpellsPlain source i j value tokens
 
   -- signs before an operand
   pub data SpellsSigns (source : Source) : ℕ → ℕ → List Sign → List Tok → Type 0 where
@@ -225,7 +237,7 @@ mutual
   pub data SpellsLinks (source : Source) : ℕ → ℕ → List Link → List Tok → Type 0 where
     no_links : {i : ℕ} → SpellsLinks source i i [] []
     more_links : {i k j : ℕ} {operand : Expr} {links : List Link} {tokens others : List Tok} → (precedence : Precedence)
-        (old : Old source i (operators precedence)) → Spells source (suc i) k operand tokens
+        (old : Old source i (operators precedence)) → SpellsPlain source (suc i) k operand tokens
         → SpellsLinks source k j links others
         → SpellsLinks source i j (record { operator = operator_at source i; operand = operand } ∷ links)
         (sign old.lexeme.terminal ∷ (tokens ++ others))
@@ -234,14 +246,14 @@ mutual
   pub data SpellsItems (source : Source) : ℕ → ℕ → List Expr → List Tok → Type 0 where
     no_items : {i : ℕ} → SpellsItems source i i [] []
     more_items : {i k j : ℕ} {item : Expr} {items : List Expr} {tokens others : List Tok}
-        → Spells source i k item tokens
+        → SpellsPlain source i k item tokens
         → SpellsItems source k j items others → SpellsItems source i j (item ∷ items) (tokens ++ others)
 
   -- the same with a comma before each
   pub data SpellsCommas (source : Source) : ℕ → ℕ → List Expr → List Tok → Type 0 where
     no_commas : {i : ℕ} → SpellsCommas source i i [] []
     more_commas : {i k j : ℕ} {item : Expr} {items : List Expr} {tokens others : List Tok}
-        → Old source i (just terminals.Comma) → Spells source (suc i) k item tokens
+        → Old source i (just terminals.Comma) → SpellsPlain source (suc i) k item tokens
         → SpellsCommas source k j items others
         → SpellsCommas source i j (item ∷ items) (sign terminals.Comma ∷ (tokens ++ others))
 
@@ -249,8 +261,9 @@ mutual
   pub data SpellsPairs (source : Source) : ℕ → ℕ → List Pair → List Tok → Type 0 where
     no_pairs : {i : ℕ} → SpellsPairs source i i [] []
     more_pairs : {i k m j : ℕ} {key value : Expr} {pairs : List Pair} {tokens others more : List Tok}
-        → Old source i (just terminals.Comma) → Spells source (suc i) k key tokens → Old source k (just terminals.Colon)
-        → Spells source (suc k) m value others → SpellsPairs source m j pairs more
+        → Old source i (just terminals.Comma) → SpellsPlain source (suc i) k key tokens
+        → Old source k (just terminals.Colon)
+        → SpellsPlain source (suc k) m value others → SpellsPairs source m j pairs more
         → SpellsPairs source i j (record { key = key; value = value } ∷ pairs)
         (sign terminals.Comma ∷ (tokens ++ sign terminals.Colon ∷ (others ++ more)))
 
@@ -336,13 +349,13 @@ mutual
   pub data SpellsArgument (source : Source) : ℕ → ℕ → Argument → List Tok → Type 0 where
     named_argument : {i j : ℕ} {value : Expr} {tokens : List Tok} → Old source i (just terminals.DollarNamed)
         → Old source (suc i) (just terminals.VariableName) → Old source (suc (suc i)) (just terminals.Colon)
-        → Spells source (suc (suc (suc i))) j value tokens
+        → SpellsPlain source (suc (suc (suc i))) j value tokens
         → SpellsArgument source i j (argument_of (Some (dashed (bytes_at source (suc i)))) value false)
         (sign terminals.DollarNamed ∷ tok terminals.VariableName (Dashed (dashed (bytes_at source (suc i))))
         ∷ sign terminals.Colon ∷ tokens)
-    placed_argument : {i j : ℕ} {value : Expr} {tokens : List Tok} → Spells source i j value tokens
+    placed_argument : {i j : ℕ} {value : Expr} {tokens : List Tok} → SpellsPlain source i j value tokens
         → SpellsArgument source i j (argument_of None value false) (undollared tokens)
-    spread_argument : {i k : ℕ} {value : Expr} {tokens : List Tok} → Spells source i k value tokens
+    spread_argument : {i k : ℕ} {value : Expr} {tokens : List Tok} → SpellsPlain source i k value tokens
         → Old source k (just terminals.Ellipsis)
         → SpellsArgument source i (suc k) (argument_of None value true)
         (undollared tokens ++ sign terminals.Ellipsis ∷ [])

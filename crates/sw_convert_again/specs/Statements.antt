@@ -1,5 +1,4 @@
--- What is written of a statement that was read, and of which tokens it was read: of those that are made of names, of
--- values and of raw text, with a block or without one.
+-- What is written of a statement that was read, and of which tokens it was read.
 use Rattle.std.specs.Prelude.{ℕ, suc, ◌+◌, List, [], ◌∷◌, ◌++◌, Bool, true, false, Option, Some, None}
 use Rattle.sw_text.specs.declared.place.Span.{Span}
 use Rattle.sw_tree.specs.declared.callable.Kind.TheVariants as kinds
@@ -7,7 +6,12 @@ use Rattle.sw_tree.specs.declared.callable.Params.{Params}
 use Rattle.sw_tree.specs.declared.expr.Argument.{Argument}
 use Rattle.sw_tree.specs.declared.expr.Expr.{Expr}
 use Rattle.sw_tree.specs.declared.expr.Namespaced.{Namespaced}
+use Rattle.sw_tree.specs.declared.load.Filter.{Filter}
+use Rattle.sw_tree.specs.declared.load.Given.{Given}
+use Rattle.sw_tree.specs.declared.load.Namespace.{Namespace}
 use Rattle.sw_tree.specs.declared.text.Parts.{Parts}
+use Rattle.sw_tree.specs.declared.text.Parts.TheVariants.{Mixed}
+use Rattle.sw_tree.specs.declared.text.Piece.{Piece}
 use Rattle.sw_tree.specs.declared.text.Text.{Text}
 use Rattle.sw_tree.specs.declared.statement.Branch.{Branch}
 use Rattle.sw_tree.specs.declared.statement.Flags.{Flags}
@@ -20,14 +24,17 @@ use Rattle.sw_parse_terminals.specs.declared.terminal.Terminal.TheVariants as te
 use Rattle.sw_parse_terminals.specs.Numbers.{just, these}
 use Rattle.sw_parse_table.specs.declared.source.Source.{Source}
 use Rattle.sw_parse_table.specs.Parts.{Part, Inserts}
-use Rattle.sw_parse_table.specs.Sources.{bytes_at, from_at, parts_between, text_between}
+use Rattle.sw_parse_table.specs.Sources.{bytes_at, decoded_at, from_at, parts_between, text_between}
 use Rattle.sw_parse_table.specs.Sets.{dollars, endings}
 use Rattle.sw_parse_table.specs.Values.{qualified_of}
-use Rattle.sw_parse_table.specs.Actions.{branch_of, mixin_of, name_at, names_at, stands_at, flags_at}
-use Rattle.sw_convert_again.specs.Tokens.{Dashed, Bytes, Before, Extent, text_up_to, Tok, tok, sign, Old}
+use Rattle.sw_parse_table.specs.Actions.{branch_of, mixin_of, name_at, names_at, stands_at, flags_at, url_at}
+use Rattle.sw_convert_again.specs.Tokens.{Dashed, Decoded, Bytes, Before, Extent, text_up_to, Tok, tok, sign, Old}
 use Rattle.sw_convert_again.specs.Spells.{Spells, SpellsWord, SpellsRow, SpellsArguments, behind_insert, from_start, call_tokens, within}
 use Rattle.sw_convert_again.specs.Params.{dollar_tokens, SpellsHeadParams, SpellsOptionalParams, SpellsMixinName, SpellsUsing}
 use Rattle.sw_convert_again.specs.RawTexts.{SpellsRawText, raw_tokens}
+use Rattle.sw_convert_again.specs.Comments.{SpellsComment}
+use Rattle.sw_convert_again.specs.Loads.{SpellsNamespace, SpellsPrefix, SpellsFilter, SpellsConfiguration}
+use Rattle.sw_convert_again.specs.Queries.{SpellsQueries}
 
 -- a statement ends with a `;`, or with nothing before what closes its block or the text
 pub data Ended (source : Source) : ℕ → ℕ → Type 0 where
@@ -331,6 +338,42 @@ mutual
         → SpellsStatement source i j
         (statements.Rule (record { selector = text_between source i k values; block = block; span = span }))
         (raw_tokens source i k values extents tokens ++ others)
+    comment_line : {i j : ℕ} {text : Text} {tokens : List Tok} → SpellsComment source i j text tokens
+        → SpellsStatement source i j (statements.Comment text) tokens
+    use_line : {i k m j : ℕ} {namespace : Namespace} {givens : List Given} {tokens others : List Tok} → (span : Span)
+        → Old source i (just terminals.AtUse) → Old source (suc i) (just terminals.LoadUrl)
+        → SpellsNamespace source (suc i) (suc (suc i)) k namespace tokens
+        → SpellsConfiguration source k m givens others → Ended source m j
+        → SpellsStatement source i j
+        (statements.Use (record {
+          url = url_at source (suc i);
+          namespace = namespace;
+          configuration = givens;
+          span = span;
+        }))
+        (ended (sign terminals.AtUse ∷ tok terminals.LoadUrl (Decoded (decoded_at source (suc i))) ∷ (tokens ++ others)))
+    forward_line : {i k m l j : ℕ} {prefix : Option (List ℕ)} {filter : Filter} {givens : List Given}
+        {tokens others more : List Tok} → (span : Span)
+        → Old source i (just terminals.AtForward) → Old source (suc i) (just terminals.LoadUrl)
+        → SpellsPrefix source (suc (suc i)) k prefix tokens → SpellsFilter source k m filter others
+        → SpellsConfiguration source m l givens more → Ended source l j
+        → SpellsStatement source i j
+        (statements.Forward (record {
+          url = url_at source (suc i);
+          prefix = prefix;
+          filter = filter;
+          configuration = givens;
+          span = span;
+        }))
+        (ended (sign terminals.AtForward ∷ tok terminals.LoadUrl (Decoded (decoded_at source (suc i)))
+        ∷ (tokens ++ (others ++ more))))
+    media_block : {i k j : ℕ} {list : List Piece} {block : List Statement} {tokens others : List Tok}
+        → (span text_span : Span) → Old source i (just terminals.AtMedia)
+        → SpellsQueries source (suc i) k list tokens → SpellsBlock source k j block others
+        → SpellsStatement source i j
+        (statements.Media (record
+        { queries = record { parts = Mixed list; span = text_span }; block = block; span = span }))
+        (sign terminals.AtMedia ∷ (tokens ++ others))
 
   -- statements in braces
   pub data SpellsBlock (source : Source) : ℕ → ℕ → List Statement → List Tok → Type 0 where

@@ -1,5 +1,5 @@
 -- The tokens that are written of a value, as the grammar sees them.
-use Rattle.std.specs.Prelude.{◌≡◌, ◌⊎◌, ℕ, suc, ◌+◌, ◌-◌, Bool, true, not, ◌&&◌, List, [], ◌∷◌, Some}
+use Rattle.std.specs.Prelude.{◌≡◌, ◌⊎◌, ℕ, suc, ◌+◌, ◌-◌, Bool, true, false, not, ◌&&◌, List, [], ◌∷◌, Some}
 use Rattle.sw_parse_grammar.specs.Grammar.{member}
 use Rattle.sw_text.specs.Names.{dashed}
 use Rattle.sw_tree.specs.declared.expr.Number.{Number}
@@ -12,6 +12,7 @@ use Rattle.sw_parse_table.specs.declared.source.Source.{Source}
 use Rattle.sw_parse_table.specs.declared.gap.Stretch.{Stretch}
 use Rattle.sw_parse_table.specs.Sources.{Texts, text_pieces, lexeme_at, from_at, to_at, texts, bytes_at, bytes_between, decoded_at, stretch_between, up_to, behind, parts_between}
 use Rattle.sw_parse_table.specs.Numerals.{numeral}
+use Rattle.sw_parse_table.specs.Lined.{is_made}
 use Rattle.sw_parse_table.specs.Sets.{endings}
 
 -- where a value stands in a text: from so many tokens on up to so many
@@ -55,6 +56,8 @@ pub data Said : Type 0 where
   Behind : ℕ → Texts → Said
   -- so many tokens are a text in which values stand so, and these pieces stand before, between and behind them
   Parted : ℕ → List Extent → List (List Piece) → Said
+  -- it isn't empty
+  Worded : Said
 
 -- a token as it is written: the terminals that it may be, and what it says
 pub record Tok : Type 0 where
@@ -89,6 +92,7 @@ Says source at (Between count text) =
     text_up_to source (to_at source (suc at - 1)) (suc at - 1) (suc at + count) ≡ text
 Says source at (Parted count extents parts) =
     around source (stretch_between source at (at + count)) (shifted at extents) ≡ parts
+Says source at Worded = is_made source at ≡ false
 Says source at (Behind count text) =
     text_to_end source (to_at source (suc at - 1)) (suc at - 1) (suc at + count) ≡ text
 

@@ -57,7 +57,7 @@ no_raw terminals.RawParen e = absurd (cc)
 no_raw terminals.RawBracket e = absurd (cc)
 no_raw _ e = (refl, refl)
 
-closed_here : {inner : Mode} (mode : Mode) (frames : List Frame) {kind : Bracket} {sort : Sort} {close : Terminal}
+pub closed_here : {inner : Mode} (mode : Mode) (frames : List Frame) {kind : Bracket} {sort : Sort} {close : Terminal}
     (opening : Terminal)
     (state : State) (plains : List Plain) (at : ℕ) → Closes kind sort close → is_raw_bracket opening ≡ false
     → Within inner (frames ++ framed kind opening mode ∷ []) state → sort_at plains at ≡ sort

@@ -31,13 +31,13 @@ use Rattle.sw_convert_passing.proofs.Entries.{one_of}
 use Rattle.sw_convert_passing.proofs.Leaves.{never}
 
 -- where a statement begins nothing goes on
-record Begun (before : Terminal) : Type 0 where
-  dollar : behind_dollar before ≡ false
-  hash : is before terminals.Hash ≡ false
-  bang : is_bang before ≡ false
-  owned : is before terminals.OwnerDot ≡ false
+pub record Begun (before : Terminal) : Type 0 where
+  pub dollar : behind_dollar before ≡ false
+  pub hash : is before terminals.Hash ≡ false
+  pub bang : is_bang before ≡ false
+  pub owned : is before terminals.OwnerDot ≡ false
 
-begun : (before : Terminal) → begins_statement before ≡ true → Begun before
+pub begun : (before : Terminal) → begins_statement before ≡ true → Begun before
 begun terminals.Semicolon b = record { dollar = refl; hash = refl; bang = refl; owned = refl }
 begun terminals.Open b = record { dollar = refl; hash = refl; bang = refl; owned = refl }
 begun terminals.Close b = record { dollar = refl; hash = refl; bang = refl; owned = refl }
@@ -46,11 +46,11 @@ begun terminals.CommentEnd b = record { dollar = refl; hash = refl; bang = refl;
 begun _ b = absurd (cc)
 
 -- a statement's first token is read in the mode of the statement
-abbrev placed_as : State → List Plain → ℕ → Mode → State
+abbrev pub placed_as : State → List Plain → ℕ → Mode → State
 placed_as state plains at mode =
     record state { mode = mode; comments = comments_at state.comments plains at }
 
-placed_is : (state : State) (plains : List Plain) (at : ℕ) (mode : Mode) → state.start ≡ true
+pub placed_is : (state : State) (plains : List Plain) (at : ℕ) (mode : Mode) → state.start ≡ true
     → statement_mode plains at ≡ mode → placed state plains at ≡ placed_as state plains at mode
 unfolding placed
 placed_is state plains at mode start m =
@@ -58,15 +58,15 @@ placed_is state plains at mode start m =
     ∙ ap (placed_as state plains at) m
 
 -- the first token, and the state behind it
-record FirstTold (plains : List Plain) (mode : Mode) (frames : List Frame) (state : State) (at : ℕ) (one : Written)
+pub record FirstTold (plains : List Plain) (mode : Mode) (frames : List Frame) (state : State) (at : ℕ) (one : Written)
     (terminal : Terminal) (word : Bool) : Type 0 where
-  end : State
-  reads : Reads plains state at (one ∷ []) end (at + 1)
-  within : Within mode frames end
-  before : end.before ≡ terminal
-  goes_on : end.word ≡ word
+  pub end : State
+  pub reads : Reads plains state at (one ∷ []) end (at + 1)
+  pub within : Within mode frames end
+  pub before : end.before ≡ terminal
+  pub goes_on : end.word ≡ word
 
-first_told : {mode : Mode} {frames : List Frame} (plains : List Plain) (state : State) (at : ℕ) (one : Written)
+pub first_told : {mode : Mode} {frames : List Frame} (plains : List Plain) (state : State) (at : ℕ) (one : Written)
     (terminal : Terminal) → Starts frames state → IsThere plains at one → is_comment one.sort ≡ false
     → statement_mode plains at ≡ mode → stays mode ≡ true → passes terminal ≡ true → begins_statement terminal ≡ false
     → terminal_of (placed_as state plains at mode) plains at ≡ terminal → one.may_be ≡ terminal ∷ []
@@ -86,7 +86,7 @@ first_told {mode} {frames} plains state at one terminal starts there code m stea
       goes_on = n.word;
     }
 
-head_told : {plains : List Plain} {mode : Mode} {frames : List Frame} {state : State} {at to : ℕ}
+pub head_told : {plains : List Plain} {mode : Mode} {frames : List Frame} {state : State} {at to : ℕ}
     {tokens : List Written}
     (end : State) (terminal : Terminal) → Reads plains state at tokens end to → Within mode frames end
     → end.before ≡ terminal → end.word ≡ false → may_precede terminal ≡ true → ends_operand terminal ≡ false
@@ -154,7 +154,7 @@ word_ends plains (suc n) at e =
     none true = refl
     none false = refl
 
-name_inserts_nothing : (sort : Sort) → is_name sort ≡ true → in_insert sort 0 ≡ 0
+pub name_inserts_nothing : (sort : Sort) → is_name sort ≡ true → in_insert sort 0 ≡ 0
 name_inserts_nothing sorts.OpenInsert n = absurd (cc)
 name_inserts_nothing sorts.CloseInsert n = absurd (cc)
 name_inserts_nothing _ n = refl
@@ -187,7 +187,7 @@ property_is : (sort : Sort) → is_property sort ≡ true → Property sort
 property_is sorts.DashedName p = absurd (cc)
 property_is sort p = property_facts sort p
 
-moded : (plains : List Plain) (at : ℕ) (sort : Sort) (mode : Mode) → sort_at plains at ≡ sort → is_property sort ≡ true
+pub moded : (plains : List Plain) (at : ℕ) (sort : Sort) (mode : Mode) → sort_at plains at ≡ sort → is_property sort ≡ true
     → plain_mode plains at ≡ mode → statement_mode plains at ≡ mode
 unfolding statement_mode
 moded plains at sorts.Name mode e p t = rw (e, statement_mode) t

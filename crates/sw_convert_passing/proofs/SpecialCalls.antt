@@ -266,7 +266,7 @@ raw_round {mode} {frames} {plains} {at} {to} state inner blank {kind} {opening} 
     }
 
 -- and then the rest
-raw_and_rest : {plains : List Plain} {state middle end : State} {at place to : ℕ} (one close : Written)
+pub raw_and_rest : {plains : List Plain} {state middle end : State} {at place to : ℕ} (one close : Written)
     (text rest : List Written)
     → Reads plains state at (enclosed one text close []) middle place → Reads plains middle place rest end to
     → Reads plains state at (enclosed one text close rest) end to

@@ -179,7 +179,7 @@ pub innermost_is : (frames : List Frame) (frame : Frame) → innermost (frames +
 innermost_is frames frame =
     ap (slice_get (frames ++ frame ∷ [])) (less frames frame) ∙ last_is frames frame
 
-outer_are : (frames : List Frame) (frame : Frame)
+pub outer_are : (frames : List Frame) (frame : Frame)
     → take (length (frames ++ frame ∷ []) - 1) (frames ++ frame ∷ []) ≡ frames
 outer_are frames frame =
     ap (λ (n : ℕ). take n (frames ++ frame ∷ [])) (less frames frame) ∙ take-append_seam frames (frame ∷ [])
@@ -188,6 +188,7 @@ outer_are frames frame =
 abbrev pub is_closing : Terminal → Bool
 is_closing terminals.RawParenEnd = true
 is_closing terminals.RawBracketEnd = true
+is_closing terminals.RawBraceEnd = true
 is_closing terminals.ParenEnd = true
 is_closing terminals.BracketEnd = true
 is_closing terminals.TemplateEnd = true
@@ -223,6 +224,7 @@ closing_is : (state : State) (terminal : Terminal) → is_closing terminal ≡ t
 unfolding after
 closing_is state terminals.RawParenEnd c = (refl, refl, refl)
 closing_is state terminals.RawBracketEnd c = (refl, refl, refl)
+closing_is state terminals.RawBraceEnd c = (refl, refl, refl)
 closing_is state terminals.ParenEnd c = (refl, refl, refl)
 closing_is state terminals.BracketEnd c = (refl, refl, refl)
 closing_is state terminals.TemplateEnd c = (refl, refl, refl)

@@ -97,7 +97,7 @@ mutual
   name_told (begun_minus {inner = inner} {parts = parts} inside more) = begun_minus_told inner parts
       (inner_told inside) (parts_told more)
 
-  parts_told : {tokens : List Written} → Parts tokens → IsParts tokens
+  pub parts_told : {tokens : List Written} → Parts tokens → IsParts tokens
   parts_told no_part = no_part_told
   parts_told (part {parts = parts} sort p more) = part_told sort parts p (parts_told more)
   parts_told (part_insert {inner = inner} {parts = parts} inside more) = part_insert_told inner parts
@@ -112,12 +112,12 @@ mutual
   pieces_told (piece_insert {inner = inner} {pieces = pieces} inside more) p = piece_insert_told inner pieces
       (inner_told inside) (pieces_told more p)
 
-  inner_told : {tokens : List Written} → Items tokens → IsInner tokens
+  pub inner_told : {tokens : List Written} → Items tokens → IsInner tokens
   inner_told no_items = no_items_told
   inner_told (items {row = row} inside) = items_told row (row_told inside)
   inner_told (seamed_items {row = row} inside) = seamed_items_told row (row_told inside)
 
-  row_told : {mode : Mode} {spaced ended : Bool} {tokens : List Written} → Row mode spaced ended tokens
+  pub row_told : {mode : Mode} {spaced ended : Bool} {tokens : List Written} → Row mode spaced ended tokens
       → IsRow mode spaced ended tokens
   row_told (first {value = value} v) = first_told value (value_told v)
   row_told (separated {row = row} before sort s) = separated_told row sort (row_told before) s

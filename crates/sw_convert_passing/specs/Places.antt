@@ -53,6 +53,7 @@ may_precede terminals.Less = true
 may_precede terminals.LessEqual = true
 may_precede terminals.Greater = true
 may_precede terminals.GreaterEqual = true
+may_precede terminals.Equals = true
 may_precede terminals.Plus = true
 may_precede terminals.Minus = true
 may_precede terminals.Times = true

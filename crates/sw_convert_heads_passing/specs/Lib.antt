@@ -1,0 +1,10 @@
+pub mod RawTexts
+pub mod Heads
+pub mod Properties
+pub mod Loads
+pub mod Media
+pub mod Members
+pub mod Flow
+pub mod Blocks
+pub mod Statements
+pub mod Sheets
