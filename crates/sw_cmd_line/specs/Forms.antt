@@ -15,6 +15,7 @@ pub record Target : Type 0 where
 pub data Form : Type 0 where
   Session : Form
   Hosted : Form
+  Steps : Form
   Once : Target → Form
   Poll : Target → Form
   Make : ℕ → Form
@@ -70,6 +71,7 @@ abbrev pub named : List ℕ → List (List ℕ) → Option Form
 named name words =
     if bytes_eq name (codes "session") then alone Session words
     else if bytes_eq name (codes "hosted") then alone Hosted words
+    else if bytes_eq name (codes "steps") then alone Steps words
     else if bytes_eq name (codes "once") then option_map Once (target_of words)
     else if bytes_eq name (codes "poll") then option_map Poll (target_of words)
     else if bytes_eq name (codes "make") then make_by words
@@ -89,6 +91,7 @@ target_seen t = record { dir = t.dir.now; entry = t.entry.now; paths = t.paths.n
 abbrev pub form_seen : Command → Form
 form_seen code.Session = Session
 form_seen code.Hosted = Hosted
+form_seen code.Steps = Steps
 form_seen (code.Once target) = Once (target_seen target)
 form_seen (code.Poll target) = Poll (target_seen target)
 form_seen (code.Make number) = Make number

@@ -27,6 +27,8 @@ pub enum Command<'a> {
     Session,
     /// Answers the requests of a session, in which sheets call the functions of the host.
     Hosted,
+    /// Answers requests of which compiles go on by steps.
+    Steps,
     /// Compiles once and writes the CSS.
     Once(Target<'a>),
     /// Compiles whenever it is asked to.
@@ -35,10 +37,10 @@ pub enum Command<'a> {
     Make(u32),
 }
 
-/// The command that the words behind the program's name ask for: `session`, `hosted`, `once DIR ENTRY LOAD..`,
-/// `poll DIR ENTRY LOAD..` with at most eight LOAD, where DIR isn't empty, ENTRY is a path of a folder, each LOAD is
-/// one or `.`, or `make N` with one to six digits and no 0 before others; and no word begins with `-`. `None` exactly
-/// where the words are in none of these forms. Takes no memory.
+/// The command that the words behind the program's name ask for: `session`, `hosted`, `steps`,
+/// `once DIR ENTRY LOAD..`, `poll DIR ENTRY LOAD..` with at most eight LOAD, where DIR isn't empty, ENTRY is a path of
+/// a folder, each LOAD is one or `.`, or `make N` with one to six digits and no 0 before others; and no word begins
+/// with `-`. `None` exactly where the words are in none of these forms. Takes no memory.
 #[tactic(auto, unfolding(crate::specs::Forms::form_of))]
 pub fn command_of<'a>(words: &'a [Name]) -> Option<Command<'a>>
     ensures { option_map form_seen result ≡ form_of words.now }
@@ -59,6 +61,8 @@ fn named<'a>(name: &str, words: &'a [Name]) -> Option<Command<'a>>
         alone(Command::Session, words)
     } else if name == "hosted" {
         alone(Command::Hosted, words)
+    } else if name == "steps" {
+        alone(Command::Steps, words)
     } else if name == "once" {
         once(target_in(words))
     } else if name == "poll" {

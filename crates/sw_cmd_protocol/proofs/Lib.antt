@@ -4,3 +4,7 @@ pub mod Serving
 pub mod Growing
 pub mod Whole
 pub mod One
+pub mod Saying
+pub mod LineTurns
+pub mod Unheard
+pub mod Alone

@@ -1,5 +1,5 @@
 -- Why requests are answered no more, and with which number. This project's own rule.
-use Rattle.std.specs.Prelude.{◌≡◌, ℕ, ⊤}
+use Rattle.std.specs.Prelude.{◌≡◌, ℕ, Option, None, ⊤}
 use Rattle.sw_cmd_protocol.specs.declared.stop.Stop.{Stop}
 use Rattle.sw_cmd_protocol.specs.declared.stop.Stop.TheVariants.{Ended, Wrong, CutOff, SourceFailed, SinkFailed, Memory, OutsideFailed, Over as Over_stop}
 use Rattle.sw_io.specs.declared.stop.ReadStop.{ReadStop}
@@ -41,6 +41,17 @@ LastLine Memory ending = ⊤
 LastLine OutsideFailed ending = ⊥
 LastLine Over_stop ending = ending ≡ Over
 
+-- how a line ends the answers from which no request was read
+abbrev pub LineStops : {Request : Type 0} → Stop → Option Request → Type 0
+LineStops Ended said = ⊥
+LineStops Wrong said = said ≡ None
+LineStops CutOff said = ⊥
+LineStops SourceFailed said = ⊥
+LineStops SinkFailed said = ⊥
+LineStops Memory said = ⊤
+LineStops OutsideFailed said = ⊥
+LineStops Over_stop said = ⊥
+
 -- a fault or want of memory
 abbrev pub IsBrokenOff : Stop → Type 0
 IsBrokenOff Ended = ⊥
@@ -51,3 +62,14 @@ IsBrokenOff SinkFailed = ⊤
 IsBrokenOff Memory = ⊤
 IsBrokenOff OutsideFailed = ⊤
 IsBrokenOff Over_stop = ⊥
+
+-- a fault of the source or the sink, or want of memory, where nothing else is asked
+abbrev pub IsBrokenOffAlone : Stop → Type 0
+IsBrokenOffAlone Ended = ⊥
+IsBrokenOffAlone Wrong = ⊥
+IsBrokenOffAlone CutOff = ⊥
+IsBrokenOffAlone SourceFailed = ⊤
+IsBrokenOffAlone SinkFailed = ⊤
+IsBrokenOffAlone Memory = ⊤
+IsBrokenOffAlone OutsideFailed = ⊥
+IsBrokenOffAlone Over_stop = ⊥

@@ -4,7 +4,7 @@ use Rattle.sw_cmd_protocol.specs.declared.stop.Stop.{Stop}
 use Rattle.sw_cmd_protocol.specs.Script.{Next, Whole, Closing, NoRequest, Short, Grammar, script}
 use Rattle.sw_cmd_protocol.specs.Protocol.{Protocol, Turn}
 use Rattle.sw_cmd_protocol.specs.Transcript.{AreMarks, turns, text, ran_in, held_after}
-use Rattle.sw_cmd_protocol.specs.Endings.{stop_at, IsBrokenOff}
+use Rattle.sw_cmd_protocol.specs.Endings.{stop_at, IsBrokenOff, IsBrokenOffAlone}
 
 -- the same, with more bytes behind it
 abbrev pub more_next : {Event : Type 0} → List ℕ → Next Event → Next Event
@@ -24,6 +24,12 @@ Grows grammar =
 abbrev pub EndsExactly : {Event : Type 0} → Grammar Event → ℕ → Stop → List ℕ → List ℕ → Type 0
 EndsExactly grammar most stop bytes taken =
     IsBrokenOff stop ⊎ ((stop ≡ stop_at (script grammar most bytes).ending)
+    × (script grammar most taken ≡ script grammar most bytes))
+
+-- the same where nothing is asked beside the source
+abbrev pub EndsExactlyAlone : {Event : Type 0} → Grammar Event → ℕ → Stop → List ℕ → List ℕ → Type 0
+EndsExactlyAlone grammar most stop bytes taken =
+    IsBrokenOffAlone stop ⊎ ((stop ≡ stop_at (script grammar most bytes).ending)
     × (script grammar most taken ≡ script grammar most bytes))
 
 -- the bytes written grew by the replies of these turns, the bodies that ran are theirs, and what they leave is held

@@ -17,6 +17,11 @@ abbrev pub told_in : {Held Reply : Type 0} → List (Turn Held Reply) → List R
 told_in [] = []
 told_in (turn ∷ turns) = turn.told ++ told_in turns
 
+-- nobody is told of any reply
+abbrev pub TellsNothing : {Event Mark Held Reply : Type 0} → Protocol Event Mark Held Reply → Type 0
+TellsNothing {Event} {Mark} {Held} p =
+    (held : Held) (event : Event) (mark : Mark) → (p.turn_of held event mark).told ≡ []
+
 -- what it is to hear one reply
 abbrev pub Hearing : Type 0 → Type 0 → Type 1
 Hearing Reply State = Reply → State → State → Type 0

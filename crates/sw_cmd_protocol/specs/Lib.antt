@@ -3,6 +3,7 @@ pub mod Endings
 pub mod Statuses
 pub mod Protocol
 pub mod Transcript
+pub mod Sending
 pub mod Turns
 pub mod Served
 pub mod Heard

@@ -15,6 +15,6 @@ pub use audience::{Audience, Output};
 pub use laws::{answers_all, ends_exactly};
 pub use lines::Lines;
 pub use protocol::Protocol;
-pub use sending::send;
+pub use sending::{answer, send};
 pub use service::Service;
 pub use stop::Stop;

@@ -1,5 +1,5 @@
 -- What comes of a scan.
-use Rattle.std.proofs.Common.{◌≡◌, ℕ, List, [], ◌∷◌, ◌++◌, refl, sym, ap, ◌∙◌, subst}
+use Rattle.std.proofs.Common.{◌≡◌, ℕ, List, [], ◌∷◌, ◌++◌, refl, sym, ap}
 use Rattle.std.specs.declared.option.Option.{Option}
 use Rattle.std.specs.Io.KnownBytes.{Appends}
 use Rattle.std.proofs.lemmas.List.{append-nil}
@@ -13,13 +13,14 @@ use Rattle.sw_record.specs.declared.reply.Reply.{Reply}
 use Rattle.sw_keeper.specs.Compile.{compiled, CompilesTo}
 use Rattle.sw_keeper.specs.Keeping.{Table, Keeping}
 use Rattle.sw_cmd_protocol.specs.declared.stop.Stop.{Stop}
-use Rattle.sw_cmd_protocol.specs.declared.stop.Stop.TheVariants.{Ended, Wrong, CutOff, SourceFailed, SinkFailed, Memory, OutsideFailed, Over as Over_stop}
+use Rattle.sw_cmd_protocol.specs.declared.stop.Stop.TheVariants.{Memory, OutsideFailed}
 use Rattle.sw_cmd_protocol.specs.Protocol.{Turn}
-use Rattle.sw_cmd_protocol.specs.Turns.{Standing, standing, Does, Says, SaysSome, SayStops}
+use Rattle.sw_cmd_protocol.specs.Turns.{standing, Does, Says, SaysSome, SayStops}
 use Rattle.sw_cmd_protocol.proofs.Writing.{appends_none}
-use Rattle.sw_cmd_session.specs.Edits.{SendEnds}
+use Rattle.sw_cmd_protocol.proofs.Saying.{does, says, says_some, send_ends}
+use Rattle.sw_cmd_protocol.specs.Sending.{IsCutShort, SendEnds}
 use Rattle.sw_cmd_session.proofs.Turning.{one_reply, reply_is}
-use Rattle.sw_cmd_run.specs.Poll.{Scan, Held, held, Mark, Answered, Refused, Unread, compiled_of, answered_turn, refused_turn, unread_turn, turn_of, IsMark, IsSaid, poll}
+use Rattle.sw_cmd_run.specs.Poll.{Scan, Held, held, Answered, Refused, Unread, compiled_of, answered_turn, refused_turn, unread_turn, turn_of, poll}
 
 answered_is : (setting : Setting) (h : Held) (course : Option Course) (folder : Files) (reply : Reply) (kept : Table)
     → turn_of setting h Scan (Answered course folder reply.ran kept) ≡ answered_turn h course (compiled_of setting h folder) reply.ran kept
@@ -34,39 +35,6 @@ unread_is : (setting : Setting) (h : Held) (course : Option Course) → turn_of 
 unfolding turn_of
 unread_is setting h course = refl
 
--- a front of a reply was written
-abbrev pub SendsSome : List ℕ → Option (List ℕ) → Option (List ℕ) → Type 0
-SendsSome reply written now = (front : List ℕ) × (back : List ℕ) × (reply ≡ front ++ back) × Appends written now front
-
--- a scan was carried out as this turn
-module _ (setting : Setting) (mark : Mark) (before after : Standing Held) (turn : Turn Held Reply) (is : turn_of setting before.held Scan mark ≡ turn)
-    (m : IsMark setting before.held Scan mark) (h : after.held ≡ turn.held) (r : after.ran ≡ before.ran ++ turn.ran) where
-  abbrev does : Does (poll setting) Scan before after
-  does = record {
-    mark = mark;
-    is_mark = m;
-    ran = r ∙ ap (λ (x : Turn Held Reply). before.ran ++ x.ran) (sym is);
-    held = h ∙ ap (λ (x : Turn Held Reply). x.held) (sym is);
-  }
-
-  says : (told : List Reply) → turn.told ≡ told → (written now : Option (List ℕ)) (reply : List ℕ) → IsSaid before.held Scan mark → reply ≡ turn.text → Appends written now reply
-      → Says (poll setting) Scan told before after written now
-  says told o written now reply s e a = record {
-    does = does;
-    tells = ap (λ (x : Turn Held Reply). x.told) is ∙ o;
-    said = s;
-    sends = subst (λ (x : List ℕ). Appends written now x) (e ∙ ap (λ (x : Turn Held Reply). x.text) (sym is)) a;
-  }
-
-  says_some : (written now : Option (List ℕ)) (reply : List ℕ) → reply ≡ turn.text → SendsSome reply written now → SaysSome (poll setting) Scan before after written now
-  says_some written now reply e s = record {
-    does = does;
-    front = s.0;
-    back = s.1;
-    parts = ap (λ (x : Turn Held Reply). x.text) is ∙ sym e ∙ s.2;
-    sends = s.3;
-  }
-
 module _ (setting : Setting) (t : Target) (before now : Option Course) (old new : Keeping) (ran ran_now : List (List ℕ)) (written sent : Option (List ℕ)) (read : IsRead before now old.folder) where
   -- the compile was answered
   module _ (reply : Reply) (c : CompilesTo (compiled setting old.folder t.paths t.entry []) reply old new [] ran ran_now) where
@@ -75,45 +43,33 @@ module _ (setting : Setting) (t : Target) (before now : Option Course) (old new 
 
     pub compile_says : Appends written sent (reply_text reply) → Says (poll setting) Scan (reply ∷ []) (standing (held t before old.kept) ran) (standing (held t now new.kept) ran_now) written sent
     compile_says a =
-        says setting (Answered now old.folder reply.ran new.kept) (standing (held t before old.kept) ran) (standing (held t now new.kept) ran_now) answered
-        (answered_is setting (held t before old.kept) now old.folder reply new.kept) (read, c.ran, c.kept) refl c.told (reply ∷ [])
-        (one_reply reply (compiled setting old.folder t.paths t.entry []) c.says c.outcome) written sent (reply_text reply) tt
-        (reply_is reply (compiled setting old.folder t.paths t.entry []) c.says c.outcome) a
+        says (poll setting) Scan (Answered now old.folder reply.ran new.kept) (standing (held t before old.kept) ran) (standing (held t now new.kept) ran_now) answered
+        (answered_is setting (held t before old.kept) now old.folder reply new.kept) (read, c.ran, c.kept) refl c.told written sent (reply_text reply)
+        (reply_is reply (compiled setting old.folder t.paths t.entry []) c.says c.outcome) (reply ∷ [])
+        (one_reply reply (compiled setting old.folder t.paths t.entry []) c.says c.outcome) tt a
 
     pub compile_stops : (stop : Stop) → SendEnds stop (reply_text reply) written sent → SayStops (poll setting) stop Scan (standing (held t before old.kept) ran) (standing (held t now new.kept) ran_now) written sent
-    compile_stops Ended s = absurd s
-    compile_stops Wrong s = absurd s
-    compile_stops CutOff s = absurd s
-    compile_stops SourceFailed s = absurd s
-    compile_stops SinkFailed s =
-        says_some setting (Answered now old.folder reply.ran new.kept) (standing (held t before old.kept) ran) (standing (held t now new.kept) ran_now) answered
+    compile_stops =
+        send_ends (poll setting) Scan (Answered now old.folder reply.ran new.kept) (standing (held t before old.kept) ran) (standing (held t now new.kept) ran_now) answered
         (answered_is setting (held t before old.kept) now old.folder reply new.kept) (read, c.ran, c.kept) refl c.told written sent (reply_text reply)
-        (reply_is reply (compiled setting old.folder t.paths t.entry []) c.says c.outcome) s
-    compile_stops Memory s = record {
-      does = does setting (Answered now old.folder reply.ran new.kept) (standing (held t before old.kept) ran) (standing (held t now new.kept) ran_now) answered
-          (answered_is setting (held t before old.kept) now old.folder reply new.kept) (read, c.ran, c.kept) refl c.told;
-      left = tt;
-      sends = s;
-    }
-    compile_stops OutsideFailed s = absurd s
-    compile_stops Over_stop s = absurd s
+        (reply_is reply (compiled setting old.folder t.paths t.entry []) c.says c.outcome) tt
 
   -- the compile was refused for want of memory
   module _ (same : new ≡ old) (more : List (List ℕ)) (told : ran_now ≡ ran ++ more) (reply : List ℕ) (e : reply ≡ memory_text) where
     pub refusal_says : Appends written sent reply → Says (poll setting) Scan [] (standing (held t before old.kept) ran) (standing (held t now new.kept) ran_now) written sent
     refusal_says a =
-        says setting (Refused now old.folder more) (standing (held t before old.kept) ran) (standing (held t now new.kept) ran_now) (refused_turn (held t before old.kept) now more)
-        (refused_is setting (held t before old.kept) now old.folder more) read (ap (λ (k : Keeping). held t now k.kept) same) told [] refl written sent reply tt e a
+        says (poll setting) Scan (Refused now old.folder more) (standing (held t before old.kept) ran) (standing (held t now new.kept) ran_now) (refused_turn (held t before old.kept) now more)
+        (refused_is setting (held t before old.kept) now old.folder more) read (ap (λ (k : Keeping). held t now k.kept) same) told written sent reply e [] refl tt a
 
-    pub refusal_says_some : SendsSome reply written sent → SaysSome (poll setting) Scan (standing (held t before old.kept) ran) (standing (held t now new.kept) ran_now) written sent
+    pub refusal_says_some : IsCutShort reply written sent → SaysSome (poll setting) Scan (standing (held t before old.kept) ran) (standing (held t now new.kept) ran_now) written sent
     refusal_says_some s =
-        says_some setting (Refused now old.folder more) (standing (held t before old.kept) ran) (standing (held t now new.kept) ran_now) (refused_turn (held t before old.kept) now more)
+        says_some (poll setting) Scan (Refused now old.folder more) (standing (held t before old.kept) ran) (standing (held t now new.kept) ran_now) (refused_turn (held t before old.kept) now more)
         (refused_is setting (held t before old.kept) now old.folder more) read (ap (λ (k : Keeping). held t now k.kept) same) told written sent reply e s
 
 -- the reading broke off
 module _ (setting : Setting) (t : Target) (before now : Option Course) (kept kept_now : Table) (ran : List (List ℕ)) (same : kept_now ≡ kept) (broken : IsBrokenOff before now) where
   abbrev unread : Does (poll setting) Scan (standing (held t before kept) ran) (standing (held t now kept_now) ran)
-  unread = does setting (Unread now) (standing (held t before kept) ran) (standing (held t now kept_now) ran) (unread_turn (held t before kept) now)
+  unread = does (poll setting) Scan (Unread now) (standing (held t before kept) ran) (standing (held t now kept_now) ran) (unread_turn (held t before kept) now)
       (unread_is setting (held t before kept) now) broken (ap (held t now) same) (sym (append-nil ran))
 
   pub unread_fails : (written : Option (List ℕ)) → SayStops (poll setting) OutsideFailed Scan (standing (held t before kept) ran) (standing (held t now kept_now) ran) written written

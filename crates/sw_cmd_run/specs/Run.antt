@@ -1,7 +1,7 @@
 -- What the program does, by the words of its command line. This project's own rule.
 use Rattle.std.specs.Prelude.{◌≡◌, ℕ, List, [], Option, None, Some}
 use Rattle.sw_io.specs.Disks.{Course}
-use Rattle.sw_cmd_line.specs.Forms.{Form, Target, Session, Hosted, Once, Poll, Make}
+use Rattle.sw_cmd_line.specs.Forms.{Form, Target, Session, Hosted, Steps, Once, Poll, Make}
 use Rattle.sw_world.specs.Hosts.{HostState}
 use Rattle.sw_world.specs.Body.{BodyOf}
 use Rattle.sw_modules.specs.Outside.{Functions}
@@ -11,6 +11,7 @@ use Rattle.sw_cmd_protocol.specs.Heard.{Hearing}
 use Rattle.sw_cmd_protocol.specs.Statuses.{no_command}
 use Rattle.sw_cmd_session.specs.Sheets.{hosted, hostless}
 use Rattle.sw_cmd_session.specs.Served as session
+use Rattle.sw_cmd_steps.specs.Served as steps
 use Rattle.sw_cmd_disk_compile.specs.declared.ending.Ending.{Ending}
 use Rattle.sw_cmd_disk_compile.specs.Once as once
 use Rattle.sw_cmd_workload.specs.declared.ending.Ending.{Ending as Made}
@@ -56,6 +57,15 @@ pub record ServesHosted {State : Type 0} (setting : Setting) (hears : Hearing Re
       (session.surroundings new.left new.written new.ran new.hosts) before now
   pub course : new.course ≡ old.course
 
+-- compiles that go on by steps, in which the disk isn't asked and nobody is told of a reply
+pub record ServesSteps {State : Type 0} (setting : Setting) (status : ℕ) (old new : Surroundings) (before now : State) :
+    Type 0 where
+  pub served : steps.ServedWith setting status (steps.surroundings old.left old.written old.ran)
+      (steps.surroundings new.left new.written new.ran)
+  pub unheard : now ≡ before
+  pub course : new.course ≡ old.course
+  pub hosts : new.hosts ≡ old.hosts
+
 -- one compile of a disk's folder, without a look at the source
 pub record CompilesOnce {State : Type 0} (setting : Setting) (target : Target) (hears : Hearing Reply State)
     (status : ℕ) (old new : Surroundings) (before now : State) : Type 0 where
@@ -95,6 +105,8 @@ Runs body host hears (Some Session) status old new before now =
     Serves (hostless body) hears status old new before now
 Runs body host hears (Some Hosted) status old new before now =
     ServesHosted (hosted body host) hears status old new before now
+Runs body host hears (Some Steps) status old new before now =
+    ServesSteps (hostless body) status old new before now
 Runs body host hears (Some (Once target)) status old new before now =
     CompilesOnce (hostless body) target hears status old new before now
 Runs body host hears (Some (Poll target)) status old new before now =

@@ -1,7 +1,7 @@
 // The command line.
 ghost use Rattle.std.specs.Prelude.{◌≡◌, ◌≢◌, ℕ, None, Some};
 ghost use Rattle.sw_io.specs.Causes.{NoFault, Rose};
-ghost use Rattle.sw_cmd_line.specs.Forms.{form_of, form_seen, Target, Session, Hosted, Once, Make};
+ghost use Rattle.sw_cmd_line.specs.Forms.{form_of, form_seen, Target, Session, Hosted, Steps, Once, Make};
 ghost use Rattle.sw_cmd_protocol.specs.Statuses.{source_failed, sink_failed, outside_failed};
 ghost use Rattle.sw_cmd_session.specs.Sheets.{functions};
 ghost use Rattle.sw_cmd_run.specs.Run.{surroundings, Runs};
@@ -13,6 +13,7 @@ use sw_cmd_disk_compile::once;
 use sw_cmd_line::{Command, command_of};
 use sw_cmd_protocol::Audience;
 use sw_cmd_session::{SheetReader, serve};
+use sw_cmd_steps::serve_steps;
 use sw_cmd_workload::make;
 use sw_io::{Disk, Sink, Source};
 use sw_record::Reply;
@@ -23,11 +24,11 @@ use sw_world::{Engine, Hosts, NoHosts};
 pub const NO_COMMAND: u8 = 7;
 
 /// Does what the words of the command line ask for, without the program's name, and gives the status: `session`
-/// answers the requests of the source without functions of a host, and `hosted` with those that are handed in;
-/// `once DIR ENTRY LOAD..` compiles a folder of the disk and writes its CSS alone, or the line of its fault, and
+/// answers the requests of the source without functions of a host, and `hosted` with those that are handed in; `steps`
+/// answers those of which compiles go on by steps; `once DIR ENTRY LOAD..` compiles a folder of the disk and writes its CSS alone, or the line of its fault, and
 /// `poll DIR ENTRY LOAD..` reads and compiles it at each line `scan` of the source; `make N` compiles the made folder
-/// of this number and its edits and writes their summary. The audience is told of the reply to each compile, once it is
-/// written, and of those of `make` as they are formed. Words in no such form give 7, and nothing is read, written, run
+/// of this number and its edits and writes their summary. The audience is told of the reply to each compile but those of
+/// `steps`, once it is written, and of those of `make` as they are formed. Words in no such form give 7, and nothing is read, written, run
 /// or told. No call of the source, the sink or the disk fails but the one by whose fault the command ends, and no other
 /// command than `hosted` calls a function of the host.
 pub fn run<S: Source, K: Sink, D: Disk, E: Engine, T: Audience<Reply>, H: Hosts>(
@@ -45,6 +46,7 @@ pub fn run<S: Source, K: Sink, D: Disk, E: Engine, T: Audience<Reply>, H: Hosts>
     ensures no_command { form_of words.now ≡ None → (around.new ≡ around.old) × (engine.new ≡ engine.old) }
     ensures no_disk { form_of words.now ≡ Some Session → around.new.disk ≡ around.old.disk }
     ensures no_disk_hosted { form_of words.now ≡ Some Hosted → around.new.disk ≡ around.old.disk }
+    ensures no_disk_steps { form_of words.now ≡ Some Steps → around.new.disk ≡ around.old.disk }
     ensures no_source { (target : Target) → form_of words.now ≡ Some (Once target)
         → around.new.source ≡ around.old.source }
     ensures no_outside { (number : ℕ) → form_of words.now ≡ Some (Make number)
@@ -81,6 +83,7 @@ fn carry_out<S: Source, K: Sink, D: Disk, E: Engine, T: Audience<Reply>, H: Host
         (T.state around.old.output.audience) (T.state around.new.output.audience) }
     ensures no_disk { form_seen command.entry ≡ Session → around.new.disk ≡ around.old.disk }
     ensures no_disk_hosted { form_seen command.entry ≡ Hosted → around.new.disk ≡ around.old.disk }
+    ensures no_disk_steps { form_seen command.entry ≡ Steps → around.new.disk ≡ around.old.disk }
     ensures no_source { (target : Target) → form_seen command.entry ≡ Once target
         → around.new.source ≡ around.old.source }
     ensures no_outside { (number : ℕ) → form_seen command.entry ≡ Make number
@@ -105,6 +108,7 @@ fn carry_out<S: Source, K: Sink, D: Disk, E: Engine, T: Audience<Reply>, H: Host
     match command {
         Command::Session => serve(alloc, source, output, engine, &mut NoHosts),
         Command::Hosted => serve(alloc, source, output, engine, hosts),
+        Command::Steps => serve_steps(alloc, &SheetReader, source, output, engine),
         Command::Once(target) => once(alloc, &SheetReader, &target, output, disk, engine).status(),
         Command::Poll(target) => poll_folder(alloc, &target, source, output, disk, engine),
         Command::Make(number) => make(alloc, &SheetReader, number, output, engine).status(),

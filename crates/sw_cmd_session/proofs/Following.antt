@@ -1,6 +1,9 @@
 -- What follows for sessions from what holds of every protocol.
-use Rattle.std.proofs.Common.{◌≡◌, ℕ, List, Some, ◌⊎◌, inl, inr, refl, ap, ◌∙◌}
+use Rattle.std.proofs.Common.{◌≡◌, ◌≢◌, ℕ, List, ◌++◌, None, Some, ◌⊎◌, refl, ap, ◌∙◌}
 use Rattle.std.specs.declared.option.Option.{Option}
+use Rattle.sw_wire.specs.declared.request.Request.{Request}
+use Rattle.sw_wire.specs.declared.request.Request.TheVariants.{Put as Put_line, Remove as Remove_line, Compile as Compile_line, End as End_line}
+use Rattle.sw_wire.specs.Requests.{request_of}
 use Rattle.sw_world.specs.Hosts.{HostState}
 use Rattle.sw_modules.specs.Fresh.{Setting}
 use Rattle.sw_record.specs.declared.reply.Cause.{Cause}
@@ -9,40 +12,43 @@ use Rattle.sw_keeper.specs.Compile.{compiled}
 use Rattle.sw_keeper.specs.Keeping.{Table, kept_in}
 use Rattle.sw_keeper.proofs.Tables.{kept_is_one}
 use Rattle.sw_cmd_protocol.specs.declared.stop.Stop.{Stop}
-use Rattle.sw_cmd_protocol.specs.declared.stop.Stop.TheVariants.{Ended, Wrong, CutOff, SourceFailed, SinkFailed, Memory, OutsideFailed, Over}
-use Rattle.sw_cmd_protocol.specs.Script.{script, End}
-use Rattle.sw_cmd_protocol.specs.Exactly.{AnswersAll}
+use Rattle.sw_cmd_protocol.specs.declared.stop.Stop.TheVariants.{Ended, OutsideFailed}
+use Rattle.sw_cmd_protocol.specs.Script.{Short, script, End}
+use Rattle.sw_cmd_protocol.specs.Exactly.{more_next, Grows, AnswersAll, EndsExactlyAlone}
 use Rattle.sw_cmd_protocol.specs.One.{OneMark, OneTranscript}
-use Rattle.sw_cmd_protocol.specs.Endings.{IsBrokenOff as IsBrokenOff_of_any}
+use Rattle.sw_cmd_protocol.specs.Endings.{IsBrokenOffAlone}
 use Rattle.sw_cmd_protocol.proofs.Whole.{exactly as exactly_of_any, all_answered as all_answered_of_any}
 use Rattle.sw_cmd_protocol.proofs.One.{one_transcript}
-use Rattle.sw_cmd_session.specs.Script.{Put, Remove, Compile, grammar}
-use Rattle.sw_cmd_session.specs.Transcript.{Held, Mark, Edited, Answered, Refused, IsEditMark, IsCompileMark, session, Refusal, refusal}
-use Rattle.sw_cmd_session.specs.Served.{surroundings, nothing_held, Surroundings, Served, IsBrokenOff, EndsExactly}
-use Rattle.sw_cmd_session.proofs.Nexts.{grows}
+use Rattle.sw_cmd_protocol.proofs.Alone.{alone}
+use Rattle.sw_cmd_edits.proofs.Nexts.{put_grows}
+use Rattle.sw_cmd_session.specs.Script.{Put, Remove, Compile, front_by, grammar}
+use Rattle.sw_cmd_session.specs.Transcript.{Held, Mark, Edited, Answered, Refused, IsEditMark, IsCompileMark, IsLeft, session, Refusal, refusal}
+use Rattle.sw_cmd_session.specs.Served.{surroundings, nothing_held, Served}
+
+front_grows : (said : Option Request) (rest more : List ℕ) → front_by said rest ≢ Short → front_by said (rest ++ more) ≡ more_next more (front_by said rest)
+front_grows None rest more h = refl
+front_grows (Some (Remove_line path)) rest more h = refl
+front_grows (Some (Compile_line entry paths)) rest more h = refl
+front_grows (Some End_line) rest more h = refl
+front_grows (Some (Put_line path count)) rest more h = put_grows (Put path) count rest more h
+
+grows : Grows grammar
+grows line rest more h = front_grows (request_of line) rest more h
 
 -- nothing is asked in a session that fails
-broken : {A : Type 0} (setting : Setting) (most : ℕ) (stop : Stop) (old new : Surroundings) → Served setting most stop old new → IsBrokenOff_of_any stop ⊎ A → IsBrokenOff stop ⊎ A
-broken setting most stop old new s (inr a) = inr a
-broken setting most Ended old new s (inl b) = absurd b
-broken setting most Wrong old new s (inl b) = absurd b
-broken setting most CutOff old new s (inl b) = absurd b
-broken setting most SourceFailed old new s (inl b) = inl tt
-broken setting most SinkFailed old new s (inl b) = inl tt
-broken setting most Memory old new s (inl b) = inl tt
-broken setting most OutsideFailed old new s (inl b) = absurd s.served.tells.left
-broken setting most Over old new s (inl b) = absurd b
+none_left : (mark : Mark) → IsLeft OutsideFailed mark → ⊥
+none_left mark left = left
 
 pub exactly : (setting : Setting) (most : ℕ) (stop : Stop) (bytes : List ℕ) (left written written_now : Option (List ℕ)) (ran ran_now : List (List ℕ)) (hosts hosts_now : HostState)
-    (s : Served setting most stop (surroundings (Some bytes) written ran hosts) (surroundings left written_now ran_now hosts_now)) → EndsExactly most stop bytes s.served.taken
+    (s : Served setting most stop (surroundings (Some bytes) written ran hosts) (surroundings left written_now ran_now hosts_now)) → EndsExactlyAlone grammar most stop bytes s.served.taken
 exactly setting most stop bytes left written written_now ran ran_now hosts hosts_now s =
-    broken setting most stop _ _ s (exactly_of_any (session setting) grows most bytes ran ran_now (nothing_held hosts) s.holds stop left written written_now s.served)
+    alone (session setting) most none_left stop _ _ s.served (exactly_of_any (session setting) grows most bytes ran ran_now (nothing_held hosts) s.holds stop left written written_now s.served)
 
 pub all_answered : (setting : Setting) (most : ℕ) (stop : Stop) (bytes before now : List ℕ) (left : Option (List ℕ)) (ran ran_now : List (List ℕ)) (hosts hosts_now : HostState)
     (s : Served setting most stop (surroundings (Some bytes) (Some before) ran hosts) (surroundings left (Some now) ran_now hosts_now)) → (script grammar most bytes).ending ≡ End
-    → IsBrokenOff stop ⊎ ((stop ≡ Ended) × AnswersAll (session setting) most bytes s.served.marks before now ran ran_now (nothing_held hosts) s.holds)
+    → IsBrokenOffAlone stop ⊎ ((stop ≡ Ended) × AnswersAll (session setting) most bytes s.served.marks before now ran ran_now (nothing_held hosts) s.holds)
 all_answered setting most stop bytes before now left ran ran_now hosts hosts_now s e =
-    broken setting most stop _ _ s (all_answered_of_any (session setting) grows most bytes ran ran_now (nothing_held hosts) s.holds before now left stop s.served e)
+    alone (session setting) most none_left stop _ _ s.served (all_answered_of_any (session setting) grows most bytes ran ran_now (nothing_held hosts) s.holds before now left stop s.served e)
 
 edit_mark : (mark other : Mark) → IsEditMark mark → IsEditMark other → mark ≡ other
 edit_mark Edited Edited a b = refl

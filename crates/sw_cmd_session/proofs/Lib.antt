@@ -1,3 +1,2 @@
-pub mod Nexts
 pub mod Turning
 pub mod Following

@@ -1,5 +1,5 @@
 pub mod Sheets
 pub mod Script
 pub mod Transcript
-pub mod Edits
+pub mod Lines
 pub mod Served

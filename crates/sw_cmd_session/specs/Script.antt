@@ -1,9 +1,10 @@
 -- The requests of a session. This project's own rule.
-use Rattle.std.specs.Prelude.{ℕ, ◌==◌, if◌then◌else◌, List, [], ◌∷◌, Option, None, Some, take, drop}
+use Rattle.std.specs.Prelude.{ℕ, List, Option, None, Some}
 use Rattle.sw_wire.specs.declared.request.Request.{Request}
 use Rattle.sw_wire.specs.declared.request.Request.TheVariants.{Put as Put_line, Remove as Remove_line, Compile as Compile_line, End as End_line}
 use Rattle.sw_wire.specs.Requests.{request_of}
-use Rattle.sw_cmd_protocol.specs.Script.{Next, Whole, Closing, NoRequest, Short, Ending, End, Bad, Over, Grammar}
+use Rattle.sw_cmd_protocol.specs.Script.{Next, Whole, Closing, NoRequest, Ending, End, Bad, Over, Grammar}
+use Rattle.sw_cmd_edits.specs.Puts.{put_next}
 
 -- a whole request that is answered; a put has its bytes
 pub data Event : Type 0 where
@@ -11,15 +12,10 @@ pub data Event : Type 0 where
   Remove : (path : List ℕ) → Event
   Compile : (entry : List ℕ) → (paths : List (List ℕ)) → Event
 
--- a put's bytes end with a line feed
-abbrev pub put_at : List ℕ → List ℕ → List ℕ → Next Event
-put_at path bytes [] = Short
-put_at path bytes (byte ∷ rest) = if byte == 10 then Whole (Put path bytes) rest else NoRequest
-
 -- what a line asks for, with the bytes behind it
 abbrev pub front_by : Option Request → List ℕ → Next Event
 front_by None rest = NoRequest
-front_by (Some (Put_line path count)) rest = put_at path (take count rest) (drop count rest)
+front_by (Some (Put_line path count)) rest = put_next (Put path) count rest
 front_by (Some (Remove_line path)) rest = Whole (Remove path) rest
 front_by (Some (Compile_line entry paths)) rest = Whole (Compile entry paths) rest
 front_by (Some End_line) rest = Closing

@@ -1,13 +1,12 @@
 -- What a session did, by how it ended. This project's own rule.
-use Rattle.std.specs.Prelude.{◌≡◌, ◌⊎◌, ℕ, List, [], Option, ⊤}
+use Rattle.std.specs.Prelude.{◌≡◌, ℕ, List, [], Option}
 use Rattle.std.specs.FinMap.{empty}
 use Rattle.sw_world.specs.Hosts.{HostState}
 use Rattle.sw_modules.specs.Fresh.{Setting}
 use Rattle.sw_record.specs.declared.reply.Reply.{Reply}
 use Rattle.sw_cmd_protocol.specs.declared.stop.Stop.{Stop}
-use Rattle.sw_cmd_protocol.specs.declared.stop.Stop.TheVariants.{Ended, Wrong, CutOff, SourceFailed, SinkFailed, Memory, OutsideFailed, Over}
 use Rattle.sw_cmd_protocol.specs.Script.{script}
-use Rattle.sw_cmd_protocol.specs.Endings.{status_of, stop_at}
+use Rattle.sw_cmd_protocol.specs.Endings.{status_of}
 use Rattle.sw_cmd_protocol.specs.Transcript.{turns}
 use Rattle.sw_cmd_protocol.specs.Served as protocol
 use Rattle.sw_cmd_protocol.specs.Heard.{Hearing, HeardBy}
@@ -53,21 +52,3 @@ abbrev pub ServedWith : {State : Type 0} → Setting → Hearing Reply State →
     → State → Type 0
 ServedWith setting hears status old new before now =
     (stop : Stop) × (status ≡ status_of stop) × ServedAndHeard setting hears 1000000 stop old new before now
-
--- a fault of the source or the sink, or want of memory
-abbrev pub IsBrokenOff : Stop → Type 0
-IsBrokenOff Ended = ⊥
-IsBrokenOff Wrong = ⊥
-IsBrokenOff CutOff = ⊥
-IsBrokenOff SourceFailed = ⊤
-IsBrokenOff SinkFailed = ⊤
-IsBrokenOff Memory = ⊤
-IsBrokenOff OutsideFailed = ⊥
-IsBrokenOff Over = ⊥
-
--- a session that nothing breaks off ends exactly as the script of all these bytes calls for, and it has answered that
--- script
-abbrev pub EndsExactly : ℕ → Stop → List ℕ → List ℕ → Type 0
-EndsExactly most stop bytes taken =
-    IsBrokenOff stop ⊎ ((stop ≡ stop_at (script grammar most bytes).ending)
-    × (script grammar most taken ≡ script grammar most bytes))

@@ -1,9 +1,8 @@
 -- What comes of each request of a session. This project's own rule.
-use Rattle.std.specs.Prelude.{ℕ, ◌≤◌, List, length, [], ◌∷◌, Option, None, Some, Result, ⊤}
+use Rattle.std.specs.Prelude.{ℕ, ◌≤◌, List, length, [], ◌∷◌, Option, None, Some, ⊤}
 use Rattle.sw_folder.specs.Files.{Files}
-use Rattle.sw_folder.specs.Edits.{after_put, after_removal, folder_after}
-use Rattle.sw_folder.specs.declared.edit.EditFault.{EditFault}
-use Rattle.sw_wire.specs.Replies.{edit_text, reply_text, memory_text}
+use Rattle.sw_folder.specs.Edits.{after_put, after_removal}
+use Rattle.sw_wire.specs.Replies.{reply_text, memory_text}
 use Rattle.sw_world.specs.Hosts.{HostState}
 use Rattle.sw_modules.specs.Fresh.{Setting}
 use Rattle.sw_record.specs.declared.reply.Cause.{Cause}
@@ -14,6 +13,7 @@ use Rattle.sw_keeper.specs.Keeping.{Table, Keeping, kept_in, AreKept}
 use Rattle.sw_cmd_protocol.specs.declared.stop.Stop.{Stop}
 use Rattle.sw_cmd_protocol.specs.declared.stop.Stop.TheVariants.{Ended, Wrong, CutOff, SourceFailed, SinkFailed, Memory, OutsideFailed, Over}
 use Rattle.sw_cmd_protocol.specs.Protocol.{Protocol, Turn}
+use Rattle.sw_cmd_edits.specs.Puts.{edit_turn}
 use Rattle.sw_cmd_session.specs.Script.{Event, Put, Remove, Compile, grammar}
 
 -- what a session holds between two requests: its folder, the runs that are kept, and the state of the host's functions
@@ -36,10 +36,9 @@ pub data Mark : Type 0 where
   Answered : (ran : List (List ℕ × Cause)) → (kept : Table) → Mark
   Refused : (ran : List (List ℕ)) → (calls : ℕ) → Mark
 
--- an edit runs no body, and the kept runs stay
-abbrev pub edit_turn : Held → Result Files EditFault → Turn Held Reply
-edit_turn h edit =
-    record { text = edit_text edit; told = []; ran = []; held = held (folder_after edit h.folder) h.kept h.hosts }
+-- the same over another folder
+abbrev pub over : Held → Files → Held
+over h folder = held folder h.kept h.hosts
 
 -- the reply tells of the bodies that ran
 abbrev pub reply_of : Compiled → List (List ℕ × Cause) → Reply
@@ -72,8 +71,8 @@ compile_turn setting h entry paths (Refused ran calls) =
 
 -- what comes of one request
 unfoldable pub turn_of : Setting → Held → Event → Mark → Turn Held Reply
-turn_of setting h (Put path bytes) mark = edit_turn h (after_put path bytes h.folder)
-turn_of setting h (Remove path) mark = edit_turn h (after_removal path h.folder)
+turn_of setting h (Put path bytes) mark = edit_turn (over h) h.folder (after_put path bytes h.folder)
+turn_of setting h (Remove path) mark = edit_turn (over h) h.folder (after_removal path h.folder)
 turn_of setting h (Compile entry paths) mark = compile_turn setting h entry paths mark
 
 abbrev pub IsEditMark : Mark → Type 0

@@ -1,23 +1,20 @@
 // A request is carried out: its reply is made, and sent.
-ghost use Rattle.std.specs.Prelude.{◌≡◌, ◌≤◌, ◌++◌, List, ℕ, length, None, Some, IfOk, IfErr, OnOk, OnErr};
+ghost use Rattle.std.specs.Prelude.{◌≡◌, ◌++◌, Some, IfOk, IfErr, OnOk, OnErr};
 ghost use Rattle.std.specs.Io.KnownBytes.{Appends};
 ghost use Rattle.std.specs.Option.{option_copied};
 ghost use Rattle.sw_io.specs.Causes.{HasCause, Cause};
-ghost use Rattle.sw_world.specs.Hosts.{HostState};
-ghost use Rattle.sw_modules.specs.Fresh.{Setting};
 ghost use Rattle.sw_wire.specs.Replies.{css_behind, reply_text};
 ghost use Rattle.sw_cmd_protocol.specs.Heard.{told_of};
-ghost use Rattle.sw_cmd_protocol.specs.Turns.{place, standing, Says, SaysSome, SayStops};
-ghost use Rattle.sw_cmd_session.specs.Script.{Compile, Remove};
+ghost use Rattle.sw_cmd_protocol.specs.Sending.{IsCutShort, SendEnds};
+ghost use Rattle.sw_cmd_protocol.specs.Turns.{standing, Says, SaysSome, SayStops};
+ghost use Rattle.sw_cmd_session.specs.Script.{Compile};
 ghost use Rattle.sw_cmd_session.specs.Transcript.{holding, session};
-ghost use Rattle.sw_cmd_session.specs.Edits.{PutAnswers, PutStops, IsCutShort, SendEnds};
 
-use crate::edits;
 use crate::reading::SheetReader;
 use crate::session::Session;
 use std::alloc::Global;
-use sw_cmd_protocol::{Stop, send};
-use sw_io::{Failed, Reader, Sink, Source};
+use sw_cmd_protocol::{Stop, answer, send};
+use sw_io::{Failed, Sink};
 use sw_modules::HasSetting;
 use sw_record::Reply;
 use sw_text::{List, Memory, Name};
@@ -53,57 +50,10 @@ impl<E: Engine> Session<E> {
             .compile(&reader, entry, paths.as_slice(), engine, hosts)
         {
             Ok(reply) => send_reply(self.alloc, reply, sink),
-            Err(Memory) => match send(sink, memory_reply()) {
+            Err(Memory) => match answer(sink, memory_reply()) {
                 Ok(()) => Ok(None),
-                Err(Failed) => Err(Stop::SinkFailed),
+                Err(stop) => Err(stop),
             },
-        }
-    }
-
-    pub(crate) fn remove<K: Sink>(
-        &mut self,
-        path: &Name,
-        sink: &mut K,
-    ) -> Result<Option<Reply>, Stop>
-        ensures ok { IfOk result (λ reply. (setting : Setting) (hosts : HostState) (ran : List (List ℕ))
-            → Says (session setting) (Remove path.now) (told_of reply)
-            (standing (holding self.old.keeper hosts) ran) (standing (holding self.new.keeper hosts) ran)
-            (K.written sink.old) (K.written sink.new)) }
-        ensures err { IfErr result (λ stop. (setting : Setting) (hosts : HostState) (ran : List (List ℕ))
-            → SayStops (session setting) stop (Remove path.now)
-            (standing (holding self.old.keeper hosts) ran) (standing (holding self.new.keeper hosts) ran)
-            (K.written sink.old) (K.written sink.new)) }
-        ensures cause { Cause Stop.SinkFailed (K.faults sink.old) (K.faults sink.new) result }
-    {
-        let reply = edits::remove(&mut self.keeper, path.as_str());
-        match send(sink, reply) {
-            Ok(()) => Ok(None),
-            Err(Failed) => Err(Stop::SinkFailed),
-        }
-    }
-
-    pub(crate) fn put<S: Source, K: Sink>(
-        &mut self,
-        path: &Name,
-        count: u32,
-        reader: &mut Reader,
-        source: &mut S,
-        sink: &mut K,
-    ) -> Result<Option<Reply>, Stop>
-        ensures unheard { IfOk result (λ reply. reply ≡ None) }
-        ensures ok { OnOk result (PutAnswers path.now count (place reader.old (S.left source.old) (K.written sink.old))
-            self.old.keeper
-            (place reader.new (S.left source.new) (K.written sink.new)) self.new.keeper) }
-        ensures err { IfErr result (λ stop. PutStops stop path.now count
-            (place reader.old (S.left source.old) (K.written sink.old)) self.old.keeper
-            (place reader.new (S.left source.new) (K.written sink.new)) self.new.keeper) }
-        ensures source_cause { Cause Stop.SourceFailed (S.faults source.old) (S.faults source.new) result }
-        ensures sink_cause { Cause Stop.SinkFailed (K.faults sink.old) (K.faults sink.new) result }
-    {
-        let reply = edits::put(self.alloc, path, count, reader, &mut self.keeper, source)?;
-        match send(sink, reply) {
-            Ok(()) => Ok(None),
-            Err(Failed) => Err(Stop::SinkFailed),
         }
     }
 }

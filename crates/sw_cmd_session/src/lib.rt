@@ -4,8 +4,6 @@
 #![tactic(auto)]
 
 mod answers;
-mod body;
-mod edits;
 mod laws;
 mod reading;
 mod requests;

@@ -1,7 +1,8 @@
 // The request of a line.
 ghost use Rattle.std.specs.Prelude.{◌≡◌, Some, IfOk, IfErr};
 ghost use Rattle.sw_wire.specs.Requests.{request_of};
-ghost use Rattle.sw_cmd_session.specs.Edits.{last_stop, LineStops};
+ghost use Rattle.sw_cmd_protocol.specs.Endings.{LineStops};
+ghost use Rattle.sw_cmd_session.specs.Lines.{last_stop};
 
 use std::alloc::Global;
 use sw_cmd_protocol::Stop;

@@ -10,7 +10,9 @@ ghost use Rattle.sw_cmd_session.specs.Transcript.{holding, session as protocol};
 use crate::reading::SheetReader;
 use crate::requests::{last_stop, request_in};
 use std::alloc::Global;
+use sw_cmd_edits::{Editable, Upload, answer_put, answer_removal};
 use sw_cmd_protocol::{Lines, Protocol, Stop};
+use sw_folder::EditFault;
 use sw_io::{Sink, Source};
 use sw_keeper::Keeper;
 use sw_modules::HasSetting;
@@ -34,6 +36,24 @@ impl<E: Engine> Session<E> {
             keeper: Keeper::new(alloc),
             alloc,
         }
+    }
+}
+
+impl<E: Engine> Editable for Session<E> {
+    ghost use Rattle.sw_keeper.specs.Keeping.{Table};
+
+    ghost Rest = { Table };
+
+    ghost folder = { λ s. s.keeper.folder };
+
+    ghost rest = { λ s. s.keeper.kept };
+
+    fn put(&mut self, path: &str, bytes: &[u8]) -> Result<(), EditFault> {
+        self.keeper.put(path, bytes)
+    }
+
+    fn remove(&mut self, path: &str) -> Result<(), EditFault> {
+        self.keeper.remove(path)
     }
 }
 
@@ -104,9 +124,20 @@ fn request_turn<S: Source, K: Sink, E: Engine, H: Hosts>(
         Request::Compile { entry, paths } => {
             session.compile(&entry, &paths, sink, engine, hosts)
         }
-        Request::Remove(path) => session.remove(&path, sink),
+        Request::Remove(path) => match answer_removal(&path, session, sink) {
+            Ok(()) => Ok(None),
+            Err(stop) => Err(stop),
+        },
         Request::Put { path, length } => {
-            session.put(&path, length, &mut lines.reader, source, sink)
+            let upload = Upload {
+                alloc: session.alloc,
+                path: &path,
+                length,
+            };
+            match answer_put(&upload, session, &mut lines.reader, source, sink) {
+                Ok(()) => Ok(None),
+                Err(stop) => Err(stop),
+            }
         }
     }
 }

@@ -3,6 +3,7 @@ ghost use Rattle.std.specs.Prelude.{◌≤◌};
 
 use crate::detaching::ended_over_keeper;
 use crate::hosts::Weary;
+use crate::starved::Starving;
 use std::alloc::{AllocError, Global};
 use sw_cmd_protocol::Output;
 use sw_cmd_run::{Surroundings, run};
@@ -47,7 +48,7 @@ pub fn ended(
             return Err(AllocError);
         }
     }
-    let mut engine = Evaluator::new();
+    let mut engine = Starving::new(Evaluator::new(), row.starved.to_vec(alloc)?);
     if !row.detached.is_empty() {
         let ending = ended_over_keeper(alloc, row, &mut engine, &mut hosts)?;
         return Ok(Run { ending, faults: 0 });

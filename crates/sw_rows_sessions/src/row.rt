@@ -55,6 +55,8 @@ pub struct Row {
     pub disk_fails: Vec<u32>,
     /// The calls of the sink that fail.
     pub sink_fails: Vec<u32>,
+    /// The calls of the engine to run a body on that find no memory.
+    pub starved: Vec<u32>,
     /// The functions of the host, in order of attaching.
     pub hosts: Vec<RowHost>,
     /// Those of them that are detached between requests.
@@ -85,6 +87,7 @@ impl Row {
             folders: Vec::new(alloc),
             disk_fails: Vec::new(alloc),
             sink_fails: Vec::new(alloc),
+            starved: Vec::new(alloc),
             hosts: Vec::new(alloc),
             detached: Vec::new(alloc),
             listeners: Vec::new(alloc),
@@ -230,6 +233,11 @@ impl Row {
     /// The same of the calls of the sink.
     pub fn set_sink_fails(&mut self, numbers: &str) -> Result<(), AllocError> {
         add_numbers(numbers, &mut self.sink_fails)
+    }
+
+    /// The same of the calls of the engine to run a body on that find no memory.
+    pub fn set_starved(&mut self, numbers: &str) -> Result<(), AllocError> {
+        add_numbers(numbers, &mut self.starved)
     }
 
     /// Puts these words, with spaces between, in the place of those of the command line. An error exactly where no

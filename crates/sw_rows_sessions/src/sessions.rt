@@ -36,6 +36,7 @@ fn add_step(alloc: Global, row: &mut Row, head: &str, body: &str) -> Result<(), 
         "file" => add_file(alloc, row, rest, body),
         "disk-fails" => row.set_disk_fails(rest),
         "sink-fails" => row.set_sink_fails(rest),
+        "starved" => row.set_starved(rest),
         "host" => {
             row.hosts.push(RowHost::read(alloc, rest)?)?;
             Ok(())

@@ -1,11 +1,10 @@
-// A line is a request, or none.
-ghost use Rattle.std.specs.Prelude.{[], ◌∷◌};
-ghost use Rattle.sw_wire.specs.Words.{words_of, rest_words};
-ghost use Rattle.sw_wire.specs.Requests.{request_of, request_by, named_by, put_by, removal_by, compile_by, length_by, IsRead};
+// A line of a session is a request, or none.
+ghost use Rattle.sw_wire.specs.Words.{rest_words};
+ghost use Rattle.sw_wire.specs.Requests.{request_of, named_by, IsRead};
 
+use crate::arguments::{read_length, read_nothing};
 use crate::bases::read_bases;
-use crate::number::read_number;
-use crate::words::{cut_word, word_text};
+use crate::parts::{Parts, line_parts};
 use crate::{LineFault, Request};
 use std::alloc::Global;
 use sw_text::Name;
@@ -16,32 +15,10 @@ use sw_text::Name;
 pub fn read_request(alloc: Global, line: &[u8]) -> Result<Request, LineFault>
     ensures { IsRead result (request_of line.now) }
 {
-    let (name, more) = cut_word(line);
-    match more {
-        None => read_bare(name),
-        Some(rest) => read_arguments(alloc, name, rest),
-    }
-}
-
-// a line of one word
-fn read_bare(name: &[u8]) -> Result<Request, LineFault>
-    ensures { IsRead result (request_by (name.now ∷ [])) }
-{
-    if name == b"end".as_slice() {
-        Ok(Request::End)
-    } else {
-        Err(LineFault::NotARequest)
-    }
-}
-
-// a line of this word and those of `rest`
-fn read_arguments(alloc: Global, name: &[u8], rest: &[u8]) -> Result<Request, LineFault>
-    ensures { IsRead result (request_by (name.now ∷ words_of rest.now)) }
-{
-    let (path, more) = cut_word(rest);
-    match word_text(path) {
+    match line_parts(line) {
         None => Err(LineFault::NotARequest),
-        Some(path) => read_named(alloc, name, path, more),
+        Some(Parts::End) => Ok(Request::End),
+        Some(Parts::Named { name, word, more }) => read_named(alloc, name, word, more),
     }
 }
 
@@ -55,59 +32,18 @@ fn read_named(
     ensures { IsRead result (named_by name.now path.now (rest_words more.entry)) }
 {
     if name == b"put".as_slice() {
-        read_put(alloc, path, more)
+        let length = read_length(more)?;
+        let path = Name::new(alloc, path)?;
+        Ok(Request::Put { path, length })
     } else if name == b"remove".as_slice() {
-        read_removal(alloc, path, more)
+        read_nothing(more)?;
+        let path = Name::new(alloc, path)?;
+        Ok(Request::Remove(path))
     } else if name == b"compile".as_slice() {
-        read_compile(alloc, path, more)
+        let paths = read_bases(alloc, more)?;
+        let entry = Name::new(alloc, path)?;
+        Ok(Request::Compile { entry, paths })
     } else {
         Err(LineFault::NotARequest)
     }
-}
-
-fn read_put(alloc: Global, path: &str, more: Option<&[u8]>) -> Result<Request, LineFault>
-    ensures { IsRead result (put_by path.now (rest_words more.entry)) }
-{
-    match more {
-        None => Err(LineFault::NotARequest),
-        Some(rest) => {
-            let (digits, more) = cut_word(rest);
-            match more {
-                Some(_) => Err(LineFault::NotARequest),
-                None => read_length(alloc, path, digits),
-            }
-        }
-    }
-}
-
-fn read_length(alloc: Global, path: &str, digits: &[u8]) -> Result<Request, LineFault>
-    ensures { IsRead result (length_by path.now digits.now) }
-{
-    match read_number(digits) {
-        None => Err(LineFault::NotARequest),
-        Some(length) => {
-            let path = Name::new(alloc, path)?;
-            Ok(Request::Put { path, length })
-        }
-    }
-}
-
-fn read_removal(alloc: Global, path: &str, more: Option<&[u8]>) -> Result<Request, LineFault>
-    ensures { IsRead result (removal_by path.now (rest_words more.entry)) }
-{
-    match more {
-        Some(_) => Err(LineFault::NotARequest),
-        None => {
-            let path = Name::new(alloc, path)?;
-            Ok(Request::Remove(path))
-        }
-    }
-}
-
-fn read_compile(alloc: Global, entry: &str, more: Option<&[u8]>) -> Result<Request, LineFault>
-    ensures { IsRead result (compile_by entry.now (rest_words more.entry)) }
-{
-    let paths = read_bases(alloc, more)?;
-    let entry = Name::new(alloc, entry)?;
-    Ok(Request::Compile { entry, paths })
 }

@@ -158,7 +158,13 @@ fn cause_word(cause: Cause) -> &'static [u8]
     }
 }
 
-fn write_outcome(alloc: Global, outcome: &Outcome, out: &mut Vec<u8>) -> Result<(), Memory>
+/// Writes the outcome of a compile behind what stands in `out`, as `write_reply` does. After `Memory` what stood there
+/// stands there still, with a part of the outcome behind it.
+pub(crate) fn write_outcome(
+    alloc: Global,
+    outcome: &Outcome,
+    out: &mut Vec<u8>,
+) -> Result<(), Memory>
     ensures ok { OnOk result (out.new.items ≡ out.old.items ++ outcome_text outcome.now) }
     ensures err { OnErr result (take (length out.old.items) out.new.items ≡ out.old.items) }
 {

@@ -12,3 +12,17 @@ pub enum Request {
     Compile { entry: Name, paths: List<Name> },
     End,
 }
+
+/// What a line asks for where compiles go on by steps. The path of a put, a removal or a start is any word, as in a
+/// session.
+#[derive(Debug, Drop)]
+pub enum StepRequest {
+    /// The file with this path is to have the bytes that follow the line, so many, and then a line feed.
+    Put { path: Name, length: u32 },
+    Remove(Name),
+    /// A compile of this file is to begin. Each of the load paths is a path of the folder, or `.` for the folder itself.
+    Start { entry: Name, paths: List<Name> },
+    /// The compile with this number is to go on.
+    Step(u32),
+    End,
+}

@@ -2,7 +2,7 @@ use Rattle.std.proofs.Common.{◌≡◌, [], refl, sym, ap, ◌∙◌}
 use Rattle.sw_cmd_session.specs.Sheets.{functions, hosted, hostless}
 use Rattle.sw_cmd_session.specs.Served as session
 use Rattle.sw_cmd_line.specs.declared.command.Command.TheVariants as code
-use Rattle.sw_cmd_line.specs.Forms.{form_seen, Session, Hosted, Once, Poll, Make, target_seen}
+use Rattle.sw_cmd_line.specs.Forms.{form_seen, Session, Hosted, Steps, Once, Poll, Make, target_seen}
 use Rattle.sw_cmd_disk_compile.specs.Once.{status_of}
 use Rattle.sw_cmd_workload.specs.Ends.{status_of as status_of_made}
 use Rattle.sw_cmd_run.specs.Run.{surroundings}
@@ -58,6 +58,30 @@ returns-in-Hosted-clause-disk_fault g c =
     (session.surroundings (g.S.Source.left a.source) (g.K.Sink.written a.output.sink) (g.E.Engine.ran c.args.engine.now) (g.H.Hosts.state a.hosts))
     (session.surroundings (g.S.Source.left c.serve-in-Hosted.new.source) (g.K.Sink.written c.serve-in-Hosted.new.output.sink) (g.E.Engine.ran c.serve-in-Hosted.new.engine) (g.H.Hosts.state c.serve-in-Hosted.new.hosts))
     (g.T.Audience.state a.output.audience) (g.T.Audience.state c.serve-in-Hosted.new.output.audience) c.serve-in-Hosted.ensures.served e)
+
+pub returns-in-Steps-clause-runs : goal.returns-in-Steps-clause-runs
+returns-in-Steps-clause-runs g c =
+    let a = c.args.around.now in
+    runs_as g.E.Engine.body (functions g.H.Hosts.answer g.H.Hosts.after) g.T.Audience.hears c.serve_steps.result
+    (surroundings (g.S.Source.left a.source) (g.K.Sink.written a.output.sink) (g.D.Disk.course a.disk) (g.E.Engine.ran c.args.engine.now) (g.H.Hosts.state a.hosts))
+    (surroundings (g.S.Source.left c.serve_steps.new.source) (g.K.Sink.written c.serve_steps.new.output.sink) (g.D.Disk.course a.disk) (g.E.Engine.ran c.serve_steps.new.engine) (g.H.Hosts.state a.hosts))
+    (g.T.Audience.state a.output.audience) (g.T.Audience.state c.serve_steps.new.output.audience) c.args.command code.Steps c.in-Steps.is
+    (record { served = c.serve_steps.ensures.served; unheard = c.serve_steps.ensures.unheard; course = refl; hosts = refl })
+
+pub returns-in-Steps-clause-no_source : goal.returns-in-Steps-clause-no_source
+returns-in-Steps-clause-no_source g c = λ target n. let bad : Steps ≡ (Once target) = form_as c.args.command code.Steps (Once target) c.in-Steps.is n in cc
+
+pub returns-in-Steps-clause-no_outside : goal.returns-in-Steps-clause-no_outside
+returns-in-Steps-clause-no_outside g c = λ number n. let bad : Steps ≡ (Make number) = form_as c.args.command code.Steps (Make number) c.in-Steps.is n in cc
+
+pub returns-in-Steps-clause-disk_fault : goal.returns-in-Steps-clause-disk_fault
+returns-in-Steps-clause-disk_fault g c = λ e. absurd (c.serve_steps.ensures.no_outside_fault e)
+
+pub returns-in-Once-clause-no_disk_steps : goal.returns-in-Once-clause-no_disk_steps
+returns-in-Once-clause-no_disk_steps g c = λ n. let bad : Once (target_seen c.in-Once.target) ≡ Steps = form_as c.args.command (code.Once c.in-Once.target) Steps c.in-Once.is n in cc
+
+pub returns-in-Poll-clause-no_disk_steps : goal.returns-in-Poll-clause-no_disk_steps
+returns-in-Poll-clause-no_disk_steps g c = λ n. let bad : Poll (target_seen c.in-Poll.target) ≡ Steps = form_as c.args.command (code.Poll c.in-Poll.target) Steps c.in-Poll.is n in cc
 
 pub returns-in-Once-clause-runs : goal.returns-in-Once-clause-runs
 returns-in-Once-clause-runs g c =

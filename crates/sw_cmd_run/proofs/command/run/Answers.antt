@@ -1,6 +1,6 @@
 use Rattle.std.proofs.Common.{sym, ap, ◌∙◌}
 use Rattle.std.specs.Prelude.{option_map}
-use Rattle.sw_cmd_line.specs.Forms.{form_of, form_seen, Session, Hosted, Once, Make}
+use Rattle.sw_cmd_line.specs.Forms.{form_of, form_seen, Session, Hosted, Steps, Once, Make}
 use Rattle.sw_cmd_session.specs.Sheets.{functions}
 use Rattle.sw_cmd_run.specs.Run.{surroundings}
 use Rattle.sw_cmd_run.proofs.Running.{none_runs, some_runs, not_none, same_form, other_form}
@@ -32,6 +32,10 @@ returns-in-Some-clause-no_disk g c =
 pub returns-in-Some-clause-no_disk_hosted : goal.returns-in-Some-clause-no_disk_hosted
 returns-in-Some-clause-no_disk_hosted g c =
     λ n. c.carry_out.ensures.no_disk_hosted (same_form (form_of c.args.words.now) (form_seen c.in-Some.command) (sym (ap (option_map form_seen) c.in-Some.is) ∙ c.command_of.ensures) Hosted n)
+
+pub returns-in-Some-clause-no_disk_steps : goal.returns-in-Some-clause-no_disk_steps
+returns-in-Some-clause-no_disk_steps g c =
+    λ n. c.carry_out.ensures.no_disk_steps (same_form (form_of c.args.words.now) (form_seen c.in-Some.command) (sym (ap (option_map form_seen) c.in-Some.is) ∙ c.command_of.ensures) Steps n)
 
 pub returns-in-Some-clause-no_source : goal.returns-in-Some-clause-no_source
 returns-in-Some-clause-no_source g c =

@@ -4,7 +4,7 @@ use Rattle.sw_cmd_protocol.specs.Heard.{told_of}
 use Rattle.sw_cmd_protocol.specs.Turns.{standing}
 use Rattle.sw_cmd_protocol.proofs.Fronts.{if_ok, if_err}
 use Rattle.sw_cmd_session.specs.Sheets.{hostless}
-use Rattle.sw_cmd_session.proofs.Turning.{not_source}
+use Rattle.sw_cmd_protocol.proofs.LineTurns.{not_source}
 use Rattle.sw_cmd_run.specs.Poll.{held, word_of}
 use Rattle.sw_cmd_run.proofs.Lines.{line_closes, line_is_wrong, scan_answers, scan_stops}
 use Rattle.sw_cmd_run.proofs.poll.scan_turn.Goals as goal

@@ -1,0 +1,4 @@
+pub mod Saying
+pub mod Turning
+pub mod Numbers
+pub mod Following
