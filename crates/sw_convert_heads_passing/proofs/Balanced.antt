@@ -12,7 +12,8 @@ use Rattle.sw_parse_lexemes.specs.Classes.{is_name, is_number, goes_on}
 use Rattle.sw_parse_lexemes.specs.Ahead.{sort_at, spaced_at, in_insert, over_word, walk_by, walk_from}
 use Rattle.sw_convert_passing.specs.Written.{Written, Stand}
 use Rattle.sw_convert_passing.specs.Kinds.{is_quoted, is_hash_name, is_constant, is_part, is_lone_value, is_operator, is_prefix, is_separator, is_raw, is_raw_sign, is_sign, is_plus_or_minus}
-use Rattle.sw_convert_passing.specs.Values.{Value, number, negative, quoted, template, hash, constant, lone_value, url_template, variable, owned_variable, owned_call, word, call, important, in_parens, in_brackets, negated, prefixed, linked, divided, beside, special, seamed, Word, named, begun, begun_minus, Parts, no_part, part, part_insert, Call, arguments, Pieces, no_piece, text_piece, piece_insert, Items, no_items, items, seamed_items, Row, first, separated, further, Special, text_end, text_token, text_brace, text_name, text_dollar, text_sign, text_comma, text_number, text_signed, text_variable, text_owned_variable, text_call, text_owned_call, text_insert, text_parens, text_brackets, text_seam, enclosed, inserted}
+use Rattle.sw_convert_passing.specs.Values.{Value, number, negative, quoted, template, hash, constant, lone_value, url_template, variable, owned_variable, owned_call, word, call, important, in_parens, in_brackets, negated, prefixed, linked, divided, beside, special, seamed, Word, named, begun, begun_minus, Parts, no_part, part, part_insert, Call, arguments, Pieces, no_piece, text_piece, piece_insert, Items, no_items, items, seamed_items, Row, first, separated, further, Special, text_end, text_token, text_brace, text_name, text_dollar, text_sign, text_comma, text_number, text_signed, text_variable, text_owned_variable, text_call, text_owned_call, text_insert, text_parens, text_brackets, text_seam, enclosed, inserted, Settles, settled}
+use Rattle.sw_convert_passing.proofs.Settling.{stand_loose}
 use Rattle.sw_convert_passing.proofs.Entries.{split}
 
 -- neither a `#{` nor the end of one
@@ -121,6 +122,11 @@ round : (opening : Written) (inner : List Written) (closing : Written) (rest : L
 round opening inner closing rest o inside c more =
     still opening (inner ++ closing ∷ rest) o (join inner (closing ∷ rest) inside (still closing rest c more))
 
+settled_over : {loose exact : List Written} → Balanced loose → Settles loose exact → Balanced exact
+settled_over it s = record {
+  walks_over = λ plains at to count stand. it.walks_over plains at to count (stand_loose plains s at to stand);
+}
+
 mutual
   value : {mode : Mode} {spaced signed : Bool} {tokens : List Written} → Value mode spaced signed tokens
       → Balanced tokens
@@ -168,6 +174,7 @@ mutual
 
   calls : {tokens : List Written} → Call tokens → Balanced tokens
   calls (arguments {inner = inner} inside) = round _ inner _ [] refl (all_items inside) refl nothing
+  calls (settled loose s) = settled_over (calls loose) s
 
   pieces : {what : Sort} {tokens : List Written} → is_still what ≡ true → Pieces what tokens → Balanced tokens
   pieces s no_piece = nothing

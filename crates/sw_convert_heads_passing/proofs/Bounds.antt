@@ -1,5 +1,5 @@
 -- The bounds of `@for`, and the heads `@else` and `@charset`, are told.
-use Rattle.std.proofs.Common.{◌≡◌, ℕ, ◌+◌, Bool, true, false, not, ◌&&◌, ◌||◌, if◌then◌else◌, List, refl, sym, ◌∙◌, ap, subst}
+use Rattle.std.proofs.Common.{◌≡◌, ℕ, ◌+◌, Bool, true, false, not, ◌&&◌, ◌||◌, if◌then◌else◌, List, [], ◌∷◌, refl, sym, ◌∙◌, ap, subst}
 use Rattle.sw_text_scan.proofs.Bounds.{if_true, if_false}
 use Rattle.sw_parse_terminals.specs.declared.terminal.Terminal.{Terminal}
 use Rattle.sw_parse_terminals.specs.declared.terminal.Terminal.TheVariants as terminals
@@ -11,24 +11,26 @@ use Rattle.sw_parse_lexemes.specs.declared.state.Mode.TheVariants as modes
 use Rattle.sw_parse_lexemes.specs.declared.state.Frame.{Frame}
 use Rattle.sw_parse_lexemes.specs.declared.state.State.{State}
 use Rattle.sw_parse_lexemes.specs.Classes.{same, is_name, is_comment}
-use Rattle.sw_parse_lexemes.specs.Ahead.{sort_at, spaced_at, is_direct, next_sort}
+use Rattle.sw_parse_lexemes.specs.declared.state.Walk.TheVariants as walks
+use Rattle.sw_parse_lexemes.specs.Ahead.{sort_at, spaced_at, is_direct, over_comment, next_sort}
 use Rattle.sw_parse_lexemes.specs.Names.{is, is_raw, is_bang, is_apart, continues, behind_dollar, behind_bang, is_bound_end, name_in_expression, name_in}
 use Rattle.sw_parse_lexemes.specs.Signs.{is_text, ends_operand}
 use Rattle.sw_parse_lexemes.specs.Terminals.{string_in_code, terminal_of}
 use Rattle.sw_parse_lexemes.specs.Steps.{begins_statement, in_word, passes, further_mode, after}
 use Rattle.sw_parse_lexemes.proofs.NameLaws.{name_there}
-use Rattle.sw_convert_passing.specs.Written.{Written, written, apart, Stand}
-use Rattle.sw_convert_passing.specs.Places.{may_precede, Told}
-use Rattle.sw_convert_passing.specs.Heads.{Starts}
+use Rattle.sw_convert_passing.specs.Written.{Written, written, apart, Stand, Within}
+use Rattle.sw_convert_passing.specs.Places.{Behind, Told, may_precede, separates}
+use Rattle.sw_convert_passing.specs.Heads.{Starts, HeadTold}
 use Rattle.sw_convert_passing.proofs.Facts.{no_and, and_no, name_code}
 use Rattle.sw_convert_passing.proofs.Steps.{join, step, stay_at, next_from}
-use Rattle.sw_convert_passing.proofs.Walks.{next_code}
+use Rattle.sw_convert_passing.proofs.Walks.{is_code, code_stays, next_code}
 use Rattle.sw_convert_passing.proofs.BySort.{by_quoted, by_unnamed}
 use Rattle.sw_convert_passing.proofs.Entries.{one_of}
 use Rattle.sw_convert_passing.proofs.Heads.{placed_as, head_told}
-use Rattle.sw_convert_heads_passing.specs.Flow.{is_bound, bound, BoundsAreTold, is_string, LoneHead, else_head, charset_head, Ends, before_block, before_end, LoneHeadsAreTold}
+use Rattle.sw_convert_heads_passing.specs.Flow.{is_bound, bound, BoundsAreTold, is_string, LoneHead, else_head, charset_head, Ends, before_block, before_seam, before_end, LoneHeadsAreTold}
 use Rattle.sw_convert_heads_passing.proofs.Loads.{Place, place_of}
 use Rattle.sw_convert_heads_passing.proofs.Moves.{told_by, moved}
+use Rattle.sw_convert_heads_passing.proofs.Selectors.{goes}
 use Rattle.sw_convert_heads_passing.proofs.Firsts.{apart_no_insert, charset_here, charset_mode, charset_passes, else_here, else_mode, else_passes, first_moved, plain_passes}
 
 bound_word : (sort : Sort) → is_bound sort ≡ true → (state : State) (plains : List Plain) (at : ℕ)
@@ -65,8 +67,8 @@ bound_is sorts.To b = record
     { named = refl; steady = refl; begins = refl; before = refl; operand = refl; comma = refl }
 bound_is _ b = absurd (cc)
 
--- behind an operand a name is told by nothing before it
-record Ending (before : Terminal) : Type 0 where
+-- behind a value or a sign between values a name is told by nothing before it
+pub record Ending (before : Terminal) : Type 0 where
   dollar : behind_dollar before ≡ false
   hash : is before terminals.Hash ≡ false
   bang : is_bang before ≡ false
@@ -82,10 +84,22 @@ ending terminals.Ending o = absurd (cc)
 ending terminals.OwnerDot o = absurd (cc)
 ending _ o = record { dollar = refl; hash = refl; bang = refl; owned = refl }
 
-pub bounds_are_told : BoundsAreTold
-bounds_are_told sort b plains frames state at to within operand (there, e) blank =
+separated : (before : Terminal) → separates before ≡ true → Ending before
+separated terminals.Comma s = record { dollar = refl; hash = refl; bang = refl; owned = refl }
+separated terminals.Colon s = record { dollar = refl; hash = refl; bang = refl; owned = refl }
+separated terminals.Ellipsis s = record { dollar = refl; hash = refl; bang = refl; owned = refl }
+separated _ s = absurd (cc)
+
+pub ending_by : (ended : Bool) (state : State) → Behind ended state → Ending state.before
+ending_by true state behind = ending state.before behind
+ending_by false state behind = separated state.before behind.0
+
+pub bound_told : (sort : Sort) → is_bound sort ≡ true → (plains : List Plain) (frames : List Frame) (state : State)
+    (at to : ℕ) → Within modes.Bounds frames state → Ending state.before
+    → Stand plains at (apart sort (bound sort) ∷ []) to → spaced_at plains to ≡ true
+    → HeadTold plains modes.Bounds frames state at (apart sort (bound sort) ∷ []) to
+bound_told sort b plains frames state at to within f (there, e) blank =
     let facts = bound_is sort b in
-    let f = ending state.before operand in
     let apart_next : spaced_at plains (at + 1) ≡ true = ap (spaced_at plains) e ∙ blank in
     let ends : is_bound_end plains at ≡ true =
     ap not (or_no _ _ (no_and _ _ (ap not apart_next)) (no_and _ _ (ap not apart_next))) in
@@ -117,22 +131,30 @@ bounds_are_told sort b plains frames state at to within operand (there, e) blank
     no_word sorts.To b = refl
     no_word _ b = absurd (cc)
 
+pub bounds_are_told : BoundsAreTold
+bounds_are_told sort b plains frames state at to within operand stand blank =
+    bound_told sort b plains frames state at to within (ending state.before operand) stand blank
+
 -- ---- heads without a value
 
-ends_free : {plains : List Plain} {at : ℕ} → Ends plains at
-    → (is_direct plains at sorts.OpenInsert ≡ false) × (same (sort_at plains at) sorts.If ≡ false)
-ends_free {plains} {at} (before_block e) = (
-  and_no (not (spaced_at plains at)) _ (ap (λ (s : Sort). same s sorts.OpenInsert) e),
-  ap (λ (s : Sort). same s sorts.If) e,
-)
-ends_free {plains} {at} (before_end e) = (
-  and_no (not (spaced_at plains at)) _ (ap (λ (s : Sort). same s sorts.OpenInsert) e),
-  ap (λ (s : Sort). same s sorts.If) e,
-)
+no_insert : (plains : List Plain) (at : ℕ) (sort : Sort) → same sort sorts.OpenInsert ≡ false → sort_at plains at ≡ sort
+    → is_direct plains at sorts.OpenInsert ≡ false
+no_insert plains at sort other e =
+    and_no (not (spaced_at plains at)) _ (ap (λ (s : Sort). same s sorts.OpenInsert) e ∙ other)
+
+ends_free : {plains : List Plain} {at : ℕ} → Ends plains at → is_direct plains at sorts.OpenInsert ≡ false
+ends_free {plains} {at} (before_block e) = no_insert plains at sorts.OpenBrace refl e
+ends_free {plains} {at} (before_seam l e f) = no_insert plains at sorts.Comment refl e
+ends_free {plains} {at} (before_end e) = no_insert plains at sorts.Semicolon refl e
 
 ends_next : {plains : List Plain} (at : ℕ) → Ends plains (at + 1) → same (next_sort plains at) sorts.If ≡ false
 ends_next {plains} at (before_block e) =
     ap (λ (s : Sort). same s sorts.If) (next_code plains at sorts.OpenBrace refl e)
+ends_next {plains} at (before_seam l e f) =
+    ap (λ (k : ℕ). same (sort_at plains k) sorts.If)
+    (goes walks.Comments plains (at + 1) 0 0 l (ap (λ (s : Sort). over_comment s 0) e)
+    ∙ code_stays plains ((at + 1) + 1) (ap is_code f))
+    ∙ ap (λ (s : Sort). same s sorts.If) f
 ends_next {plains} at (before_end e) =
     ap (λ (s : Sort). same s sorts.If) (next_code plains at sorts.Semicolon refl e)
 
@@ -160,8 +182,8 @@ lone_heads_told (else_head {spaced}) plains frames state at to starts (there, e)
     let ends_here = subst (Ends plains) (sym e) ends in
     let first = first_moved {mode = modes.Else} {frames = frames} plains state at
     (written sorts.AtElse spaced terminals.AtElse) terminals.AtElse starts there refl
-    (else_mode plains at (ends_free ends_here).0 there.sort)
-    (else_here plains at (ends_free ends_here).0 (placed_as state plains at modes.Else) starts.start false
+    (else_mode plains at (ends_free ends_here) there.sort)
+    (else_here plains at (ends_free ends_here) (placed_as state plains at modes.Else) starts.start false
     (ends_next at ends_here) there.sort) one_of else_passes refl refl in
     told_by first.end (join first.reads (stay_at e)) first.within
 lone_heads_told (charset_head {spaced} sort s) plains frames state at to starts (there, (second, e)) ends =

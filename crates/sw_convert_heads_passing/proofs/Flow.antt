@@ -17,7 +17,8 @@ use Rattle.sw_parse_lexemes.specs.Names.{is, is_raw, is_bang, is_apart, continue
 use Rattle.sw_parse_lexemes.specs.Signs.{is_text}
 use Rattle.sw_parse_lexemes.specs.Terminals.{terminal_of}
 use Rattle.sw_parse_lexemes.proofs.NameLaws.{name_there}
-use Rattle.sw_convert_passing.specs.Written.{Written, written, direct, apart, Stand}
+use Rattle.sw_parse_lexemes.specs.Steps.{past_white}
+use Rattle.sw_convert_passing.specs.Written.{Written, written, direct, apart, IsThere, Stand}
 use Rattle.sw_convert_passing.specs.Values.{dollar}
 use Rattle.sw_convert_passing.specs.Heads.{Starts, HeadTold}
 use Rattle.sw_convert_passing.proofs.Facts.{no_and, and_no, both, name_code}
@@ -28,9 +29,10 @@ use Rattle.sw_convert_passing.proofs.Entries.{split, one_of}
 use Rattle.sw_convert_passing.proofs.Leaves.{never}
 use Rattle.sw_convert_passing.proofs.Heads.{begun, placed_as}
 use Rattle.sw_convert_heads_passing.specs.Properties.{colon, is_dashed}
-use Rattle.sw_convert_heads_passing.specs.Flow.{Names, FlowHead, each_head, for_head, else_if_head, assigned_head, FlowHeadsAreTold}
+use Rattle.sw_convert_heads_passing.specs.Flow.{Names, parted, FlowHead, each_head, for_head, else_if_head, assigned_head, FlowHeadsAreTold}
 use Rattle.sw_convert_heads_passing.proofs.Properties.{moded}
-use Rattle.sw_convert_heads_passing.proofs.Loads.{place_of, and_then, same_behind}
+use Rattle.sw_convert_heads_passing.proofs.Loads.{Place, Behind, place_of, and_then, same_behind}
+use Rattle.sw_convert_passing.proofs.Steps.{seam_step, seam_next}
 use Rattle.sw_convert_heads_passing.proofs.Moves.{moved, named_here}
 use Rattle.sw_convert_heads_passing.proofs.Firsts.{apart_no_insert, colon_passes, dot_passes, each_here, each_mode, each_passes, else_here, else_if_passes, else_mode, first_moved, for_here, for_mode, for_passes, from_passes, headed, if_passes, in_passes, owner_dollar_passes, owner_passes, quiet_each, quiet_else, quiet_for, quiet_variable, variable_passes}
 use Rattle.sw_convert_heads_passing.proofs.Names.{names_apart, names_told, variable_told}
@@ -113,49 +115,75 @@ assigned_told {frames} {spaced} owner name o d n plains state at to starts (ther
 
 -- ---- heads before a value
 
-each_told : {frames : List Frame} {spaced : Bool} {names : List Written} → Names names → (plains : List Plain)
-    (state : State) (at to : ℕ)
-    → Starts frames state
-    → Stand plains at (written sorts.AtEach spaced terminals.AtEach ∷ (names ++ apart sorts.In terminals.In ∷ [])) to
+-- a token of a head, with an empty comment before it or without
+parted_told : {mode further : Mode} {frames : List Frame} {before behind : Terminal} (plains : List Plain) (one : Written)
+    → ((state : State) (at : ℕ) → Place mode frames state before → IsThere plains at one
+    → Behind plains further frames state at (one ∷ []) behind (at + 1))
+    → (gap : Bool) (state : State) (at to : ℕ) → Place mode frames state before
+    → Stand plains at (parted gap (one ∷ [])) to
+    → Behind plains further frames state at (parted gap (one ∷ [])) behind to
+parted_told plains one told false state at to place (there, e) =
+    let b = told state at place there in
+    and_then b.reads (same_behind (place_of b) e)
+parted_told plains one told true state at to place (seam_there, (there, e)) =
+    let s = seam_next state place.within in
+    let b = told (past_white state sorts.Comment) (at + 1)
+    (record { within = s.within; before_is = s.before ∙ place.before_is; word = s.word ∙ place.word }) there in
+    and_then (seam_step plains state at place.within seam_there) (and_then b.reads (same_behind (place_of b) e))
+
+in_told : {frames : List Frame} (plains : List Plain) (state : State) (at : ℕ)
+    → Place modes.Each frames state terminals.VariableName → IsThere plains at (apart sorts.In terminals.In)
+    → Behind plains modes.Expression frames state at (apart sorts.In terminals.In ∷ []) terminals.In (at + 1)
+in_told plains state at place there =
+    moved {further = modes.Expression} plains state at place (apart sorts.In terminals.In) terminals.In there refl
+    (named_here plains state at place quiet_variable refl (ap is_name there.sort)
+    ∙ if_true (is_in (sort_at plains at)) terminals.In terminals.Named (ap is_in there.sort)) one_of in_passes refl refl
+
+from_told : {frames : List Frame} (plains : List Plain) (state : State) (at : ℕ)
+    → Place modes.For frames state terminals.VariableName → IsThere plains at (apart sorts.From terminals.From)
+    → Behind plains modes.Bounds frames state at (apart sorts.From terminals.From ∷ []) terminals.From (at + 1)
+from_told plains state at place there =
+    moved {further = modes.Bounds} plains state at place (apart sorts.From terminals.From) terminals.From there refl
+    (named_here plains state at place quiet_variable refl (ap is_name there.sort)
+    ∙ if_true (is_from (sort_at plains at)) terminals.From terminals.Named (ap is_from there.sort)) one_of from_passes refl
+    refl
+
+each_told : {frames : List Frame} {spaced : Bool} {names : List Written} → (gap : Bool) → Names names
+    → (plains : List Plain) (state : State) (at to : ℕ) → Starts frames state
+    → Stand plains at
+    (written sorts.AtEach spaced terminals.AtEach ∷ (names ++ parted gap (apart sorts.In terminals.In ∷ []))) to
     → HeadTold plains modes.Expression frames state at
-    (written sorts.AtEach spaced terminals.AtEach ∷ (names ++ apart sorts.In terminals.In ∷ [])) to
-each_told {frames} {spaced} {names} listed plains state at to starts (there, stand) =
-    let free = apart_no_insert plains (at + 1)
-    (names_apart listed (apart sorts.In terminals.In ∷ []) plains (at + 1) to stand) in
+    (written sorts.AtEach spaced terminals.AtEach ∷ (names ++ parted gap (apart sorts.In terminals.In ∷ []))) to
+each_told {frames} {spaced} {names} gap listed plains state at to starts (there, stand) =
+    let tail = parted gap (apart sorts.In terminals.In ∷ []) in
+    let free = apart_no_insert plains (at + 1) (names_apart listed tail plains (at + 1) to stand) in
     let first = first_moved {mode = modes.Each} {frames = frames} plains state at
     (written sorts.AtEach spaced terminals.AtEach) terminals.AtEach starts there refl (each_mode plains at free there.sort)
     (each_here plains at free (placed_as state plains at modes.Each) starts.start there.sort) one_of each_passes refl
     refl in
-    let (place, stands, (last, e)) = split plains to names (apart sorts.In terminals.In ∷ []) (at + 1) stand in
+    let (place, stands, last) = split plains to names tail (at + 1) stand in
     let b2 = names_told listed quiet_each plains frames first.end (at + 1) place (place_of first) stands in
-    let is_word = named_here plains b2.end place (place_of b2) quiet_variable refl (ap is_name last.sort)
-    ∙ if_true (is_in (sort_at plains place)) terminals.In terminals.Named (ap is_in last.sort) in
-    let b3 = moved {further = modes.Expression} plains b2.end place (place_of b2) (apart sorts.In terminals.In) terminals.In
-    last refl is_word one_of in_passes refl refl in
-    headed (and_then first.reads (and_then b2.reads (and_then b3.reads (same_behind (place_of b3) e)))) refl refl refl
+    let b3 = parted_told plains (apart sorts.In terminals.In) (in_told plains) gap b2.end place to (place_of b2) last in
+    headed (and_then first.reads (and_then b2.reads b3)) refl refl refl
 
-for_told : {frames : List Frame} {spaced : Bool} (name : Sort) → is_name name ≡ true → (plains : List Plain)
+for_told : {frames : List Frame} {spaced : Bool} (gap : Bool) (name : Sort) → is_name name ≡ true → (plains : List Plain)
     (state : State) (at to : ℕ)
     → Starts frames state
     → Stand plains at
     (written sorts.AtFor spaced terminals.AtFor ∷ dollar true ∷ direct name terminals.VariableName
-    ∷ apart sorts.From terminals.From ∷ []) to
+    ∷ parted gap (apart sorts.From terminals.From ∷ [])) to
     → HeadTold plains modes.Bounds frames state at
     (written sorts.AtFor spaced terminals.AtFor ∷ dollar true ∷ direct name terminals.VariableName
-    ∷ apart sorts.From terminals.From ∷ []) to
-for_told {frames} {spaced} name n plains state at to starts (there, (second, (third, (last, e)))) =
+    ∷ parted gap (apart sorts.From terminals.From ∷ [])) to
+for_told {frames} {spaced} gap name n plains state at to starts (there, (second, (third, last))) =
     let free = apart_no_insert plains (at + 1) second.spaced in
-    let p2 = (at + 1) + 1 in
-    let p3 = p2 + 1 in
+    let p3 = ((at + 1) + 1) + 1 in
     let first = first_moved {mode = modes.For} {frames = frames} plains state at
     (written sorts.AtFor spaced terminals.AtFor) terminals.AtFor starts there refl (for_mode plains at free there.sort)
     (for_here plains at free (placed_as state plains at modes.For) starts.start there.sort) one_of for_passes refl refl in
     let b2 = variable_told refl plains first.end (at + 1) p3 (place_of first) quiet_for name n (second, (third, refl)) in
-    let is_word = named_here plains b2.end p3 (place_of b2) quiet_variable refl (ap is_name last.sort)
-    ∙ if_true (is_from (sort_at plains p3)) terminals.From terminals.Named (ap is_from last.sort) in
-    let b3 = moved {further = modes.Bounds} plains b2.end p3 (place_of b2) (apart sorts.From terminals.From) terminals.From
-    last refl is_word one_of from_passes refl refl in
-    headed (and_then first.reads (and_then b2.reads (and_then b3.reads (same_behind (place_of b3) e)))) refl refl refl
+    let b3 = parted_told plains (apart sorts.From terminals.From) (from_told plains) gap b2.end p3 to (place_of b2) last in
+    headed (and_then first.reads (and_then b2.reads b3)) refl refl refl
 
 else_if_told : {frames : List Frame} {spaced : Bool} (plains : List Plain) (state : State) (at to : ℕ)
     → Starts frames state
@@ -179,8 +207,10 @@ heads_told : {mode : Mode} {tokens : List Written} → FlowHead mode tokens → 
     (frames : List Frame)
     (state : State) (at to : ℕ) → Starts frames state → Stand plains at tokens to
     → HeadTold plains mode frames state at tokens to
-heads_told (each_head listed) plains frames state at to starts stand = each_told listed plains state at to starts stand
-heads_told (for_head name n) plains frames state at to starts stand = for_told name n plains state at to starts stand
+heads_told (each_head gap listed) plains frames state at to starts stand =
+    each_told gap listed plains state at to starts stand
+heads_told (for_head gap name n) plains frames state at to starts stand =
+    for_told gap name n plains state at to starts stand
 heads_told else_if_head plains frames state at to starts stand = else_if_told plains state at to starts stand
 heads_told (assigned_head owner name o d n) plains frames state at to starts stand =
     assigned_told owner name o d n plains state at to starts stand

@@ -17,6 +17,12 @@ mod Names
 mod Flow
 mod Bounds
 mod Blocks
+mod Selectors
 mod Rules
-mod Statements
-mod Sheets
+mod Bare
+mod Calm
+pub mod Loud
+pub mod Fronts
+mod Elseless
+pub mod Statements
+pub mod Sheets

@@ -18,13 +18,13 @@ use Rattle.sw_parse_lexemes.specs.Names.{is, word_in_load}
 use Rattle.sw_parse_lexemes.specs.Signs.{is_text, ends_operand, is_params, comma_terminal}
 use Rattle.sw_parse_lexemes.specs.Brackets.{paren_in}
 use Rattle.sw_parse_lexemes.specs.Terminals.{goes_on, string_in_code, terminal_of}
-use Rattle.sw_parse_lexemes.specs.Steps.{inner_mode, after}
+use Rattle.sw_parse_lexemes.specs.Steps.{inner_mode, after, past_white}
 use Rattle.sw_convert_passing.specs.Written.{Written, written, direct, apart, Stand, Within}
 use Rattle.sw_convert_passing.specs.Places.{may_precede, Ready, Told, IsClosed}
 use Rattle.sw_convert_passing.specs.Values.{Value, variable, Items, Flags, no_flag, flag, dollar, enclosed}
 use Rattle.sw_convert_passing.specs.Heads.{Starts}
 use Rattle.sw_convert_passing.proofs.Facts.{no_and, and_no}
-use Rattle.sw_convert_passing.proofs.Steps.{Reads, join, step, stay_at, next, framed, opens, closes}
+use Rattle.sw_convert_passing.proofs.Steps.{Reads, join, step, stay_at, seam_step, next, framed, opens, closes}
 use Rattle.sw_convert_passing.proofs.Walks.{next_code}
 use Rattle.sw_convert_passing.proofs.BySort.{by_quoted, by_unnamed, by_paren, by_comma, lone_here}
 use Rattle.sw_convert_passing.proofs.Entries.{split, closed_spaced, closed_stops, reads, one_of, led}
@@ -34,7 +34,7 @@ use Rattle.sw_convert_passing.proofs.Heads.{placed_as, first_told}
 use Rattle.sw_convert_passing.proofs.Told.{values_are_told, inner_told}
 use Rattle.sw_convert_heads_passing.specs.Loads.{is_url, UseName, no_name, as_name, as_star, entry, Entries, one_entry, more_entries, configuration_in, UseConfiguration, ForwardConfiguration, LoadHead, use_head, forward_head, LoadsAreTold}
 use Rattle.sw_convert_heads_passing.specs.Loads as loads
-use Rattle.sw_convert_heads_passing.proofs.Loads.{is_load, Place, place_of, one_told, name_told, Ended, quiet_ended, use_name_told, prefix_told, filter_told, forward_word, use_word}
+use Rattle.sw_convert_heads_passing.proofs.Loads.{is_load, Place, past_seam, place_of, one_told, name_told, Ended, quiet_ended, use_name_told, prefix_told, filter_told, forward_word, use_word}
 
 told_by : {plains : List Plain} {mode : Mode} {frames : List Frame} {state : State} {at to : ℕ}
     {tokens : List Written}
@@ -161,24 +161,46 @@ entries_in inside plains frames state at to within before word stand closed =
 -- behind what may end before it
 module _ (plains : List Plain) (frames : List Frame) (state : State) (at to : ℕ) {before : Terminal}
     (ended : Ended before) where
-  use_configured : {tokens : List Written} → UseConfiguration tokens → Place modes.Use frames state before
-      → Stand plains at tokens to → Told plains modes.Use frames state at tokens to
-  use_configured loads.UseConfiguration.not_configured place stand = told_by state (stay_at stand) place.within
-  use_configured (loads.UseConfiguration.configured inside) place (there, stand) =
+  use_with : {inner : List Written} → Items inner → Place modes.Use frames state before
+      → Stand plains at (configuration_in inner) to → Told plains modes.Use frames state at (configuration_in inner) to
+  use_with inside place (there, stand) =
       let one = name_told refl plains state at place (quiet_ended ended) sorts.With true terminals.With refl there
       (use_word state plains at ended ∙ ap word_in_load there.sort) refl refl refl in
       let t = parens_told refl refl (items_in inside) plains one.end (at + 1) to (place_of one) stand in
       told_by t.end (join one.reads (reads t)) t.within
 
-  forward_configured : {tokens : List Written} → ForwardConfiguration tokens → Place modes.Forward frames state before
-      → Stand plains at tokens to → Told plains modes.Forward frames state at tokens to
-  forward_configured loads.ForwardConfiguration.not_configured place stand =
-      told_by state (stay_at stand) place.within
-  forward_configured (loads.ForwardConfiguration.configured inside) place (there, stand) =
+  forward_with : {inner : List Written} → Entries false inner → Place modes.Forward frames state before
+      → Stand plains at (configuration_in inner) to
+      → Told plains modes.Forward frames state at (configuration_in inner) to
+  forward_with inside place (there, stand) =
       let one = name_told refl plains state at place (quiet_ended ended) sorts.With true terminals.With refl there
       (forward_word state plains at ended ∙ ap word_in_load there.sort) refl refl refl in
       let t = parens_told refl refl (entries_in inside) plains one.end (at + 1) to (place_of one) stand in
       told_by t.end (join one.reads (reads t)) t.within
+
+-- with an empty comment before it or without
+use_configured : (plains : List Plain) (frames : List Frame) (state : State) (at to : ℕ) {before : Terminal}
+    → Ended before → {tokens : List Written} → UseConfiguration tokens → Place modes.Use frames state before
+    → Stand plains at tokens to → Told plains modes.Use frames state at tokens to
+use_configured plains frames state at to ended loads.UseConfiguration.not_configured place stand =
+    told_by state (stay_at stand) place.within
+use_configured plains frames state at to ended (loads.UseConfiguration.configured inside) place stand =
+    use_with plains frames state at to ended inside place stand
+use_configured plains frames state at to ended (loads.UseConfiguration.configured_apart inside) place (there, stand) =
+    let t = use_with plains frames (past_white state sorts.Comment) (at + 1) to ended inside (past_seam place) stand in
+    told_by t.end (join (seam_step plains state at place.within there) (reads t)) t.within
+
+forward_configured : (plains : List Plain) (frames : List Frame) (state : State) (at to : ℕ) {before : Terminal}
+    → Ended before → {tokens : List Written} → ForwardConfiguration tokens → Place modes.Forward frames state before
+    → Stand plains at tokens to → Told plains modes.Forward frames state at tokens to
+forward_configured plains frames state at to ended loads.ForwardConfiguration.not_configured place stand =
+    told_by state (stay_at stand) place.within
+forward_configured plains frames state at to ended (loads.ForwardConfiguration.configured inside) place stand =
+    forward_with plains frames state at to ended inside place stand
+forward_configured plains frames state at to ended (loads.ForwardConfiguration.configured_apart inside) place
+    (there, stand) =
+    let t = forward_with plains frames (past_white state sorts.Comment) (at + 1) to ended inside (past_seam place) stand in
+    told_by t.end (join (seam_step plains state at place.within there) (reads t)) t.within
 
 -- ---- the keyword and the url
 

@@ -15,12 +15,12 @@ use Rattle.sw_parse_lexemes.specs.Ahead.{sort_at, spaced_at, code_from}
 use Rattle.sw_parse_lexemes.specs.Names.{is, is_raw, is_bang, is_apart, continues, behind_dollar, behind_bang, word_in_load, name_in}
 use Rattle.sw_parse_lexemes.specs.Signs.{is_text, is_behind_rest, is_params, comma_terminal}
 use Rattle.sw_parse_lexemes.specs.Terminals.{terminal_of}
-use Rattle.sw_parse_lexemes.specs.Steps.{begins_statement, in_word, passes, stays, after}
+use Rattle.sw_parse_lexemes.specs.Steps.{begins_statement, in_word, passes, stays, after, past_white}
 use Rattle.sw_parse_lexemes.proofs.NameLaws.{name_there}
 use Rattle.sw_convert_passing.specs.Written.{Written, written, direct, apart, Among, IsThere, Stand, Within}
 use Rattle.sw_convert_passing.specs.Values.{dollar}
 use Rattle.sw_convert_passing.proofs.Facts.{no_and, and_no, both, name_code}
-use Rattle.sw_convert_passing.proofs.Steps.{Reads, join, step, stay_at, next}
+use Rattle.sw_convert_passing.proofs.Steps.{Reads, join, step, stay_at, seam_next, next}
 use Rattle.sw_convert_passing.proofs.BySort.{by_dollar, by_star, by_comma}
 use Rattle.sw_convert_passing.proofs.Tokens.{variable_name_here}
 use Rattle.sw_convert_passing.proofs.Entries.{split, one_of}
@@ -71,6 +71,13 @@ pub place_of : {plains : List Plain} {mode : Mode} {frames : List Frame} {state 
     {tokens : List Written} {before : Terminal} (b : Behind plains mode frames state at tokens before to)
     → Place mode frames b.end before
 place_of b = record { within = b.within; before_is = b.before_is; word = b.word }
+
+-- behind an empty comment too
+pub past_seam : {mode : Mode} {frames : List Frame} {state : State} {before : Terminal} → Place mode frames state before
+    → Place mode frames (past_white state sorts.Comment) before
+past_seam {state = state} place =
+    let s = seam_next state place.within in
+    record { within = s.within; before_is = s.before ∙ place.before_is; word = s.word ∙ place.word }
 
 -- one token
 module _ {mode : Mode} {frames : List Frame} {before : Terminal} (load : is_load mode ≡ true) (plains : List Plain)

@@ -15,22 +15,22 @@ use Rattle.sw_parse_lexemes.specs.Ahead.{sort_at, spaced_at, is_direct}
 use Rattle.sw_parse_lexemes.specs.Modes.{statement_mode}
 use Rattle.sw_parse_lexemes.specs.Names.{is, is_raw, is_bang, is_apart, continues, behind_dollar, behind_bang, using_or_named, name_in}
 use Rattle.sw_parse_lexemes.specs.Terminals.{goes_on, terminal_of}
-use Rattle.sw_parse_lexemes.specs.Steps.{after}
+use Rattle.sw_parse_lexemes.specs.Steps.{after, past_white}
 use Rattle.sw_parse_lexemes.proofs.NameLaws.{name_there}
 use Rattle.sw_convert_passing.specs.Written.{Written, written, direct, apart, Stand}
 use Rattle.sw_convert_passing.specs.Places.{IsClosed, Told}
 use Rattle.sw_convert_passing.specs.Values.{Items}
 use Rattle.sw_convert_passing.specs.Heads.{Starts}
 use Rattle.sw_convert_passing.proofs.Facts.{no_and, and_no, both, name_code}
-use Rattle.sw_convert_passing.proofs.Steps.{join, stay_at}
+use Rattle.sw_convert_passing.proofs.Steps.{join, stay_at, seam_step}
 use Rattle.sw_convert_passing.proofs.BySort.{by_dot}
 use Rattle.sw_convert_passing.proofs.Entries as entries
 use Rattle.sw_convert_passing.proofs.Entries.{split, closed_stops, reads, one_of, led}
 use Rattle.sw_convert_passing.proofs.Leaves.{never}
 use Rattle.sw_convert_passing.proofs.Heads.{placed_as, first_told}
 use Rattle.sw_convert_passing.proofs.Told.{inner_told}
-use Rattle.sw_convert_heads_passing.specs.Members.{Params, params_in, Given, none_given, some_given, MixinName, own_name, owned_name, UsingParams, none_used, some_used, MemberHead, function_head, mixin_head, lone_mixin_head, include_head, content_head, MembersAreTold}
-use Rattle.sw_convert_heads_passing.proofs.Loads.{Behind, Place, Quiet, place_of, and_then, same_behind}
+use Rattle.sw_convert_heads_passing.specs.Members.{Params, params_in, Given, none_given, some_given, MixinName, own_name, owned_name, UsingParams, none_used, some_used, used_apart, MemberHead, function_head, mixin_head, lone_mixin_head, include_head, content_head, MembersAreTold}
+use Rattle.sw_convert_heads_passing.proofs.Loads.{Behind, Place, past_seam, Quiet, place_of, and_then, same_behind}
 use Rattle.sw_convert_heads_passing.proofs.Moves.{told_by, Passes, moved, named_here, paren_here, InParens, parens_told}
 use Rattle.sw_convert_heads_passing.proofs.Params.{params_told}
 
@@ -150,6 +150,8 @@ given_dot : {given rest : List Written} → Given given → UsingParams rest →
 given_dot none_given none_used plains at to stand closed =
     (entries.calm plains at (subst (IsClosed plains) (sym stand) closed)).dot
 given_dot none_given (some_used _) plains at to (there, stand) closed = no_and _ _ (ap not there.spaced)
+given_dot none_given (used_apart _) plains at to (there, stand) closed =
+    and_no _ _ (ap (λ (s : Sort). same s sorts.Dot) there.sort)
 given_dot (some_given inside) used plains at to (there, stand) closed =
     and_no _ _ (ap (λ (s : Sort). same s sorts.Dot) there.sort)
 
@@ -223,13 +225,12 @@ mixin_told (owned_name owner name o n) plains frames state at to place (there, (
 
 -- ---- `using`
 
-using_told : {params : List Written} → UsingParams params → {before : Terminal} → Quiet before
+used_with : {params : List Written} → Params params → {before : Terminal} → Quiet before
     → is before terminals.AtInclude ≡ false
     → (plains : List Plain) (frames : List Frame) (state : State) (at to : ℕ) → Place modes.Include frames state before
-    → Stand plains at params to → Told plains modes.Include frames state at params to
-using_told none_used quiet no_include plains frames state at to place stand =
-    told_by state (stay_at stand) place.within
-using_told (some_used inside) {before} quiet no_include plains frames state at to place (there, stand) =
+    → Stand plains at (apart sorts.Using terminals.Using ∷ params_in true params) to
+    → Told plains modes.Include frames state at (apart sorts.Using terminals.Using ∷ params_in true params) to
+used_with inside {before} quiet no_include plains frames state at to place (there, stand) =
     let told = named_here plains state at place quiet refl (ap is_name there.sort)
     ∙ if_false (is before terminals.AtInclude) _ _ no_include
     ∙ if_false (is before terminals.OwnerDot) terminals.Named _ quiet.owned ∙ ap using_or_named there.sort in
@@ -238,6 +239,19 @@ using_told (some_used inside) {before} quiet no_include plains frames state at t
     let two = parens_told terminals.HeadParen true refl refl refl refl (params_told inside) plains one.end (at + 1) to
     (place_of one) stand (paren_here plains one.end (at + 1) (place_of one) quiet_using stand.0.sort) in
     told_by two.end (join one.reads two.reads) two.within
+
+using_told : {params : List Written} → UsingParams params → {before : Terminal} → Quiet before
+    → is before terminals.AtInclude ≡ false
+    → (plains : List Plain) (frames : List Frame) (state : State) (at to : ℕ) → Place modes.Include frames state before
+    → Stand plains at params to → Told plains modes.Include frames state at params to
+using_told none_used quiet no_include plains frames state at to place stand =
+    told_by state (stay_at stand) place.within
+using_told (some_used inside) quiet no_include plains frames state at to place stand =
+    used_with inside quiet no_include plains frames state at to place stand
+using_told (used_apart inside) quiet no_include plains frames state at to place (there, stand) =
+    let t = used_with inside quiet no_include plains frames (past_white state sorts.Comment) (at + 1) to (past_seam place)
+    stand in
+    told_by t.end (join (seam_step plains state at place.within there) (reads t)) t.within
 
 -- ---- all heads
 

@@ -14,7 +14,7 @@ use Rattle.sw_parse_lexemes.specs.declared.state.Frame.{Frame}
 use Rattle.sw_parse_lexemes.specs.declared.state.State.{State}
 use Rattle.sw_parse_lexemes.specs.Classes.{same, is_name, is_reserved}
 use Rattle.sw_parse_lexemes.specs.Ahead.{sort_at, spaced_at, is_direct, walk_from, code_from, in_insert, over_word, behind_first, begins_word}
-use Rattle.sw_parse_lexemes.specs.Modes.{declared_mode, plain_mode, statement_mode}
+use Rattle.sw_parse_lexemes.specs.Modes.{begins_pseudo, declared_mode, plain_mode, statement_mode}
 use Rattle.sw_parse_lexemes.specs.Names.{is, is_bang, is_apart, is_special_name, continues, behind_dollar, behind_bang, constant_or_word}
 use Rattle.sw_parse_lexemes.specs.Signs.{is_text, insert_in}
 use Rattle.sw_parse_lexemes.specs.Terminals.{terminal_of}
@@ -124,12 +124,13 @@ or_right : (a b : Bool) → b ≡ true → (a || b) ≡ true
 or_right true b e = refl
 or_right false b e = e
 
--- the `:` behind a word makes it a declaration, where white space follows
-declares : (plains : List Plain) (place : ℕ) → sort_at plains place ≡ sorts.Colon → spaced_at plains (place + 1) ≡ true
+-- the `:` behind a word makes it a declaration, where no pseudo follows
+declares : (plains : List Plain) (place : ℕ) → sort_at plains place ≡ sorts.Colon
+    → begins_pseudo plains (place + 1) ≡ false
     → declared_mode plains place ≡ modes.Expression
-declares plains place e spaced =
+declares plains place e apart =
     if_true (same (sort_at plains place) sorts.Colon && _) modes.Expression modes.Raw
-    (both _ _ (ap (λ (s : Sort). same s sorts.Colon) e) (ap not (no_and _ _ (no_and _ _ (ap not spaced)))))
+    (both _ _ (ap (λ (s : Sort). same s sorts.Colon) e) (ap not (no_and _ _ apart)))
 
 -- the place of the `:`
 pub colon_place : (plains : List Plain) (at place : ℕ)
@@ -171,7 +172,7 @@ module _ (plains : List Plain) (at place : ℕ) (sort : Sort) (named : is_name s
     (free : (insert || not (is_reserved sort)) ≡ true) (e : sort_at plains at ≡ sort)
     (next_is : Follows plains (at + 1) insert)
     (over : walk_from walks.Word plains 0 (at + 1) ≡ walk_from walks.Word plains 0 place)
-    (ends : sort_at plains place ≡ sorts.Colon) (spaced : spaced_at plains (place + 1) ≡ true) where
+    (ends : sort_at plains place ≡ sorts.Colon) (apart : begins_pseudo plains (place + 1) ≡ false) where
   is_named : is_name (sort_at plains at) ≡ true
   is_named = ap is_name e ∙ named
 
@@ -196,7 +197,7 @@ module _ (plains : List Plain) (at place : ℕ) (sort : Sort) (named : is_name s
       ∙ ap (declared_mode plains)
       (colon_place plains at place
       (ap (λ (n : ℕ). walk_from walks.Word plains n (at + 1)) (no_count (sort_at plains at) is_named) ∙ over) ends)
-      ∙ declares plains place ends spaced)
+      ∙ declares plains place ends apart)
     where
       no_dot : Follows plains (at + 1) insert → is_direct plains (at + 1) sorts.Dot ≡ false
       no_dot (follows i d p) = d
@@ -245,12 +246,12 @@ module _ (plains : List Plain) (at place : ℕ) (sort : Sort) (named : is_name s
 named_told : {frames : List Frame} {spaced : Bool} {parts : List Written} (plains : List Plain) (state : State)
     (at to : ℕ) (sort : Sort) → is_name sort ≡ true → is_dashed sort ≡ false
     → (begins_insert parts || not (is_reserved sort)) ≡ true → Parts parts → Starts frames state
-    → Stand plains at (written sort spaced terminals.Word ∷ (parts ++ colon ∷ [])) to → spaced_at plains to ≡ true
+    → Stand plains at (written sort spaced terminals.Word ∷ (parts ++ colon ∷ [])) to → begins_pseudo plains to ≡ false
     → values.HeadTold plains modes.Expression frames state at
     (written sort spaced terminals.Word ∷ (parts ++ colon ∷ [])) to
 named_told {frames} {spaced} {parts} plains state at to sort n d f more starts (there, stand) blank =
     let (place, stands, (last, e)) = split plains to parts (colon ∷ []) (at + 1) stand in
-    let apart : spaced_at plains (place + 1) ≡ true = ap (spaced_at plains) e ∙ blank in
+    let apart : begins_pseudo plains (place + 1) ≡ false = ap (begins_pseudo plains) e ∙ blank in
     let follows_it = follow more plains (at + 1) to stand in
     let over = parts_over more plains (at + 1) place stands in
     let first = first_told {mode = modes.Expression} plains state at (written sort spaced terminals.Word)
@@ -267,7 +268,7 @@ named_told {frames} {spaced} {parts} plains state at to sort n d f more starts (
 
 module _ (plains : List Plain) (at place : ℕ) (e : sort_at plains at ≡ sorts.OpenInsert)
     (over : walk_from walks.Word plains 1 (at + 1) ≡ walk_from walks.Word plains 0 place)
-    (ends : sort_at plains place ≡ sorts.Colon) (spaced : spaced_at plains (place + 1) ≡ true) where
+    (ends : sort_at plains place ≡ sorts.Colon) (apart : begins_pseudo plains (place + 1) ≡ false) where
   insert_mode : statement_mode plains at ≡ modes.Expression
   insert_mode =
       insert_moded plains at modes.Expression e
@@ -278,7 +279,7 @@ module _ (plains : List Plain) (at place : ℕ) (e : sort_at plains at ≡ sorts
       ∙ ap (declared_mode plains)
       (colon_place plains at place
       (ap (λ (s : Sort). walk_from walks.Word plains (in_insert s 0) (at + 1)) e ∙ over) ends)
-      ∙ declares plains place ends spaced)
+      ∙ declares plains place ends apart)
 
   insert_word : {frames : List Frame} (state : State) → Starts frames state
       → terminal_of (placed_as state plains at modes.Expression) plains at ≡ terminals.WordInsert
@@ -291,7 +292,7 @@ module _ (plains : List Plain) (at place : ℕ) (e : sort_at plains at ≡ sorts
 begun_told : {frames : List Frame} {spaced : Bool} {inner parts : List Written} (plains : List Plain) (state : State)
     (at to : ℕ) → Items inner → Parts parts → Starts frames state
     → Stand plains at (inserted spaced terminals.WordInsert inner (parts ++ colon ∷ [])) to
-    → spaced_at plains to ≡ true
+    → begins_pseudo plains to ≡ false
     → values.HeadTold plains modes.Expression frames state at
     (inserted spaced terminals.WordInsert inner (parts ++ colon ∷ [])) to
 begun_told {frames} {spaced} {inner} {parts} plains state at to inside more starts (there, stand) blank =
@@ -300,7 +301,7 @@ begun_told {frames} {spaced} {inner} {parts} plains state at to inside more star
     let (middle, others, over) = insert_over inner (parts ++ colon ∷ []) inside plains at to spaced
     terminals.WordInsert (there, stand) in
     let (place, stands, (last, e)) = split plains to parts (colon ∷ []) middle others in
-    let apart : spaced_at plains (place + 1) ≡ true = ap (spaced_at plains) e ∙ blank in
+    let apart : begins_pseudo plains (place + 1) ≡ false = ap (begins_pseudo plains) e ∙ blank in
     let walked = over ∙ parts_over more plains middle place stands in
     let mode = insert_mode plains at place there.sort walked last.sort apart in
     let s0 = placed_as state plains at modes.Expression in
@@ -334,7 +335,7 @@ begun_told {frames} {spaced} {inner} {parts} plains state at to inside more star
 module _ (plains : List Plain) (at place : ℕ) (e : sort_at plains at ≡ sorts.Minus)
     (direct_insert : is_direct plains (at + 1) sorts.OpenInsert ≡ true)
     (over : walk_from walks.Word plains 0 (at + 1) ≡ walk_from walks.Word plains 0 place)
-    (ends : sort_at plains place ≡ sorts.Colon) (spaced : spaced_at plains (place + 1) ≡ true) where
+    (ends : sort_at plains place ≡ sorts.Colon) (apart : begins_pseudo plains (place + 1) ≡ false) where
   minus_mode : statement_mode plains at ≡ modes.Expression
   minus_mode =
       minus_moded plains at modes.Expression e
@@ -345,7 +346,7 @@ module _ (plains : List Plain) (at place : ℕ) (e : sort_at plains at ≡ sorts
       ∙ ap (declared_mode plains)
       (colon_place plains at place
       (ap (λ (s : Sort). walk_from walks.Word plains (in_insert s 0) (at + 1)) e ∙ over) ends)
-      ∙ declares plains place ends spaced)
+      ∙ declares plains place ends apart)
 
   minus_word : {frames : List Frame} (state : State) → Starts frames state
       → terminal_of (placed_as state plains at modes.Expression) plains at ≡ terminals.WordMinus
@@ -360,14 +361,14 @@ minus_told : {frames : List Frame} {spaced : Bool} {inner parts : List Written} 
     (at to : ℕ) → Items inner → Parts parts → Starts frames state
     → Stand plains at
     (written sorts.Minus spaced terminals.WordMinus ∷ inserted false terminals.WordInsert inner (parts ++ colon ∷ [])) to
-    → spaced_at plains to ≡ true
+    → begins_pseudo plains to ≡ false
     → values.HeadTold plains modes.Expression frames state at
     (written sorts.Minus spaced terminals.WordMinus ∷ inserted false terminals.WordInsert inner (parts ++ colon ∷ [])) to
 minus_told {frames} {spaced} {inner} {parts} plains state at to inside more starts (there, stand) blank =
     let (middle, others, over) = insert_over inner (parts ++ colon ∷ []) inside plains (at + 1) to false
     terminals.WordInsert stand in
     let (place, stands, (last, e)) = split plains to parts (colon ∷ []) middle others in
-    let apart : spaced_at plains (place + 1) ≡ true = ap (spaced_at plains) e ∙ blank in
+    let apart : begins_pseudo plains (place + 1) ≡ false = ap (begins_pseudo plains) e ∙ blank in
     let insert : is_direct plains (at + 1) sorts.OpenInsert ≡ true =
     both _ _ (ap not stand.0.spaced) (ap (λ (s : Sort). same s sorts.OpenInsert) stand.0.sort) in
     let walked = goes plains (at + 1) 0 1 stand.0.within
@@ -401,8 +402,9 @@ minus_told {frames} {spaced} {inner} {parts} plains state at to inside more star
     (subst (λ (x : List Written). values.HeadTold plains modes.Expression frames first.end (at + 1) x to) whole
     (colon_behind plains first.end t ended))
 
-property_heads_told : {tokens : List Written} → PropertyHead tokens → (plains : List Plain) (frames : List Frame)
-    (state : State) (at to : ℕ) → Starts frames state → Stand plains at tokens to → spaced_at plains to ≡ true
+-- before anything that makes no pseudo of the `:`
+pub property_heads_told : {tokens : List Written} → PropertyHead tokens → (plains : List Plain) (frames : List Frame)
+    (state : State) (at to : ℕ) → Starts frames state → Stand plains at tokens to → begins_pseudo plains to ≡ false
     → values.HeadTold plains modes.Expression frames state at tokens to
 property_heads_told (named_property sort n d f more) plains frames state at to starts stand blank =
     named_told plains state at to sort n d f more starts stand blank
@@ -413,4 +415,4 @@ property_heads_told (minus_property inside more) plains frames state at to start
 
 pub property_heads_are_told : PropertyHeadsAreTold
 property_heads_are_told tokens head plains frames state at to starts stand blank =
-    property_heads_told head plains frames state at to starts stand blank
+    property_heads_told head plains frames state at to starts stand (no_and _ _ (ap not blank))

@@ -1,5 +1,5 @@
--- Rules whose selectors begin with a sign are told.
-use Rattle.std.proofs.Common.{◌≡◌, ℕ, ◌+◌, Bool, true, false, not, ◌&&◌, ◌||◌, List, ◌∷◌, Option, Some, None, if◌then◌else◌, refl, sym, ◌∙◌, ap, subst}
+-- Rules are told: those whose text begins with a sign, whatever stands behind it, and all others before a block.
+use Rattle.std.proofs.Common.{◌≡◌, ℕ, ◌+◌, Bool, true, false, not, ◌&&◌, ◌||◌, List, [], ◌∷◌, ◌++◌, Option, Some, None, if◌then◌else◌, refl, sym, ◌∙◌, ap, subst}
 use Rattle.sw_text_scan.proofs.Bounds.{if_false}
 use Rattle.sw_parse_terminals.specs.declared.terminal.Terminal.{Terminal}
 use Rattle.sw_parse_terminals.specs.declared.terminal.Terminal.TheVariants as terminals
@@ -26,9 +26,12 @@ use Rattle.sw_convert_passing.proofs.Facts.{no_and}
 use Rattle.sw_convert_passing.proofs.Steps.{Reads}
 use Rattle.sw_convert_passing.proofs.Heads.{placed_as, placed_is}
 use Rattle.sw_convert_heads_passing.specs.RawTexts.{RawText, Outside, AreBraces, precedes_text}
+use Rattle.sw_convert_heads_passing.specs.Blocks.{open_sign}
+use Rattle.sw_convert_heads_passing.specs.Rules.{begins_other, is_rule}
 use Rattle.sw_convert_heads_passing.specs.Statements.{begins_rule}
 use Rattle.sw_convert_heads_passing.proofs.RawTexts.{raw_texts_are_told}
 use Rattle.sw_convert_heads_passing.proofs.Moves.{told_by}
+use Rattle.sw_convert_heads_passing.proofs.Selectors.{rule_mode, first_is}
 
 -- a state in which the statement has begun already
 abbrev begun_at : State → State
@@ -71,40 +74,61 @@ rule_plain _ b plains at e mode p = absurd (cc)
 record Sign (sort : Sort) : Type 0 where
   named : is_name sort ≡ false
   word : (inserted : Bool) → word_by inserted sort ≡ false
-  code : is_comment sort ≡ false
+  other : begins_other sort ≡ false
 
 sign : (sort : Sort) → begins_rule sort ≡ true → Sign sort
-sign sorts.Dot b = record { named = refl; word = λ inserted. refl; code = refl }
-sign sorts.Hash b = record { named = refl; word = λ inserted. refl; code = refl }
-sign sorts.Hex b = record { named = refl; word = λ inserted. refl; code = refl }
-sign sorts.Ampersand b = record { named = refl; word = λ inserted. refl; code = refl }
-sign sorts.Star b = record { named = refl; word = λ inserted. refl; code = refl }
-sign sorts.Percent b = record { named = refl; word = λ inserted. refl; code = refl }
-sign sorts.Greater b = record { named = refl; word = λ inserted. refl; code = refl }
-sign sorts.Colon b = record { named = refl; word = λ inserted. refl; code = refl }
-sign sorts.OpenBracket b = record { named = refl; word = λ inserted. refl; code = refl }
+sign sorts.Dot b = record { named = refl; word = λ inserted. refl; other = refl }
+sign sorts.Hash b = record { named = refl; word = λ inserted. refl; other = refl }
+sign sorts.Hex b = record { named = refl; word = λ inserted. refl; other = refl }
+sign sorts.Ampersand b = record { named = refl; word = λ inserted. refl; other = refl }
+sign sorts.Star b = record { named = refl; word = λ inserted. refl; other = refl }
+sign sorts.Percent b = record { named = refl; word = λ inserted. refl; other = refl }
+sign sorts.Greater b = record { named = refl; word = λ inserted. refl; other = refl }
+sign sorts.Colon b = record { named = refl; word = λ inserted. refl; other = refl }
+sign sorts.OpenBracket b = record { named = refl; word = λ inserted. refl; other = refl }
 sign _ b = absurd (cc)
 
-rule_mode : (sort : Sort) → begins_rule sort ≡ true → (plains : List Plain) (at : ℕ) → sort_at plains at ≡ sort
+sign_mode : (sort : Sort) → begins_rule sort ≡ true → (plains : List Plain) (at : ℕ) → sort_at plains at ≡ sort
     → statement_mode plains at ≡ modes.Raw
-rule_mode sort b plains at e =
+sign_mode sort b plains at e =
     let inserted = is_direct plains (at + 1) sorts.OpenInsert in
     rule_plain sort b plains at e modes.Raw
     (plain_is plains at (ap is_name e ∙ (sign sort b).named) (ap (word_by inserted) e ∙ (sign sort b).word inserted))
 
-same_terminal : (sort : Sort) → begins_rule sort ≡ true → (state : State) (plains : List Plain) (at : ℕ)
+-- but at-keywords, which begin statements, each token is told there as it is where a statement begins
+same_terminal : (sort : Sort) → begins_other sort ≡ false → (state : State) (plains : List Plain) (at : ℕ)
     → sort_at plains at ≡ sort → terminal_of (begun_at state) plains at ≡ terminal_of state plains at
 unfolding terminal_of
-same_terminal sorts.Dot b state plains at e = rw (e, terminal_of) refl
-same_terminal sorts.Hash b state plains at e = rw (e, terminal_of) refl
-same_terminal sorts.Hex b state plains at e = rw (e, terminal_of) refl
-same_terminal sorts.Ampersand b state plains at e = rw (e, terminal_of) refl
-same_terminal sorts.Star b state plains at e = rw (e, terminal_of) refl
-same_terminal sorts.Percent b state plains at e = rw (e, terminal_of) refl
-same_terminal sorts.Greater b state plains at e = rw (e, terminal_of) refl
-same_terminal sorts.Colon b state plains at e = rw (e, terminal_of) refl
-same_terminal sorts.OpenBracket b state plains at e = rw (e, terminal_of) refl
-same_terminal _ b state plains at e = absurd (cc)
+same_terminal sorts.At b state plains at e = absurd (cc)
+same_terminal sorts.AtUse b state plains at e = absurd (cc)
+same_terminal sorts.AtForward b state plains at e = absurd (cc)
+same_terminal sorts.AtFunction b state plains at e = absurd (cc)
+same_terminal sorts.AtMixin b state plains at e = absurd (cc)
+same_terminal sorts.AtInclude b state plains at e = absurd (cc)
+same_terminal sorts.AtContent b state plains at e = absurd (cc)
+same_terminal sorts.AtReturn b state plains at e = absurd (cc)
+same_terminal sorts.AtWarn b state plains at e = absurd (cc)
+same_terminal sorts.AtDebug b state plains at e = absurd (cc)
+same_terminal sorts.AtError b state plains at e = absurd (cc)
+same_terminal sorts.AtIf b state plains at e = absurd (cc)
+same_terminal sorts.AtElse b state plains at e = absurd (cc)
+same_terminal sorts.AtElseIf b state plains at e = absurd (cc)
+same_terminal sorts.AtEach b state plains at e = absurd (cc)
+same_terminal sorts.AtFor b state plains at e = absurd (cc)
+same_terminal sorts.AtWhile b state plains at e = absurd (cc)
+same_terminal sorts.AtMedia b state plains at e = absurd (cc)
+same_terminal sorts.AtSupports b state plains at e = absurd (cc)
+same_terminal sorts.AtRoot b state plains at e = absurd (cc)
+same_terminal sorts.AtCharset b state plains at e = absurd (cc)
+same_terminal sorts.AtImport b state plains at e = absurd (cc)
+same_terminal sorts.AtExtend b state plains at e = absurd (cc)
+same_terminal sorts.AtName b state plains at e = absurd (cc)
+same_terminal _ b state plains at e = rw (e, terminal_of) refl
+
+other_code : (sort : Sort) → begins_other sort ≡ false → is_comment sort ≡ false
+other_code sorts.Comment b = absurd (cc)
+other_code sorts.CommentTemplate b = absurd (cc)
+other_code _ b = refl
 
 -- what is read where the statement has begun already is read the same where it begins
 restart : {plains : List Plain} {begun end : State} {at to : ℕ} {one : Written} {rest : List Written}
@@ -135,14 +159,15 @@ begins_text terminals.CommentWhole b = refl
 begins_text terminals.CommentEnd b = refl
 begins_text _ b = absurd (cc)
 
-pub rule_told : (one : Written) (rest : List Written) → begins_rule one.sort ≡ true
+-- raw text with which a statement begins that is read so
+text_begins : (one : Written) (rest : List Written) → begins_other one.sort ≡ false
     → RawText modes.Raw Outside (one ∷ rest) → (plains : List Plain) (frames : List Frame) (state : State) (at to : ℕ)
     → AreBraces plains → is_outer (innermost frames) ≡ true → Starts frames state → Stand plains at (one ∷ rest) to
-    → Told plains modes.Raw frames state at (one ∷ rest) to
-rule_told one rest b text plains frames state at to braces outer starts (there, stand) =
+    → statement_mode plains at ≡ modes.Raw → Told plains modes.Raw frames state at (one ∷ rest) to
+text_begins one rest b text plains frames state at to braces outer starts (there, stand) m =
     let s0 = placed_as state plains at modes.Raw in
     let s1 = begun_at s0 in
-    let is_placed = placed_is state plains at modes.Raw starts.start (rule_mode one.sort b plains at there.sort) in
+    let is_placed = placed_is state plains at modes.Raw starts.start m in
     let within : Within modes.Raw frames s1 = record {
       mode_is = refl;
       frames_are = starts.frames_are;
@@ -152,6 +177,27 @@ rule_told one rest b text plains frames state at to braces outer starts (there, 
     let t = raw_texts_are_told modes.Raw Outside (one ∷ rest) text plains frames s1 at to refl braces within outer
     (record { before = begins_text state.before starts.before; word = no_and state.word _ starts.word }) (there, stand) in
     told_by t.told.end
-    (restart t.told.passed refl (ap is_comment there.sort ∙ (sign one.sort b).code) state starts.start starts.no_comment
+    (restart t.told.passed refl (ap is_comment there.sort ∙ other_code one.sort b) state starts.start starts.no_comment
     (same_terminal one.sort b s0 plains at there.sort ∙ ap (λ (s : State). terminal_of s plains at) (sym is_placed))
     (λ terminal. same_after s0 terminal ∙ ap (λ (s : State). after s terminal) (sym is_placed))) t.told.within
+
+pub rule_told : (one : Written) (rest : List Written) → begins_rule one.sort ≡ true
+    → RawText modes.Raw Outside (one ∷ rest) → (plains : List Plain) (frames : List Frame) (state : State) (at to : ℕ)
+    → AreBraces plains → is_outer (innermost frames) ≡ true → Starts frames state → Stand plains at (one ∷ rest) to
+    → Told plains modes.Raw frames state at (one ∷ rest) to
+rule_told one rest b text plains frames state at to braces outer starts stand =
+    text_begins one rest (sign one.sort b).other text plains frames state at to braces outer starts stand
+    (sign_mode one.sort b plains at stand.0.sort)
+
+-- the same before a block, whatever it begins with
+pub selector_told : (text : List Written) (spaced : Bool) → is_rule (text ++ open_sign spaced ∷ []) ≡ true
+    → RawText modes.Raw Outside text → (plains : List Plain) (frames : List Frame) (state : State) (at to : ℕ)
+    → AreBraces plains → is_outer (innermost frames) ≡ true → Starts frames state → Stand plains at text to
+    → Stand plains at (text ++ open_sign spaced ∷ []) (to + 1) → Told plains modes.Raw frames state at text to
+selector_told [] spaced r text plains frames state at to braces outer starts stand whole = absurd (cc)
+selector_told (one ∷ []) spaced r text plains frames state at to braces outer starts stand whole =
+    text_begins one [] (first_is one.sort one (open_sign spaced) [] r) text plains frames state at to braces outer starts
+    stand (rule_mode plains at (to + 1) (one ∷ open_sign spaced ∷ []) whole r)
+selector_told (one ∷ next ∷ rest) spaced r text plains frames state at to braces outer starts stand whole =
+    text_begins one (next ∷ rest) (first_is one.sort one next (rest ++ open_sign spaced ∷ []) r) text plains frames state
+    at to braces outer starts stand (rule_mode plains at (to + 1) (one ∷ next ∷ (rest ++ open_sign spaced ∷ [])) whole r)

@@ -154,23 +154,23 @@ module _ (plains : List Plain) (at : ℕ) where
         (if_true state.start _ _ b ∙ if_true (goes_on plains at) terminals.AtOther _ (both _ _ l insert))
     keyword_here state b l _ k e = absurd (cc)
 
-  -- one before white space is what it says
-  module _ (spaced : spaced_at plains (at + 1) ≡ true) where
+  -- one before no `#{` is what it says
+  module _ (no_insert : is_direct plains (at + 1) sorts.OpenInsert ≡ false) where
     text_here : (state : State) → state.start ≡ true → (sort : Sort) → takes_text sort ≡ true → sort_at plains at ≡ sort
         → terminal_of state plains at ≡ text_rule sort
     unfolding terminal_of
     text_here state b sorts.AtSupports t e = rw (e, terminal_of)
         (if_true state.start _ _ b
-        ∙ if_false (goes_on plains at) terminals.AtOther terminals.AtSupports (and_no _ _ (no_and _ _ (ap not spaced))))
+        ∙ if_false (goes_on plains at) terminals.AtOther terminals.AtSupports (and_no _ _ no_insert))
     text_here state b sorts.AtRoot t e = rw (e, terminal_of)
         (if_true state.start _ _ b
-        ∙ if_false (goes_on plains at) terminals.AtOther terminals.AtRoot (and_no _ _ (no_and _ _ (ap not spaced))))
+        ∙ if_false (goes_on plains at) terminals.AtOther terminals.AtRoot (and_no _ _ no_insert))
     text_here state b sorts.AtImport t e = rw (e, terminal_of)
         (if_true state.start _ _ b
-        ∙ if_false (goes_on plains at) terminals.AtOther terminals.AtImport (and_no _ _ (no_and _ _ (ap not spaced))))
+        ∙ if_false (goes_on plains at) terminals.AtOther terminals.AtImport (and_no _ _ no_insert))
     text_here state b sorts.AtExtend t e = rw (e, terminal_of)
         (if_true state.start _ _ b
-        ∙ if_false (goes_on plains at) terminals.AtOther terminals.AtExtend (and_no _ _ (no_and _ _ (ap not spaced))))
+        ∙ if_false (goes_on plains at) terminals.AtOther terminals.AtExtend (and_no _ _ no_insert))
     text_here state b _ t e = absurd (cc)
 
   either_way : (b : Bool) (x : Terminal) → (if b then x else x) ≡ x
@@ -258,12 +258,14 @@ rule_name {frames} {plains} {at} {to} state within inner parts inside more word 
     (inner_told inside) (parts_told more) stand
     (insert_here state within plains at word b stand.0.spaced stand.0.sort)
 
-heads_told : {tokens : List Written} → TextHead tokens → (plains : List Plain) (frames : List Frame) (state : State)
-    (at to : ℕ) → AreKeywords plains → Starts frames state → Stand plains at tokens to → spaced_at plains to ≡ true
+-- before anything but a `#{`
+pub heads_told : {tokens : List Written} → TextHead tokens → (plains : List Plain) (frames : List Frame) (state : State)
+    (at to : ℕ) → AreKeywords plains → Starts frames state → Stand plains at tokens to
+    → is_direct plains to sorts.OpenInsert ≡ false
     → HeadTold plains modes.Raw frames state at tokens to
 heads_told (text_head {spaced} sort t) plains frames state at to keywords starts (there, e) blank =
     let f = text_rule_is sort t in
-    let apart : spaced_at plains (at + 1) ≡ true = ap (spaced_at plains) e ∙ blank in
+    let apart = ap (λ (k : ℕ). is_direct plains k sorts.OpenInsert) e ∙ blank in
     let first = first_told {mode = modes.Raw} plains state at (written sort spaced (text_rule sort)) (text_rule sort)
     starts there f.code (text_mode plains at sort t there.sort) refl f.goes f.begins
     (text_here plains at apart (placed_as state plains at modes.Raw) starts.start sort t there.sort) refl in
@@ -313,4 +315,4 @@ heads_told (minus_head {spaced} {inner} {parts} inside more) plains frames state
 
 pub text_heads_are_told : TextHeadsAreTold
 text_heads_are_told tokens head plains frames state at to keywords starts stand blank =
-    heads_told head plains frames state at to keywords starts stand blank
+    heads_told head plains frames state at to keywords starts stand (no_and _ _ (ap not blank))

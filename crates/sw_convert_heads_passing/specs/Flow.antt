@@ -1,6 +1,6 @@
 -- The heads of `@each`, `@for`, `@else` and `@charset`, the word between the bounds of `@for`, and the assignment of another
 -- module's variable.
-use Rattle.std.specs.Prelude.{◌≡◌, ℕ, Bool, true, false, List, [], ◌∷◌, ◌++◌}
+use Rattle.std.specs.Prelude.{◌≡◌, ℕ, ◌+◌, ◌<◌, Bool, true, false, List, [], ◌∷◌, ◌++◌, length}
 use Rattle.sw_parse_terminals.specs.declared.terminal.Terminal.{Terminal}
 use Rattle.sw_parse_terminals.specs.declared.terminal.Terminal.TheVariants as terminals
 use Rattle.sw_parse_lexemes.specs.declared.sort.Sort.{Sort}
@@ -15,7 +15,7 @@ use Rattle.sw_parse_lexemes.specs.Ahead.{sort_at, spaced_at}
 use Rattle.sw_parse_lexemes.specs.Signs.{ends_operand}
 use Rattle.sw_convert_passing.specs.Written.{Written, written, direct, apart, Stand, Within}
 use Rattle.sw_convert_passing.specs.Places.{Told}
-use Rattle.sw_convert_passing.specs.Values.{dollar}
+use Rattle.sw_convert_passing.specs.Values.{dollar, seam}
 use Rattle.sw_convert_passing.specs.Heads.{Starts, HeadTold}
 use Rattle.sw_convert_heads_passing.specs.Properties.{colon, is_dashed}
 
@@ -26,15 +26,20 @@ pub data Names : List Written → Type 0 where
       → Names
       (dollar true ∷ direct name terminals.VariableName ∷ direct sorts.Comma terminals.Comma ∷ rest)
 
+-- an empty comment before further tokens, or none
+abbrev pub parted : Bool → List Written → List Written
+parted true tokens = seam ∷ tokens
+parted false tokens = tokens
+
 -- heads behind which a value stands, and how it is read
 pub data FlowHead : Mode → List Written → Type 0 where
-  each_head : {spaced : Bool} {names : List Written} → Names names
+  each_head : {spaced : Bool} {names : List Written} → (gap : Bool) → Names names
       → FlowHead modes.Expression
-      (written sorts.AtEach spaced terminals.AtEach ∷ (names ++ apart sorts.In terminals.In ∷ []))
-  for_head : {spaced : Bool} → (name : Sort) → is_name name ≡ true
+      (written sorts.AtEach spaced terminals.AtEach ∷ (names ++ parted gap (apart sorts.In terminals.In ∷ [])))
+  for_head : {spaced : Bool} → (gap : Bool) (name : Sort) → is_name name ≡ true
       → FlowHead modes.Bounds
       (written sorts.AtFor spaced terminals.AtFor ∷ dollar true ∷ direct name terminals.VariableName
-      ∷ apart sorts.From terminals.From ∷ [])
+      ∷ parted gap (apart sorts.From terminals.From ∷ []))
   else_if_head : {spaced : Bool}
       → FlowHead modes.Expression
       (written sorts.AtElse spaced terminals.AtElseIf ∷ apart sorts.If terminals.If ∷ [])
@@ -79,9 +84,11 @@ pub data LoneHead : Mode → List Written → Type 0 where
   charset_head : {spaced : Bool} → (sort : Sort) → is_string sort ≡ true
       → LoneHead modes.Expression (written sorts.AtCharset spaced terminals.AtCharset ∷ apart sort terminals.Plain ∷ [])
 
--- behind them stands a `{` or a `;`
+-- behind them stands a `{`, with an empty comment before it or without, or a `;`
 pub data Ends (plains : List Plain) (at : ℕ) : Type 0 where
   before_block : sort_at plains at ≡ sorts.OpenBrace → Ends plains at
+  before_seam : at < length plains → sort_at plains at ≡ sorts.Comment → sort_at plains (at + 1) ≡ sorts.OpenBrace
+      → Ends plains at
   before_end : sort_at plains at ≡ sorts.Semicolon → Ends plains at
 
 abbrev pub LoneHeadsAreTold : Type 0

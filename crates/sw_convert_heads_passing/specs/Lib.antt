@@ -6,5 +6,7 @@ pub mod Media
 pub mod Members
 pub mod Flow
 pub mod Blocks
+pub mod Rules
+pub mod Comments
 pub mod Statements
 pub mod Sheets

@@ -11,7 +11,7 @@ use Rattle.sw_parse_lexemes.specs.declared.state.State.{State}
 use Rattle.sw_parse_lexemes.specs.Classes.{is_name}
 use Rattle.sw_convert_passing.specs.Written.{Written, written, direct, apart, Stand}
 use Rattle.sw_convert_passing.specs.Places.{Told}
-use Rattle.sw_convert_passing.specs.Values.{Value, Items, Flags, dollar, enclosed}
+use Rattle.sw_convert_passing.specs.Values.{Value, Items, Flags, seam, dollar, enclosed}
 use Rattle.sw_convert_passing.specs.Heads.{Starts}
 
 -- the string of a load gives a default namespace, or needs no one
@@ -71,10 +71,14 @@ configuration_in inner =
 pub data UseConfiguration : List Written → Type 0 where
   not_configured : UseConfiguration []
   configured : {inner : List Written} → Items inner → UseConfiguration (configuration_in inner)
+  -- behind an empty comment
+  configured_apart : {inner : List Written} → Items inner → UseConfiguration (seam ∷ configuration_in inner)
 
 pub data ForwardConfiguration : List Written → Type 0 where
   not_configured : ForwardConfiguration []
   configured : {inner : List Written} → Entries false inner → ForwardConfiguration (configuration_in inner)
+  configured_apart : {inner : List Written} → Entries false inner
+      → ForwardConfiguration (seam ∷ configuration_in inner)
 
 pub data LoadHead : Mode → List Written → Type 0 where
   use_head : {spaced named : Bool} {name configuration : List Written} → (url : Sort) → is_url named url ≡ true

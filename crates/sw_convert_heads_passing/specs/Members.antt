@@ -11,7 +11,7 @@ use Rattle.sw_parse_lexemes.specs.declared.state.State.{State}
 use Rattle.sw_parse_lexemes.specs.Classes.{is_name}
 use Rattle.sw_convert_passing.specs.Written.{Written, written, direct, apart, Stand}
 use Rattle.sw_convert_passing.specs.Places.{Told, IsClosed}
-use Rattle.sw_convert_passing.specs.Values.{Value, Items, dollar, enclosed}
+use Rattle.sw_convert_passing.specs.Values.{Value, Items, seam, dollar, enclosed}
 use Rattle.sw_convert_passing.specs.Heads.{Starts}
 
 -- a parameter, with white space before it or not
@@ -60,6 +60,9 @@ pub data UsingParams : List Written → Type 0 where
   none_used : UsingParams []
   some_used : {params : List Written} → Params params
       → UsingParams (apart sorts.Using terminals.Using ∷ params_in true params)
+  -- behind an empty comment
+  used_apart : {params : List Written} → Params params
+      → UsingParams (seam ∷ apart sorts.Using terminals.Using ∷ params_in true params)
 
 -- each with how its tokens are read
 pub data MemberHead : Mode → List Written → Type 0 where

@@ -1,5 +1,5 @@
 -- Whole sheets of statements, and what the grammar sees of them.
-use Rattle.std.specs.Prelude.{◌≡◌, ℕ, ◌+◌, length, List, [], ◌∷◌}
+use Rattle.std.specs.Prelude.{◌≡◌, ℕ, ◌+◌, length, Bool, List, [], ◌∷◌}
 use Rattle.sw_tokens.specs.declared.token.Token.{Token}
 use Rattle.sw_parse_terminals.specs.declared.lexeme.Lexeme.{Lexeme}
 use Rattle.sw_parse_lexemes.specs.declared.sort.Sort.TheVariants as sorts
@@ -23,7 +23,8 @@ pub data Seen : ℕ → List Written → List Lexeme → Type 0 where
 -- the grammar sees of a sheet that isn't written in lines what its statements are written as
 abbrev pub SheetsAreTold : Type 0
 SheetsAreTold =
-    (bytes : List ℕ) (tokens : List Token) (statements : List Written) → Statements statements
+    (bytes : List ℕ) (tokens : List Token) (else_first : Bool) (statements : List Written)
+    → Statements else_first statements
     → AreBraces (plains_of bytes tokens) → AreKeywords (plains_of bytes tokens)
     → Stand (plains_of bytes tokens) 0 statements (length (plains_of bytes tokens))
     → Seen 0 statements (lexemes_of bytes tokens)

@@ -1,5 +1,6 @@
 // Tokens are read as what they are written as.
 ghost use Rattle.sw_convert_heads_passing.specs.Blocks.{BlocksClose, BlocksEnd, BlocksOpen, EndsAreTold};
+ghost use Rattle.sw_convert_heads_passing.specs.Comments.{RunsAreSeen};
 ghost use Rattle.sw_convert_heads_passing.specs.Flow.{BoundsAreTold, FlowHeadsAreTold, LoneHeadsAreTold};
 ghost use Rattle.sw_convert_heads_passing.specs.Heads.{TextHeadsAreTold};
 ghost use Rattle.sw_convert_heads_passing.specs.Loads.{LoadsAreTold};
@@ -65,9 +66,10 @@ pub fn blocks_are_told()
 {}
 
 /// A law: in a sheet that isn't written in lines, the tokens of statements are what they are written as, with blocks of
-/// further ones in them.
+/// further ones in them and loud comments between them; and what is read so is what the grammar sees.
 pub fn statements_are_told()
-    ensures { StatementsAreTold }
+    ensures told { StatementsAreTold }
+    ensures seen { RunsAreSeen }
 {}
 
 /// A law: the grammar sees of a sheet that isn't written in lines what its statements are written as, token by token.

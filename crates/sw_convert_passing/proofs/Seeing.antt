@@ -54,7 +54,7 @@ module _ (plains : List Plain) where
       rw add-one (drop-cons plains at plain lt
       ∙ ap (λ (x : Plain). x ∷ drop (suc at) plains) (get_or_from_slice_get plains at plain plain e))
 
-  one : (state : State) (at : ℕ) (plain : Plain) (reading : Reading) → slice_get plains at ≡ Some plain
+  pub one : (state : State) (at : ℕ) (plain : Plain) (reading : Reading) → slice_get plains at ≡ Some plain
       → read state plains at plain ≡ reading
       → lexemes_by plains state at ≡ optional reading.lexeme ++ lexemes_by plains reading.state (at + 1)
   one state at plain reading is_plain e =

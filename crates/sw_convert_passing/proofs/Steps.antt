@@ -49,7 +49,7 @@ stay = ([], nothing)
 pub stay_at : {plains : List Plain} {state : State} {at to : ℕ} → at ≡ to → Reads plains state at [] state to
 stay_at {plains} {state} {at} {to} e = subst (λ (k : ℕ). Reads plains state at [] state k) e ([], nothing)
 
-plain_at : (plains : List Plain) (at : ℕ) → at < length plains → (plain : Plain) × (slice_get plains at ≡ Some plain)
+pub plain_at : (plains : List Plain) (at : ℕ) → at < length plains → (plain : Plain) × (slice_get plains at ≡ Some plain)
 plain_at plains at l = elim (slice_get_cases plains at).1 [
   | inr (m, x) ↦ absurd (omega (arith, l, m))
   | inl (x, m, is_x, same_x) ↦ (x, is_x)

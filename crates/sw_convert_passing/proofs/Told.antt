@@ -4,12 +4,13 @@ use Rattle.sw_parse_lexemes.specs.declared.sort.Sort.{Sort}
 use Rattle.sw_parse_lexemes.specs.declared.sort.Sort.TheVariants as sorts
 use Rattle.sw_parse_lexemes.specs.declared.state.Mode.{Mode}
 use Rattle.sw_convert_passing.specs.Written.{Written}
-use Rattle.sw_convert_passing.specs.Values.{Value, number, negative, quoted, template, hash, constant, lone_value, url_template, variable, owned_variable, owned_call, word, call, important, in_parens, in_brackets, negated, prefixed, linked, divided, beside, special, seamed, Word, named, begun, begun_minus, Parts, no_part, part, part_insert, Call, arguments, Pieces, no_piece, text_piece, piece_insert, Items, no_items, items, seamed_items, Row, first, separated, further, Special, text_end, text_token, text_brace, text_name, text_dollar, text_sign, text_comma, text_number, text_signed, text_variable, text_owned_variable, text_call, text_owned_call, text_insert, text_parens, text_brackets, text_seam}
+use Rattle.sw_convert_passing.specs.Values.{Value, number, negative, quoted, template, hash, constant, lone_value, url_template, variable, owned_variable, owned_call, word, call, important, in_parens, in_brackets, negated, prefixed, linked, divided, beside, special, seamed, Word, named, begun, begun_minus, Parts, no_part, part, part_insert, Call, arguments, Pieces, no_piece, text_piece, piece_insert, Items, no_items, items, seamed_items, Row, first, separated, further, Special, text_end, text_token, text_brace, text_name, text_dollar, text_sign, text_comma, text_number, text_signed, text_variable, text_owned_variable, text_call, text_owned_call, text_insert, text_parens, text_brackets, text_seam, Settles, settled}
 use Rattle.sw_convert_passing.specs.Laws.{ValuesAreTold, RowsAreTold}
 use Rattle.sw_convert_passing.proofs.Entries.{IsTold}
 use Rattle.sw_convert_passing.proofs.Leaves.{number_told, negative_told, quoted_told, hash_told, constant_told, lone_value_told, variable_told, owned_variable_told, important_told}
 use Rattle.sw_convert_passing.proofs.Enclosed.{IsInner, IsCall, in_parens_told, in_brackets_told, call_told}
 use Rattle.sw_convert_passing.proofs.Words.{IsWord, IsParts, Going, no_part_told, part_told, part_insert_told, begun_told, begun_minus_told, named_told, going_end, going_part, going_insert, word_told, CallBegins, called_told, owned_call_told}
+use Rattle.sw_convert_passing.proofs.Settling.{settle, stand_loose}
 use Rattle.sw_convert_passing.proofs.Templates.{IsPieces, Piecely, no_piece_told, text_piece_told, piece_insert_told, template_told}
 use Rattle.sw_convert_passing.proofs.Lists.{linked_told, divided_told, beside_told, seamed_told, negated_told, prefixed_told}
 use Rattle.sw_convert_passing.proofs.Special.{IsSpecial, text_end_told, text_token_told, text_brace_told, text_name_told, text_dollar_told, text_sign_told, text_comma_told, text_number_told, text_signed_told, text_variable_told, text_seam_told}
@@ -23,11 +24,18 @@ going called (part_insert {inner} {parts} inside more) = going_insert called inn
 
 paren_first : {call : List Written} → Call call → CallBegins call
 paren_first (arguments inside) plains at to stand = (stand.0.spaced, stand.0.sort)
+paren_first (settled loose s) plains at to stand = paren_first loose plains at to (stand_loose plains s at to stand)
+
+settled_told : {loose exact : List Written} → IsCall loose → Settles loose exact → IsCall exact
+settled_told told s mode plains frames state at to takes within worded operand stand =
+    let place = stand_loose plains s at to stand in
+    let (it, ends, no_word) = told mode plains frames state at to takes within worded operand place in
+    (record { lexemes = it.lexemes; end = it.end; passed = settle plains s it.passed place; within = it.within }, ends, no_word)
 
 texts : Piecely sorts.Text
 texts = record { alone = refl; code = refl; plainly = record { goes = refl; begins = refl }; word = refl }
 
-url_texts : Piecely sorts.Piece
+pub url_texts : Piecely sorts.Piece
 url_texts = record { alone = refl; code = refl; plainly = record { goes = refl; begins = refl }; word = refl }
 
 mutual
@@ -105,8 +113,9 @@ mutual
 
   arguments_told : {tokens : List Written} → Call tokens → IsCall tokens
   arguments_told (arguments {inner = inner} inside) = call_told inner (inner_told inside)
+  arguments_told (settled loose s) = settled_told (arguments_told loose) s
 
-  pieces_told : {what : Sort} {tokens : List Written} → Pieces what tokens → Piecely what → IsPieces tokens
+  pub pieces_told : {what : Sort} {tokens : List Written} → Pieces what tokens → Piecely what → IsPieces tokens
   pieces_told no_piece p = no_piece_told
   pieces_told (text_piece {what = what} {pieces = pieces} more) p = text_piece_told what pieces p (pieces_told more p)
   pieces_told (piece_insert {inner = inner} {pieces = pieces} inside more) p = piece_insert_told inner pieces

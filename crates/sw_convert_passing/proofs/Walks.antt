@@ -1,5 +1,5 @@
 -- The next token that is no comment.
-use Rattle.std.proofs.Common.{◌≡◌, ℕ, zero, suc, ◌+◌, ◌-◌, Bool, true, false, List, length, Option, Some, None, refl, ◌∙◌, ap}
+use Rattle.std.proofs.Common.{◌≡◌, ◌<◌, ℕ, zero, suc, ◌+◌, ◌-◌, Bool, true, false, List, length, Option, Some, None, arith, refl, ◌∙◌, ap}
 use Rattle.sw_parse_lexemes.specs.declared.sort.Sort.{Sort}
 use Rattle.sw_parse_lexemes.specs.declared.sort.Sort.TheVariants as sorts
 use Rattle.sw_parse_lexemes.specs.declared.plain.Plain.{Plain}
@@ -29,6 +29,16 @@ walk_stays plains (suc n) at c =
 pub code_stays : (plains : List Plain) (at : ℕ) → is_code (sort_at plains at) ≡ true → code_from plains at ≡ at
 unfolding walk_from
 code_stays plains at c = walk_stays plains (length plains - at) at c
+
+-- a comment is passed over
+pub code_further : (plains : List Plain) (at : ℕ) → sort_at plains at ≡ sorts.Comment → at < length plains
+    → code_from plains at ≡ code_from plains (at + 1)
+unfolding walk_from
+code_further plains at white low =
+    ap (λ (n : ℕ). walk_by walks.Comments plains n 0 at)
+    (let e : length plains - at ≡ suc (length plains - (at + 1)) = omega (arith, low) in e)
+    ∙ ap (λ (more : Option ℕ). elim more as (λ _. ℕ) [ None ↦ at | Some k ↦ walk_by walks.Comments plains (length plains - (at + 1)) k (at + 1) ])
+    (ap (λ (sort : Sort). over_comment sort 0) white)
 
 pub next_code : (plains : List Plain) (at : ℕ) (sort : Sort) → is_code sort ≡ true → sort_at plains (at + 1) ≡ sort
     → next_sort plains at ≡ sort

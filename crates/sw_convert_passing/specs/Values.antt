@@ -52,6 +52,31 @@ abbrev pub inserted : Bool → Terminal → List Written → List Written → Li
 inserted spaced terminal inner rest =
     enclosed (written sorts.OpenInsert spaced terminal) inner (direct sorts.CloseInsert terminals.InsertEnd) rest
 
+-- no `:` stands there: of what comes behind a comment it is asked again
+abbrev pub stays_behind : Sort → Bool → Bool
+stays_behind sorts.Comment rest = rest
+stays_behind sorts.CommentTemplate rest = false
+stays_behind sorts.CommentEnd rest = false
+stays_behind sorts.Colon rest = false
+stays_behind _ rest = true
+
+abbrev pub no_colon : List Written → Bool
+no_colon [] = false
+no_colon (next ∷ rest) = stays_behind next.sort (no_colon rest)
+
+-- the same tokens, where the `$` of a variable is told by what stands behind it: a `:`, or something else
+pub data Settles : List Written → List Written → Type 0 where
+  settled_end : Settles [] []
+  settled_same : {rest more : List Written} → (token : Written) → Settles rest more
+      → Settles (token ∷ rest) (token ∷ more)
+  settled_dollar : {spaced : Bool} {rest more : List Written} → (name : Written) → no_colon rest ≡ true
+      → Settles (name ∷ rest) more
+      → Settles (dollar spaced ∷ name ∷ rest) (written sorts.Dollar spaced terminals.Dollar ∷ more)
+  settled_named : {spaced : Bool} {rest more : List Written} → (name : Sort) → is_name name ≡ true
+      → Settles (direct name terminals.VariableName ∷ direct sorts.Colon terminals.Colon ∷ rest) more
+      → Settles (dollar spaced ∷ direct name terminals.VariableName ∷ direct sorts.Colon terminals.Colon ∷ rest)
+      (written sorts.Dollar spaced terminals.DollarNamed ∷ more)
+
 mutual
   -- a value in a mode: with white space before it or not, and beginning with a sign that is an operator behind another
   -- value or not
@@ -144,6 +169,7 @@ mutual
     arguments : {inner : List Written} → Items inner
         → Call (enclosed (direct sorts.OpenParen terminals.CallParen) inner
         (direct sorts.CloseParen terminals.ParenEnd) [])
+    settled : {loose exact : List Written} → Call loose → Settles loose exact → Call exact
 
   -- what stands in a string or a url with `#{}`
   pub data Pieces : Sort → List Written → Type 0 where

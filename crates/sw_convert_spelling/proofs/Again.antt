@@ -67,7 +67,7 @@ module _ (w old after : List ℕ) where
   -- ---- names up to the end of the bytes
 
   -- the last character of a name
-  last_char : (i m : ℕ) (v : Bool) → Character bs i m v → i + m ≡ n → is_hex_digit (byte cs n) ≡ false → (v && is_white (byte cs n)) ≡ false
+  pub last_char : (i m : ℕ) (v : Bool) → Character bs i m v → i + m ≡ n → is_hex_digit (byte cs n) ≡ false → (v && is_white (byte cs n)) ≡ false
       → ((byte cs (n - 1) == CARRIAGE_RETURN) && (byte cs n == LINE_FEED)) ≡ false → Character cs i m v
   last_char i m v (plain q e) end hex white feed = plain q (back is_name_byte i (omega (arith, q, end)) ∙ e)
   last_char i m v (escaped q s h o) end hex white feed =

@@ -38,7 +38,7 @@ equal a b e = grind (arith, nat_tests)
 digit_by : (b : ℕ) → 48 ≤ b → b ≤ 57 → is_digit b ≡ true
 digit_by b low high = grind (arith, nat_tests)
 
-digit_run : (ds rest : List ℕ) → AreDigits ds → is_digit (byte rest 0) ≡ false → run_end classes.Digit (ds ++ rest) 0 ≡ length ds
+pub digit_run : (ds rest : List ℕ) → AreDigits ds → is_digit (byte rest 0) ≡ false → run_end classes.Digit (ds ++ rest) 0 ≡ length ds
 digit_run [] rest all dark = run_stop rest classes.Digit 0 (let e : next classes.Digit rest 0 ≡ 0 = if_false (is_digit (byte rest 0)) (0 + 1) 0 dark in omega (arith, e))
 digit_run (d ∷ ds) rest all dark =
     let p = AreDigits_parts d ds all in
@@ -53,7 +53,7 @@ first_digit : (ds rest : List ℕ) → AreDigits ds → 0 < length ds → is_dig
 first_digit [] rest all some = absurd (omega (arith, some))
 first_digit (d ∷ ds) rest all some = let p = AreDigits_parts d ds all in ap is_digit (moved.first_byte d (ds ++ rest)) ∙ digit_by d p.low p.high
 
-second_byte : (a : ℕ) (bs : List ℕ) → byte (a ∷ bs) 1 ≡ byte bs 0
+pub second_byte : (a : ℕ) (bs : List ℕ) → byte (a ∷ bs) 1 ≡ byte bs 0
 second_byte a bs = moved.at_byte (a ∷ []) bs 0
 
 some_decimals : (rest : ℕ) → (rest == 0) ≡ false → 0 < length (decimals 10 rest)
@@ -128,7 +128,7 @@ module _ (rest : ℕ) (below : rest < 10 ^ 10) (e : Bool) (tail : List ℕ) (no_
       ∙ sym (ap length (some_text t)))
 
   -- up to the unit
-  unit_at : (ds : List ℕ) → AreDigits ds → unit_start (ds ++ point) 0 ≡ length ds + (length (fraction_text rest) + length (no_exponent e))
+  pub unit_at : (ds : List ℕ) → AreDigits ds → unit_start (ds ++ point) 0 ≡ length ds + (length (fraction_text rest) + length (no_exponent e))
   unit_at ds all =
       let same : length ds ≡ length ds + 0 = omega arith in
       ap (λ (k : ℕ). exponent_end (ds ++ point) (fraction_end (ds ++ point) k)) (digit_run ds point all point_digit ∙ same)
@@ -139,19 +139,19 @@ module _ (rest : ℕ) (below : rest < 10 ^ 10) (e : Bool) (tail : List ℕ) (no_
 -- ---- the whole
 
 module _ (n : ℕ) (unit after : List ℕ) (within : n ≤ limit) (ends : ends_number unit after ≡ true) where
-  abbrev e : Bool
+  abbrev pub e : Bool
   e = begins_exponent unit
 
-  abbrev tail : List ℕ
+  abbrev pub tail : List ℕ
   tail = unit ++ after
 
-  abbrev digits : List ℕ
+  abbrev pub digits : List ℕ
   digits = decimal (n / scale)
 
-  abbrev behind : List ℕ
+  abbrev pub behind : List ℕ
   behind = fraction_text (n % scale) ++ (no_exponent e ++ tail)
 
-  abbrev text : List ℕ
+  abbrev pub text : List ℕ
   text = digits ++ behind
 
   whole : Whole (n / scale)
@@ -175,10 +175,10 @@ module _ (n : ℕ) (unit after : List ℕ) (within : n ≤ limit) (ends : ends_n
   unit_ends : unit_end tail 0 ≡ length unit
   unit_ends = equal (unit_end tail 0) (length unit) (and_right (e || (exponent_end tail 0 == 0)) _ (and_right (not ((byte tail 0 == sign ".") && is_digit (byte tail 1))) _ ends_more))
 
-  abbrev more : ℕ
+  abbrev pub more : ℕ
   more = length (fraction_text (n % scale)) + length (no_exponent e)
 
-  start_is : unit_start text 0 ≡ length digits + more
+  pub start_is : unit_start text 0 ≡ length digits + more
   start_is = unit_at (n % scale) below e tail no_digit no_point no_power digits whole.alone
 
   -- the text up to the unit, and from it on
@@ -232,13 +232,13 @@ module _ (n : ℕ) (unit after : List ℕ) (within : n ≤ limit) (ends : ends_n
       ∙ ap (λ (t : Bool). if (length (fraction_text (n % scale) ++ no_exponent e) == 0) && not t then kinds.Digits else kinds.Number) (percent_by unit unit_ends)
 
   -- what is written, and what stands behind it
-  text_is : numeral_text (Some (pos n)) unit ++ after ≡ text
+  pub text_is : numeral_text (Some (pos n)) unit ++ after ≡ text
   text_is =
       append_assoc ((digits ++ fraction_text (n % scale)) ++ no_exponent e) unit after
       ∙ append_assoc (digits ++ fraction_text (n % scale)) (no_exponent e) tail
       ∙ append_assoc digits (fraction_text (n % scale)) (no_exponent e ++ tail)
 
-  long : (length digits + more) + length unit ≡ length (numeral_text (Some (pos n)) unit)
+  pub long : (length digits + more) + length unit ≡ length (numeral_text (Some (pos n)) unit)
   long =
       let a = length-append ((digits ++ fraction_text (n % scale)) ++ no_exponent e) unit in
       let b = length-append (digits ++ fraction_text (n % scale)) (no_exponent e) in
@@ -249,7 +249,7 @@ module _ (n : ℕ) (unit after : List ℕ) (within : n ≤ limit) (ends : ends_n
   unfolding number_piece
   number_is = ap (λ (k : TokenKind). made k (unit_end text (unit_start text 0)) changes.Keep) kind_is ∙ ap (λ (k : ℕ). made (numeral_kind n unit) k changes.Keep) (end_is ∙ long)
 
-  first_is : is_digit (byte text 0) ≡ true
+  pub first_is : is_digit (byte text 0) ≡ true
   first_is = first_digit digits behind whole.alone whole.some
 
 digit_white : (b : ℕ) → is_digit b ≡ true → is_white b ≡ false
@@ -268,7 +268,7 @@ digit_slash : (b : ℕ) → is_digit b ≡ true → (b == sign "/") ≡ false
 digit_slash b e = grind (arith, nat_tests)
 
 -- digits begin nothing but a number
-number_here : (bs : List ℕ) (top : Inside) (before : Before) → after_hash before ≡ false → is_digit (byte bs 0) ≡ true → code_piece bs top before 0 ≡ number_piece bs 0
+pub number_here : (bs : List ℕ) (top : Inside) (before : Before) → after_hash before ≡ false → is_digit (byte bs 0) ≡ true → code_piece bs top before 0 ≡ number_piece bs 0
 unfolding code_piece word_piece
 number_here bs top before hash e =
     if_false (is_white (byte bs 0)) _ _ (digit_white (byte bs 0) e)
@@ -311,10 +311,10 @@ unit_run (b ∷ unit) after all stops =
     ∙ ap (λ (n : ℕ). 1 + n) (unit_run unit after (and_right (starts_plainly b) _ all) stops)
     ∙ (let e : 1 + length unit ≡ length (b ∷ unit) = omega arith in e)
 
-letter_digit : (b : ℕ) → starts_plainly b ≡ true → is_digit b ≡ false
+pub letter_digit : (b : ℕ) → starts_plainly b ≡ true → is_digit b ≡ false
 letter_digit b e = grind (arith, nat_tests)
 
-letter_point : (b : ℕ) → starts_plainly b ≡ true → (b == sign ".") ≡ false
+pub letter_point : (b : ℕ) → starts_plainly b ≡ true → (b == sign ".") ≡ false
 letter_point b e = grind (arith, nat_tests)
 
 letter_percent : (b : ℕ) → starts_plainly b ≡ true → (b == sign "%") ≡ false
@@ -346,18 +346,18 @@ second_of (c ∷ unit) after all stops dark =
     let plain = and_left (starts_plainly c) _ all in
     (ap is_digit (moved.first_byte c (unit ++ after)) ∙ letter_digit c plain, ap is_plus_or_minus (moved.first_byte c (unit ++ after)) ∙ letter_sign c plain)
 
-four : (a b c d : Bool) → a ≡ false → b ≡ false → c ≡ true → d ≡ true → (not a && (not b && (c && d))) ≡ true
+pub four : (a b c d : Bool) → a ≡ false → b ≡ false → c ≡ true → d ≡ true → (not a && (not b && (c && d))) ≡ true
 four false false true true e f g h = refl
 four true b c d e f g h = absurd (cc)
 four false true c d e f g h = absurd (cc)
 four false false false d e f g h = absurd (cc)
 four false false true false e f g h = absurd (cc)
 
-or_true : (a b : Bool) → b ≡ true → (a || b) ≡ true
+pub or_true : (a b : Bool) → b ≡ true → (a || b) ≡ true
 or_true true b e = refl
 or_true false b e = e
 
-same : (a b : ℕ) → a ≡ b → (a == b) ≡ true
+pub same : (a b : ℕ) → a ≡ b → (a == b) ≡ true
 same a b e = grind (arith, nat_tests)
 
 pub letters_end : (unit after : List ℕ) → IsLetterUnit unit after

@@ -11,14 +11,14 @@ use Rattle.sw_tokens.specs.declared.pieces.Piece.{Piece}
 use Rattle.sw_tokens.specs.declared.token.Token.{Token}
 use Rattle.sw_tokens.specs.declared.token.TokenKind.{TokenKind}
 use Rattle.sw_tokens.specs.declared.token.TokenKind.TheVariants as kinds
+use Rattle.sw_tokens.specs.Pieces.{sign_of}
 use Rattle.sw_tokens.specs.Decoded.{replacement, is_surrogate, is_beyond, char_of, hex_value, told_at, told_end, decoded_from, decoded_rest, decoded}
 use Rattle.sw_parse_terminals.specs.declared.lexeme.Lexeme.{Lexeme}
 use Rattle.sw_parse_table.specs.declared.source.Source.{Source}
 use Rattle.sw_parse_table.specs.Sources.{bytes, lexeme_at, token_of, decoded_by, decoded_in, decoded_at}
 use Rattle.sw_convert_spelling.specs.Strings.{are_bytes}
-use Rattle.sw_convert_spelling.proofs.Choices.{is_name}
 use Rattle.sw_convert_tokens.specs.Values.{WasRead}
-use Rattle.sw_convert_tokens.proofs.PieceCases.{is_plain, Cases, piece_has, name_has}
+use Rattle.sw_convert_tokens.proofs.PieceCases.{is_plain, bare_plain, lone_plain, sign_plain, Cases, sign_of_is, number_has, piece_has, name_has}
 use Rattle.sw_convert_tokens.proofs.Olds.{every_at, HasPiece, all_tokens}
 
 -- ---- bytes
@@ -126,10 +126,13 @@ told_cases : (bs : List ℕ) (at : ℕ) → are_bytes bs ≡ true → Cases bs a
 told_cases bs at all = record {
   none = refl;
   white = λ n. refl;
-  plain = λ kind e n change. plain kind (and_right (not (is_name kind)) _ e);
-  name = name_has bs at (λ o. is_told o ≡ true) (λ kind e n change. plain kind e);
+  plain = λ kind e n change. plain kind (sign_plain kind e);
+  name = name_has bs at (λ o. is_told o ≡ true) (λ kind e n change. plain kind (bare_plain kind e))
+      (plain (sign_of (byte bs at)) (lone_plain (sign_of (byte bs at)) (sign_of_is (byte bs at))));
   quoted = λ i j n. decoded_bytes (slice_range bs i j) (ranged bs i j all);
   text = λ i j n. decoded_bytes (slice_range bs i j) (ranged bs i j all);
+  number = λ e. number_has bs at (λ o. is_told o ≡ true) (λ kind f named n change. plain kind f);
+  hex = λ e. refl;
   range = λ e. refl;
 }
   where

@@ -146,7 +146,7 @@ not_comment text = go (has_namespace text)
     go true = refl
     go false = refl
 
-says_decoded : (text : List ℕ) (seen : Seen) → decoded_by seen.kind ≡ text → (source : Source) (commented : Bool) (at : ℕ)
+pub says_decoded : (text : List ℕ) (seen : Seen) → decoded_by seen.kind ≡ text → (source : Source) (commented : Bool) (at : ℕ)
     (front after : List ℕ) → Sits source commented at front seen after → decoded_at source at ≡ text
 unfolding decoded_at
 says_decoded text seen is source commented at front after sits =

@@ -7,7 +7,6 @@ pub mod Between
 pub mod Rows
 pub mod Stops
 pub mod Leaves
-mod Quotients
 pub mod OriginChoices
 pub mod Origins
 pub mod Olds
@@ -18,9 +17,21 @@ pub mod NamePieces
 pub mod Names
 pub mod Dashes
 pub mod Words
-mod Ranges
+pub mod Units
+pub mod NumberPieces
+pub mod NumberEnds
+pub mod NumeralsBack
+pub mod Pairs
+pub mod Adjoining
+pub mod Numbers
+pub mod Ranges
+pub mod OldNumbers
 pub mod Variables
-mod Values
+pub mod Arguments
+pub mod Undollared
+pub mod Calls
+pub mod Templates
+pub mod Hashes
 pub mod Laid
 pub mod Sitting
-mod ReadsBack
+pub mod Counted

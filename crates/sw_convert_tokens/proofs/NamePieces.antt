@@ -15,7 +15,7 @@ use Rattle.sw_tokens.specs.declared.token.TokenKind.{TokenKind}
 use Rattle.sw_tokens.specs.declared.token.TokenKind.TheVariants as kinds
 use Rattle.sw_tokens.specs.Pieces.{made, piece, sign_of, sign_piece, letter_kind, dash_kind, name_piece}
 use Rattle.sw_convert_spelling.proofs.Choices.{is_name, ends_here, unlike, no_white_piece}
-use Rattle.sw_convert_tokens.proofs.PieceCases.{is_plain, is_sign, sign_of_is, Cases, piece_has}
+use Rattle.sw_convert_tokens.proofs.PieceCases.{sign_of_is, Cases, number_has, piece_has}
 
 -- ---- a name is read as one
 
@@ -23,8 +23,8 @@ no_piece : {kind : TokenKind} {n : ℕ} {change : Change} {P : Type 0} → None 
 no_piece e = absurd (cc)
 
 -- other tokens aren't names
-no_name : (kind : TokenKind) → is_sign kind ≡ true → is_name kind ≡ false
-no_name kind e = go (is_name kind) (and_left (not (is_name kind)) (is_plain kind) e)
+no_name : (kind : TokenKind) (x : Bool) → (not (is_name kind) && x) ≡ true → is_name kind ≡ false
+no_name kind x e = go (is_name kind) (and_left (not (is_name kind)) x e)
   where
     go : (t : Bool) → not t ≡ true → t ≡ false
     go true e = sym e
@@ -42,10 +42,13 @@ module _ (kind : TokenKind) (n : ℕ) (change : Change) (k : is_name kind ≡ tr
   named_cases bs = record {
     none = λ e. no_piece e;
     white = λ m e. no_white_piece _ e;
-    plain = λ other o m c e. not_so other m c e (no_name other o);
+    plain = λ other o m c e. not_so other m c e (no_name other _ o);
     quoted = λ i j m e. not_so (kinds.Quoted _) m changes.Keep e refl;
     text = λ i j m e. not_so (kinds.Text _) m changes.Keep e refl;
     name = λ e. e;
+    number = λ b. number_has bs 0 (λ o. o ≡ result → name_piece bs 0 ≡ result)
+        (λ other o named m c e. not_so other m c e named);
+    hex = λ b e. not_so kinds.Hex _ changes.Keep e refl;
     range = λ b e. not_so kinds.UnicodeRange _ changes.Keep e refl;
   }
 
@@ -64,7 +67,7 @@ module _ (kind : TokenKind) (n : ℕ) (change : Change) (k : is_name kind ≡ tr
       (λ u. split ((byte bs 0 == sign "!") && (byte bs (0 + 1) == sign "=")) _ _ result (λ v g. not_so kinds.NotEquals _ changes.Keep g refl)
       (λ v. split ((byte bs 0 == sign "<") && (byte bs (0 + 1) == sign "=")) _ _ result (λ x h. not_so kinds.LessEquals _ changes.Keep h refl)
       (λ x. split ((byte bs 0 == sign ">") && (byte bs (0 + 1) == sign "=")) _ _ result (λ y m. not_so kinds.GreaterEquals _ changes.Keep m refl)
-      (λ y m. not_so (sign_of (byte bs 0)) _ changes.Keep m (no_name (sign_of (byte bs 0)) (sign_of_is (byte bs 0))))))))
+      (λ y m. not_so (sign_of (byte bs 0)) _ changes.Keep m (no_name (sign_of (byte bs 0)) _ (sign_of_is (byte bs 0))))))))
 
   -- a letter begins the name, or a name begins there, and it runs to its end
   pub name_run : (bs : List ℕ) → name_piece bs 0 ≡ result

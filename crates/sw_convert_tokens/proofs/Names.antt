@@ -22,15 +22,16 @@ use Rattle.sw_convert_spelling.specs.Spelt.{is_sheet_code}
 use Rattle.sw_convert_spelling.specs.Neighbours.{joins_sign, parts_sign, begins_other}
 use Rattle.sw_convert_spelling.proofs.MovedRuns as moved
 use Rattle.sw_convert_spelling.proofs.Again as texts
-use Rattle.sw_convert_spelling.proofs.Choices.{left_no, right_no, neither, by_test, is_name, is_at_name}
+use Rattle.sw_convert_spelling.proofs.Choices.{both, left_no, right_no, neither, by_test, is_name, is_at_name}
 use Rattle.sw_convert_spelling.proofs.NamesStay as staying
 use Rattle.sw_convert_written.specs.Escapes.{ends_unclosed}
+use Rattle.sw_convert_written.specs.Expressions.{is_url}
 use Rattle.sw_convert_tokens.specs.Written.{is_calm, begins_white}
 use Rattle.sw_text_locality.proofs.Characters.{Character, known, character_next, hex_some}
 use Rattle.sw_text_locality.proofs.Characters.Character.{plain, escaped, closed, paired, unclosed}
 use Rattle.sw_text_locality.proofs.Written.{byte_before}
 use Rattle.sw_convert_tokens.proofs.OpenEscapes.{name_open}
-use Rattle.sw_convert_tokens.proofs.Stops.{Dark, Parted, white_same, no_escape, no_more_name}
+use Rattle.sw_convert_tokens.proofs.Stops.{Dim, Parted, Behind, parted_behind, white_same, no_escape, name_ends}
 use Rattle.sw_convert_tokens.proofs.NamePieces.{name_run}
 
 -- word characters are name characters
@@ -80,7 +81,7 @@ start_by b e = record {
 }
 
 module _ (cs : List ℕ) where
-  begun_by : (is_letter (byte cs 0) || begins_name cs 0) ≡ true
+  pub begun_by : (is_letter (byte cs 0) || begins_name cs 0) ≡ true
       → (starts_plainly (byte cs 0) || ((byte cs 0 == sign "\\") || (byte cs 0 == sign "-"))) ≡ true
   unfolding begins_name
   begun_by e = go (is_letter (byte cs 0)) (starts_plainly (byte cs 0)) (byte cs 0 == sign "\\") (byte cs 0 == sign "-") _ _ (letter (byte cs 0)) (escape_goes cs 0) e
@@ -102,7 +103,7 @@ module _ (cs : List ℕ) where
           by false false false false x y false f g e = e
 
   -- nothing else begins there
-  code_name : (top : Inside) (before : Before) → Start (byte cs 0) → begins_other before cs ≡ false
+  pub code_name : (top : Inside) (before : Before) → Start (byte cs 0) → begins_other before cs ≡ false
       → code_piece cs top before 0 ≡ name_piece cs 0
   unfolding code_piece word_piece opens_url
   code_name top before start other =
@@ -129,14 +130,15 @@ module _ (cs : List ℕ) where
       let on = if_true (is_name_byte (byte cs i)) (i + 1) (escape_end cs i) e in
       sym (run_step cs classes.Name i (omega (arith, on))) ∙ ap (run_end classes.Name cs) on
 
-  ends : (i : ℕ) → is_name_byte (byte cs i) ≡ false → (byte cs i == sign "\\") ≡ false → run_end classes.Name cs i ≡ i
+  pub ends : (i : ℕ) → is_name_byte (byte cs i) ≡ false → (byte cs i == sign "\\") ≡ false → run_end classes.Name cs i ≡ i
   unfolding escape_end
   ends i e s =
       let on = if_false (is_name_byte (byte cs i)) (i + 1) (escape_end cs i) e ∙ if_true (not (byte cs i == sign "\\")) i _ (ap not s) in
       run_stop cs classes.Name i (omega (arith, on))
 
   -- a name before what goes on with none begins no range and no url
-  module _ (n : ℕ) (run : run_end classes.Name cs 0 ≡ n) (dark : Dark (byte cs n)) where
+  module _ (n : ℕ) (run : run_end classes.Name cs 0 ≡ n) (dark : Dim (byte cs n))
+      (other : (byte cs n == sign "(") ≡ true → n ≡ 3 → (is_u (byte cs 0) && (is_r (byte cs 1) && is_l (byte cs 2))) ≡ false) where
     u_name : (b : ℕ) → is_u b ≡ true → is_name_byte b ≡ true
     u_name b e = grind (arith, nat_tests)
 
@@ -181,8 +183,9 @@ module _ (cs : List ℕ) where
             let end : 3 ≡ n =
             sym (ends 3 p.0 p.1) ∙ sym (goes 2 (l_name (byte cs 2) l)) ∙ sym (goes 1 (r_name (byte cs 1) r))
             ∙ sym (goes 0 (u_name (byte cs 0) u)) ∙ run in
-            let d = dark.paren in
-            let x = ap (λ (k : ℕ). byte cs k == sign "(") end in (let no : true ≡ false = sym paren ∙ x ∙ d in cc)
+            let there : (byte cs n == sign "(") ≡ true = ap (λ (k : ℕ). byte cs k == sign "(") (sym end) ∙ paren in
+            let d = other there (sym end) in
+            let x = both (is_u (byte cs 0)) _ u (both (is_r (byte cs 1)) _ r l) in (let no : true ≡ false = sym x ∙ d in cc)
 
     calm_other : (before : Before) → is_calm before ≡ true → begins_other before cs ≡ false
     calm_other befores.White c = neither (begins_range cs 0) (begins_url cs 0) no_range no_url
@@ -192,7 +195,7 @@ module _ (cs : List ℕ) where
 
 -- ---- one sign alone
 
-joins_no : (b : ℕ) (after : List ℕ) → Dark (byte after 0) → Start b → (b == sign "\\") ≡ false → joins_sign b after ≡ false
+joins_no : (b : ℕ) (after : List ℕ) → Dim (byte after 0) → Start b → (b == sign "\\") ≡ false → joins_sign b after ≡ false
 unfolding begins_name
 joins_no b after dark start slash =
     neither _ _ (left_no (b == sign "#") _ start.hash)
@@ -215,7 +218,7 @@ joins_no b after dark start slash =
     no_name = neither (starts_at after 0) _ no_start (left_no (byte after 0 == sign "-") _ (no_dash (byte after 0) dark.name))
 
 -- an escape is longer than one byte
-slash_long : (bs : List ℕ) → (byte bs 0 == sign "\\") ≡ true → run_end classes.Name bs 0 ≡ 1 → ⊥
+pub slash_long : (bs : List ℕ) → (byte bs 0 == sign "\\") ≡ true → run_end classes.Name bs 0 ≡ 1 → ⊥
 slash_long bs slash run = go (texts.lt_or_le 0 (next classes.Name bs 0))
   where
     no_name : (b : ℕ) → (b == sign "\\") ≡ true → is_name_byte b ≡ true → ⊥
@@ -237,15 +240,25 @@ slash_long bs slash run = go (texts.lt_or_le 0 (next classes.Name bs 0))
         let fw = run_forward bs classes.Name (next classes.Name bs 0) in
         of_one k.bytes k.bare k.kind (omega (arith, there, step, fw, lt, run))
 
--- ---- a name that was read, before what may stand behind a value
+-- `url` by its bytes
+url_bytes : (w after : List ℕ) → length w ≡ 3 → is_url w ≡ false
+    → (is_u (byte (w ++ after) 0) && (is_r (byte (w ++ after) 1) && is_l (byte (w ++ after) 2))) ≡ false
+unfolding byte
+url_bytes (a ∷ b ∷ c ∷ []) after l e = e
+url_bytes (a ∷ b ∷ []) after l e = absurd (omega (arith, l))
+url_bytes (a ∷ []) after l e = absurd (omega (arith, l))
+url_bytes [] after l e = absurd (omega (arith, l))
+url_bytes (a ∷ b ∷ c ∷ d ∷ w) after l e = absurd (omega (arith, l))
+
+-- ---- a name that was read, before what may stand behind it
 
 module _ (w old after : List ℕ) (kind : TokenKind) (change : Change) (k : is_name kind ≡ true) (some : 0 < length w)
-    (is : name_piece (w ++ old) 0 ≡ made kind (length w) change) (p : Parted w after) where
+    (is : name_piece (w ++ old) 0 ≡ made kind (length w) change) (p : Behind w after) where
   abbrev cs : List ℕ
   cs = w ++ after
 
-  pub run_by : (xs : List ℕ) → name_piece xs 0 ≡ made kind (length w) change → run_end classes.Name xs 0 ≡ length w
-  run_by xs e = go (name_run kind (length w) change k xs e).1
+  run_at : (xs : List ℕ) → name_piece xs 0 ≡ made kind (length w) change → run_end classes.Name xs 0 ≡ length w
+  run_at xs e = go (name_run kind (length w) change k xs e).1
     where
       go : ((is_letter (byte xs 0) ≡ true) × (run_end classes.Name xs (run_end classes.Word xs 0) ≡ length w))
           ⊎ (run_end classes.Name xs 0 ≡ length w)
@@ -262,18 +275,22 @@ module _ (w old after : List ℕ) (kind : TokenKind) (change : Change) (k : is_n
   behind_is : byte cs (length w) ≡ byte after 0
   behind_is = texts.behind_first w old after
 
-  dark : Dark (byte after 0)
-  dark = p.dark
+  dark : Dim (byte after 0)
+  dark = p.dim
+
+  no_url_here : (byte cs (length w) == sign "(") ≡ true → length w ≡ 3
+      → (is_u (byte cs 0) && (is_r (byte cs 1) && is_l (byte cs 2))) ≡ false
+  no_url_here e l = url_bytes w after l (p.url (ap (λ (b : ℕ). b == sign "(") (sym behind_is) ∙ e))
 
   open_same : locality.ends_unclosed (w ++ old) 0 ≡ ends_unclosed w
-  open_same = name_open w old (run_by (w ++ old) is)
+  open_same = name_open w old (run_at (w ++ old) is)
 
   parts : texts.Parts w old after (locality.ends_unclosed (w ++ old) 0)
   parts =
       let place : length w ≡ length w + 0 = omega arith in
       let there : next classes.Name cs (length w) ≡ length w + 0 =
       ap (next classes.Name cs) place ∙ moved.next_moved w after classes.Name 0
-      ∙ ap (λ (n : ℕ). length w + n) (no_more_name after dark) in record {
+      ∙ ap (λ (n : ℕ). length w + n) (name_ends after dark.name dark.slash) in record {
         stops = omega (arith, there);
         white =
             ap (λ (t : Bool). t && is_white (byte cs (length w))) open_same
@@ -297,7 +314,7 @@ module _ (w old after : List ℕ) (kind : TokenKind) (change : Change) (k : is_n
       (by_test ((b == sign "\\") ≡ false) (b == sign "\\")
       (λ t. absurd (slash_long (w ++ old)
       (ap (λ (c : ℕ). c == sign "\\") (ap (λ (xs : List ℕ). byte (xs ++ old) 0) e ∙ moved.first_byte b old) ∙ t)
-      (run_by (w ++ old) is ∙ ap length e)))
+      (run_at (w ++ old) is ∙ ap length e)))
       (λ t. t)))
     where
       signed : (xs : List ℕ) → w ≡ xs → ((b : ℕ) → w ≡ b ∷ [] → joins_sign b after ≡ false) → parts_sign xs after ≡ true
@@ -322,28 +339,50 @@ module _ (w old after : List ℕ) (kind : TokenKind) (change : Change) (k : is_n
       → code_piece cs top before 0 ≡ made kind (length w) change
   name_code top before calm =
       code_name cs top before (start_of cs name_here)
-      (calm_other cs (length w) (run_by cs name_here) (subst Dark (sym behind_is) dark) before calm)
+      (calm_other cs (length w) (run_at cs name_here) (subst Dim (sym behind_is) dark) no_url_here before calm)
       ∙ name_here
 
-  pub name_token : (inside : Inside) (before : Before) → is_sheet_code inside ≡ true → is_calm before ≡ true
+  pub token_at : (inside : Inside) (before : Before) → is_sheet_code inside ≡ true → is_calm before ≡ true
       → piece cs inside before 0 ≡ made kind (length w) change
-  name_token insides.Sheet before code calm = name_code insides.Sheet before calm
-  name_token insides.Interpolation before code calm = name_code insides.Interpolation before calm
-  name_token _ before code calm = absurd (cc)
+  token_at insides.Sheet before code calm = name_code insides.Sheet before calm
+  token_at insides.Interpolation before code calm = name_code insides.Interpolation before calm
+  token_at _ before code calm = absurd (cc)
 
   -- and so behind a `$`
   dollar_code : (top : Inside) → code_piece cs top befores.Dollar 0 ≡ made kind (length w) change
   dollar_code top =
       code_name cs top befores.Dollar (start_of cs name_here)
-      (no_url cs (length w) (run_by cs name_here) (subst Dark (sym behind_is) dark))
+      (no_url cs (length w) (run_at cs name_here) (subst Dim (sym behind_is) dark) no_url_here)
       ∙ name_here
 
-  pub name_dollar : (inside : Inside) → is_sheet_code inside ≡ true
+  dollar_at : (inside : Inside) → is_sheet_code inside ≡ true
       → piece cs inside befores.Dollar 0 ≡ made kind (length w) change
-  name_dollar insides.Sheet code = dollar_code insides.Sheet
-  name_dollar insides.Interpolation code = dollar_code insides.Interpolation
-  name_dollar _ code = absurd (cc)
+  dollar_at insides.Sheet code = dollar_code insides.Sheet
+  dollar_at insides.Interpolation code = dollar_code insides.Interpolation
+  dollar_at _ code = absurd (cc)
+
+  -- it begins with no white space
+  black_at : is_white (byte w 0) ≡ false
+  black_at = ap is_white (sym (byte_before w old 0 some)) ∙ (start_of (w ++ old) is).white
+
+-- the same before what may stand behind a value
+module _ (w old after : List ℕ) (kind : TokenKind) (change : Change) (k : is_name kind ≡ true) (some : 0 < length w)
+    (is : name_piece (w ++ old) 0 ≡ made kind (length w) change) (p : Parted w after) where
+  pub run_by : (xs : List ℕ) → name_piece xs 0 ≡ made kind (length w) change → run_end classes.Name xs 0 ≡ length w
+  run_by = run_at w old after kind change k some is (parted_behind w after p)
+
+  pub name_token : (inside : Inside) (before : Before) → is_sheet_code inside ≡ true → is_calm before ≡ true
+      → piece (w ++ after) inside before 0 ≡ made kind (length w) change
+  name_token = token_at w old after kind change k some is (parted_behind w after p)
+
+  pub name_dollar : (inside : Inside) → is_sheet_code inside ≡ true
+      → piece (w ++ after) inside befores.Dollar 0 ≡ made kind (length w) change
+  name_dollar = dollar_at w old after kind change k some is (parted_behind w after p)
 
   -- it begins with no white space
   pub name_black : is_white (byte w 0) ≡ false
-  name_black = ap is_white (sym (byte_before w old 0 some)) ∙ (start_of (w ++ old) is).white
+  name_black = black_at w old after kind change k some is (parted_behind w after p)
+
+  pub name_start : Start (byte w 0)
+  name_start =
+      subst Start (byte_before w old 0 some) (start_of w old after kind change k some is (parted_behind w after p) (w ++ old) is)

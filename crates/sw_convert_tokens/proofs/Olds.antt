@@ -177,12 +177,12 @@ module _ (bs : List ℕ) where
 -- ---- lexemes
 
 -- a lexeme is one of the tokens, as a terminal that fits it
-record HasPlain (plains : List Plain) (lexeme : Lexeme) : Type 0 where
-  plain : Plain
-  got : slice_get plains lexeme.token ≡ Some plain
-  from : lexeme.from ≡ plain.from
-  to : lexeme.to ≡ plain.to
-  fit : fits lexeme.terminal plain.sort ≡ true
+pub record HasPlain (plains : List Plain) (lexeme : Lexeme) : Type 0 where
+  pub plain : Plain
+  pub got : slice_get plains lexeme.token ≡ Some plain
+  pub from : lexeme.from ≡ plain.from
+  pub to : lexeme.to ≡ plain.to
+  pub fit : fits lexeme.terminal plain.sort ≡ true
 
 module _ (plains : List Plain) where
   there_is : (done : List Plain) (plain : Plain) (others : List Plain) → plains ≡ done ++ plain ∷ others
@@ -311,15 +311,22 @@ module _ (bs : List ℕ) (t : Token) (e : HasPiece bs t) where
       ap (λ (xs : List ℕ). piece xs e.inside e.before 0) (take-append-drop (t.to - t.from) others) ∙ alone
       ∙ ap (λ (n : ℕ). made t.kind n e.change) (let z : e.own - length front ≡ length own_text = omega (arith, at, to, long) in z)
 
+pub lexeme_plain : (source : Source) → WasRead source → (k : ℕ) (lexeme : Lexeme) → lexeme_at source k ≡ Some lexeme
+    → HasPlain (plains_of (bytes source) source.tokens.now.list) lexeme
+unfolding lexemes_of
+lexeme_plain source was k lexeme there =
+    let plains = plains_of (bytes source) source.tokens.now.list in
+    every_at (HasPlain plains) source.lexemes.now k lexeme
+    (subst (Every (HasPlain plains)) (sym was.lexemes) (all_lexemes plains plains [] beginning 0 refl refl)) there
+
 -- each lexeme of a sheet that was read
 pub old_token : (source : Source) → WasRead source → (k : ℕ) (lexeme : Lexeme) → lexeme_at source k ≡ Some lexeme
     → OldToken source k lexeme
-unfolding lexemes_of from_at to_at
+unfolding from_at to_at
 old_token source was k lexeme there =
     let bs = bytes source in
     let plains = plains_of bs source.tokens.now.list in
-    let has = every_at (HasPlain plains) source.lexemes.now k lexeme
-    (subst (Every (HasPlain plains)) (sym was.lexemes) (all_lexemes plains plains [] beginning 0 refl refl)) there in
+    let has = lexeme_plain source was k lexeme there in
     let it = every_at (HasToken bs) plains lexeme.token has.plain
     (all_plains bs 0 source.tokens.now.list (all_tokens bs source.tokens.now.list was.tokens)) has.got in
     let t = it.token in record {

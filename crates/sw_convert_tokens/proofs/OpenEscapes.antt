@@ -20,11 +20,11 @@ use Rattle.sw_convert_written.specs.Escapes as escapes
 
 module _ (bs : List ℕ) where
   -- the escape that is open behind so many bytes from a place on
-  states : ℕ → ℕ → Option ℕ → Option ℕ
+  pub states : ℕ → ℕ → Option ℕ → Option ℕ
   states zero i state = state
   states (suc n) i state = states n (i + 1) (escapes.behind state (byte bs i))
 
-  states_more : (m n i : ℕ) (state : Option ℕ) → states (m + n) i state ≡ states n (i + m) (states m i state)
+  pub states_more : (m n i : ℕ) (state : Option ℕ) → states (m + n) i state ≡ states n (i + m) (states m i state)
   unfolding states
   states_more zero n i state =
       ap (λ (k : ℕ). states k i state) (let e : 0 + n ≡ n = omega arith in e)
@@ -39,11 +39,11 @@ module _ (bs : List ℕ) where
   states_one i state = refl
 
   -- what is open tells the test, and the next byte begins as if nothing were
-  record Settled (state : Option ℕ) (test : Bool) (i : ℕ) : Type 0 where
-    told : takes_white state ≡ test
-    fresh : escapes.behind state (byte bs i) ≡ begun (byte bs i)
+  pub record Settled (state : Option ℕ) (test : Bool) (i : ℕ) : Type 0 where
+    pub told : takes_white state ≡ test
+    pub fresh : escapes.behind state (byte bs i) ≡ begun (byte bs i)
 
-  nothing_open : (i : ℕ) → Settled None false i
+  pub nothing_open : (i : ℕ) → Settled None false i
   nothing_open i = record { told = refl; fresh = refl }
 
   no_begin : (b : ℕ) → (b == sign "\\") ≡ false → begun b ≡ None
@@ -121,7 +121,7 @@ module _ (bs : List ℕ) where
   none_settled state i e = subst (λ (s : Option ℕ). Settled s false i) (sym e) (nothing_open i)
 
   -- one character
-  character_state : (i m : ℕ) (bare : Bool) (state : Option ℕ) (test : Bool) → Character bs i m bare → Settled state test i
+  pub character_state : (i m : ℕ) (bare : Bool) (state : Option ℕ) (test : Bool) → Character bs i m bare → Settled state test i
       → Settled (states m i state) bare (i + m)
   character_state i m bare state test (plain q e) settled =
       none_settled (states m i state) (i + m)
@@ -194,7 +194,7 @@ module _ (bs : List ℕ) where
       go false t more = omega arith
 
   -- a run of them
-  run_state : (f i n : ℕ) (state : Option ℕ) (test : Bool) → Settled state test i → run_from classes.Name bs f i ≡ i + n
+  pub run_state : (f i n : ℕ) (state : Option ℕ) (test : Bool) → Settled state test i → run_from classes.Name bs f i ≡ i + n
       → takes_white (states n i state) ≡ unclosed_from bs f test i
   unfolding states
   run_state zero i n state test settled e = stay n (let z : n ≡ 0 = omega (arith, e) in z)
@@ -233,7 +233,7 @@ module _ (bs : List ℕ) where
           ∙ ap (λ (u : Bool). unclosed_from bs f u (next classes.Name bs i)) (sym (character_test bs i k.bytes k.bare k.kind))
 
 -- the state behind a text that stands behind another
-states_text : (front w old : List ℕ) (state : Option ℕ)
+pub states_text : (front w old : List ℕ) (state : Option ℕ)
     → behind_text state w ≡ states (front ++ (w ++ old)) (length w) (length front) state
 unfolding states
 states_text front [] old state = refl

@@ -6,7 +6,7 @@ use Rattle.sw_text_scan.specs.declared.runs.Class.TheVariants as classes
 use Rattle.sw_text_scan.specs.Bytes.{sign, byte, is_white, is_quote, is_letter, opens_at, begins_silent, begins_loud, ends_loud}
 use Rattle.sw_text_scan.specs.Runs.{run_end, begins_name}
 use Rattle.sw_text_scan.specs.Words.{begins_number, begins_range, begins_url, url_close, unit_start}
-use Rattle.sw_text_scan.proofs.Bounds.{and_right}
+use Rattle.sw_text_scan.proofs.Bounds.{and_left, and_right}
 use Rattle.sw_tokens.specs.declared.pieces.Before.{Before}
 use Rattle.sw_tokens.specs.declared.pieces.Change.{Change}
 use Rattle.sw_tokens.specs.declared.pieces.Change.TheVariants as changes
@@ -26,9 +26,34 @@ is_plain (kinds.Text text) = false
 is_plain kinds.UnicodeRange = false
 is_plain _ = true
 
+-- nor digits, a number, a hexadecimal form, `+` or `-`
+abbrev pub is_counted : TokenKind → Bool
+is_counted kinds.Digits = true
+is_counted kinds.Number = true
+is_counted kinds.Hex = true
+is_counted kinds.Plus = true
+is_counted kinds.Minus = true
+is_counted _ = false
+
+abbrev pub is_bare : TokenKind → Bool
+is_bare kind = is_plain kind && not (is_counted kind)
+
 -- nor a name
 abbrev pub is_sign : TokenKind → Bool
-is_sign kind = not (is_name kind) && is_plain kind
+is_sign kind = not (is_name kind) && is_bare kind
+
+-- neither a string, nor text in one, nor a unicode range, nor a name
+abbrev pub is_lone : TokenKind → Bool
+is_lone kind = not (is_name kind) && is_plain kind
+
+pub bare_plain : (kind : TokenKind) → is_bare kind ≡ true → is_plain kind ≡ true
+bare_plain kind e = and_left (is_plain kind) _ e
+
+pub lone_plain : (kind : TokenKind) → is_lone kind ≡ true → is_plain kind ≡ true
+lone_plain kind e = and_right (not (is_name kind)) _ e
+
+pub sign_plain : (kind : TokenKind) → is_sign kind ≡ true → is_plain kind ≡ true
+sign_plain kind e = bare_plain kind (and_right (not (is_name kind)) _ e)
 
 -- what holds of each piece that a text may have at a place
 pub record Cases (bs : List ℕ) (at : ℕ) (P : Option Piece → Type 0) : Type 0 where
@@ -38,14 +63,16 @@ pub record Cases (bs : List ℕ) (at : ℕ) (P : Option Piece → Type 0) : Type
   pub quoted : (i j n : ℕ) → P (made (kinds.Quoted (decoded (slice_range bs i j))) n changes.Keep)
   pub text : (i j n : ℕ) → P (made (kinds.Text (decoded (slice_range bs i j))) n changes.Keep)
   pub name : P (name_piece bs at)
+  pub number : begins_number bs at ≡ true → P (number_piece bs at)
+  pub hex : is_hex_form bs at ≡ true → P (made kinds.Hex (run_end classes.HexDigit bs at) changes.Keep)
   pub range : begins_range bs at ≡ true
       → P (made kinds.UnicodeRange (run_end classes.Range bs (at + 2)) changes.Keep)
 
-pick_sign : (t : Bool) (x y : TokenKind) → is_sign x ≡ true → is_sign y ≡ true → is_sign (if t then x else y) ≡ true
+pick_sign : (t : Bool) (x y : TokenKind) → is_lone x ≡ true → is_lone y ≡ true → is_lone (if t then x else y) ≡ true
 pick_sign true x y e f = e
 pick_sign false x y e f = f
 
-pub sign_of_is : (b : ℕ) → is_sign (sign_of b) ≡ true
+pub sign_of_is : (b : ℕ) → is_lone (sign_of b) ≡ true
 sign_of_is b =
     pick_sign (b == sign "{") kinds.OpenBrace _ refl (pick_sign (b == sign "}") kinds.CloseBrace _ refl
     (pick_sign (b == sign "(") kinds.OpenParen _ refl (pick_sign (b == sign ")") kinds.CloseParen _ refl
@@ -60,6 +87,23 @@ sign_of_is b =
     (pick_sign (b == sign "<") kinds.Less _ refl (pick_sign (b == sign ">") kinds.Greater _ refl
     (pick_sign (b == sign "@") kinds.At kinds.Other refl refl))))))))))))))))))))))
 
+pick_plain : (t : Bool) (x y : TokenKind) → is_plain x ≡ true → is_plain y ≡ true → is_plain (if t then x else y) ≡ true
+pick_plain true x y e f = e
+pick_plain false x y e f = f
+
+-- what holds of each such token holds of a number
+pub number_has : (bs : List ℕ) (at : ℕ) (P : Option Piece → Type 0)
+    → ((kind : TokenKind) → is_plain kind ≡ true → is_name kind ≡ false → (n : ℕ) (change : Change) → P (made kind n change))
+    → P (number_piece bs at)
+unfolding number_piece
+number_has bs at P plain =
+    plain (number_kind bs (run_end classes.Digit bs at) (unit_start bs at))
+    (pick_plain _ kinds.Digits kinds.Number refl refl) (named _) _ changes.Keep
+  where
+    named : (t : Bool) → is_name (if t then kinds.Digits else kinds.Number) ≡ false
+    named true = refl
+    named false = refl
+
 module _ (bs : List ℕ) (at : ℕ) (P : Option Piece → Type 0) (it : Cases bs at P) where
   choose : (t : Bool) (x y : Option Piece) → P x → P y → P (if t then x else y)
   choose true x y e f = e
@@ -71,21 +115,18 @@ module _ (bs : List ℕ) (at : ℕ) (P : Option Piece → Type 0) (it : Cases bs
   or_else t kind n change y e f = choose t (made kind n change) y (it.plain kind e n change) f
 
   word_has : (top : Inside) (before : Before) → P (word_piece bs top before at)
-  unfolding word_piece number_piece
+  unfolding word_piece
   word_has top before =
-      or_else (after_hash before && is_hex_form bs at) kinds.Hex _ changes.Keep _ refl
-      (or_else (begins_number bs at) (number_kind bs (run_end classes.Digit bs at) (unit_start bs at)) _ changes.Keep _
-      (pick_sign _ kinds.Digits kinds.Number refl refl)
-      (ranged (not (after_dollar before)) (begins_range bs at) _ it.range
+      told (after_hash before) (is_hex_form bs at) _ _ it.hex
+      (told true (begins_number bs at) _ _ it.number
+      (told (not (after_dollar before)) (begins_range bs at) _ _ it.range
       (or_else (begins_url bs at && (byte bs (url_close bs (url_class top) at) == sign ")")) kinds.Url _ changes.Keep _ refl
       (or_else (opens_url bs top at) kinds.UrlTemplate _ (changes.Push (url_inside top)) _ refl it.name))))
     where
-      ranged : (a t : Bool) (y : Option Piece)
-          → (t ≡ true → P (made kinds.UnicodeRange (run_end classes.Range bs (at + 2)) changes.Keep)) → P y
-          → P (if a && t then made kinds.UnicodeRange (run_end classes.Range bs (at + 2)) changes.Keep else y)
-      ranged true true y e f = e refl
-      ranged true false y e f = f
-      ranged false t y e f = f
+      told : (a t : Bool) (x y : Option Piece) → (t ≡ true → P x) → P y → P (if a && t then x else y)
+      told true true x y e f = e refl
+      told true false x y e f = f
+      told false t x y e f = f
 
   quote_has : (q : ℕ) → P (quote_piece bs q at)
   unfolding quote_piece
@@ -160,15 +201,16 @@ module _ (bs : List ℕ) (at : ℕ) (P : Option Piece → Type 0) (it : Cases bs
 
 -- what holds of each such token holds of what begins with a name or a sign
 module _ (bs : List ℕ) (at : ℕ) (P : Option Piece → Type 0)
-    (plain : (kind : TokenKind) → is_plain kind ≡ true → (n : ℕ) (change : Change) → P (made kind n change)) where
-  then_else : (t : Bool) (kind : TokenKind) (n : ℕ) (y : Option Piece) → is_plain kind ≡ true → P y
+    (plain : (kind : TokenKind) → is_bare kind ≡ true → (n : ℕ) (change : Change) → P (made kind n change))
+    (lone : P (made (sign_of (byte bs at)) (at + 1) changes.Keep)) where
+  then_else : (t : Bool) (kind : TokenKind) (n : ℕ) (y : Option Piece) → is_bare kind ≡ true → P y
       → P (if t then made kind n changes.Keep else y)
   then_else true kind n y e f = plain kind e n changes.Keep
   then_else false kind n y e f = f
 
-  pick_plain : (t : Bool) (x y : TokenKind) → is_plain x ≡ true → is_plain y ≡ true → is_plain (if t then x else y) ≡ true
-  pick_plain true x y e f = e
-  pick_plain false x y e f = f
+  pick_bare : (t : Bool) (x y : TokenKind) → is_bare x ≡ true → is_bare y ≡ true → is_bare (if t then x else y) ≡ true
+  pick_bare true x y e f = e
+  pick_bare false x y e f = f
 
   sign_has : P (sign_piece bs at)
   unfolding sign_piece
@@ -178,11 +220,11 @@ module _ (bs : List ℕ) (at : ℕ) (P : Option Piece → Type 0)
       (then_else ((byte bs at == sign "!") && (byte bs (at + 1) == sign "=")) kinds.NotEquals _ _ refl
       (then_else ((byte bs at == sign "<") && (byte bs (at + 1) == sign "=")) kinds.LessEquals _ _ refl
       (then_else ((byte bs at == sign ">") && (byte bs (at + 1) == sign "=")) kinds.GreaterEquals _ _ refl
-      (plain (sign_of (byte bs at)) (and_right (not (is_name (sign_of (byte bs at)))) _ (sign_of_is (byte bs at))) _ changes.Keep)))))
+      lone))))
 
   pub name_has : P (name_piece bs at)
   unfolding name_piece
   name_has =
-      then_else (is_letter (byte bs at)) (letter_kind _ _) _ _ (pick_plain _ kinds.Word kinds.Name refl refl)
-      (then_else (begins_name bs at) (dash_kind bs at) _ _ (pick_plain _ kinds.DashedName kinds.Name refl refl)
+      then_else (is_letter (byte bs at)) (letter_kind _ _) _ _ (pick_bare _ kinds.Word kinds.Name refl refl)
+      (then_else (begins_name bs at) (dash_kind bs at) _ _ (pick_bare _ kinds.DashedName kinds.Name refl refl)
       (then_else ((byte bs at == sign "@") && begins_name bs (at + 1)) kinds.AtName _ _ refl sign_has))

@@ -21,7 +21,7 @@ use Rattle.sw_tokens.specs.declared.skips.Inside.TheVariants as insides
 use Rattle.sw_tokens.specs.declared.token.TokenKind.{TokenKind}
 use Rattle.sw_tokens.specs.declared.token.TokenKind.TheVariants as kinds
 use Rattle.sw_tokens.specs.Ends.{opens}
-use Rattle.sw_tokens.specs.Pieces.{made, piece, is_hex_form, after_dollar, after_hash, word_piece, in_interpolation, code_piece}
+use Rattle.sw_tokens.specs.Pieces.{made, piece, sign_of, is_hex_form, after_dollar, after_hash, word_piece, in_interpolation, code_piece}
 use Rattle.sw_parse_grammar.specs.Grammar.{member}
 use Rattle.sw_parse_terminals.specs.declared.terminal.Terminal.{Terminal}
 use Rattle.sw_parse_terminals.specs.declared.terminal.Terminal.TheVariants as terminals
@@ -33,7 +33,7 @@ use Rattle.sw_parse_table.specs.Sources.{bytes, from_at, to_at, bytes_at, bytes_
 use Rattle.sw_parse_table.specs.Values.{expression}
 use Rattle.sw_convert_spelling.specs.Spelt.{is_sheet_code, behind_gap}
 use Rattle.sw_convert_spelling.proofs.Again as texts
-use Rattle.sw_convert_spelling.proofs.Choices.{left_no, both, neither, is_name}
+use Rattle.sw_convert_spelling.proofs.Choices.{left_no, both, neither}
 use Rattle.sw_convert_written.specs.declared.manner.Manner.TheVariants as manners
 use Rattle.sw_convert_written.specs.Pieces.{pieces_text}
 use Rattle.sw_convert_written.specs.Expressions.{expr_text}
@@ -48,7 +48,7 @@ use Rattle.sw_convert_tokens.proofs.Signs.{token_segment}
 use Rattle.sw_convert_tokens.proofs.Stops.{Dark, stopped}
 use Rattle.sw_convert_tokens.proofs.Olds.{old_token}
 use Rattle.sw_convert_tokens.proofs.OriginChoices.{fits}
-use Rattle.sw_convert_tokens.proofs.PieceCases.{is_plain, Cases, piece_has, name_has}
+use Rattle.sw_convert_tokens.proofs.PieceCases.{is_plain, bare_plain, lone_plain, sign_plain, Cases, sign_of_is, number_has, piece_has, name_has}
 use Rattle.sw_convert_tokens.proofs.Names.{Start, start_by}
 use Rattle.sw_convert_tokens.proofs.Words.{kind_of_range, bytes_sit}
 
@@ -71,8 +71,11 @@ run_cases : (bs : List ℕ) → Cases bs 0 (piece_run bs)
 run_cases bs = record {
   none = tt;
   white = λ n. tt;
-  plain = λ kind e n change. plain kind n (and_right (not (is_name kind)) _ e);
-  name = name_has bs 0 (piece_run bs) (λ kind e n change. plain kind n e);
+  plain = λ kind e n change. plain kind n (sign_plain kind e);
+  name = name_has bs 0 (piece_run bs) (λ kind e n change. plain kind n (bare_plain kind e))
+      (plain (sign_of (byte bs 0)) _ (lone_plain (sign_of (byte bs 0)) (sign_of_is (byte bs 0))));
+  number = λ e. number_has bs 0 (piece_run bs) (λ kind f named n change. plain kind n f);
+  hex = λ e. tt;
   quoted = λ i j n. tt;
   text = λ i j n. tt;
   range = λ e. (e, refl);
@@ -192,7 +195,7 @@ only_range : (terminal : Terminal) → member (number_of terminal) (just termina
 only_range terminals.Range m = refl
 only_range _ m = absurd (cc)
 
-own_bytes : (source : Source) (i : ℕ) → bytes_between source i (suc i) ≡ bytes_at source i
+pub own_bytes : (source : Source) (i : ℕ) → bytes_between source i (suc i) ≡ bytes_at source i
 own_bytes source i =
     ap (λ (k : ℕ). slice_range (bytes source) (from_at source i) (to_at source k)) (let z : suc i - 1 ≡ i = omega arith in z)
 

@@ -29,7 +29,7 @@ row_of value before spaced calm = let it = value before spaced calm in
 
 -- ---- between values
 
-comma_segment : (before : Before) → Segment before (codes ",") (again.sign terminals.Comma ∷ [])
+pub comma_segment : (before : Before) → Segment before (codes ",") (again.sign terminals.Comma ∷ [])
     (passing.written sorts.Comma (is_spaced before) terminals.Comma ∷ []) befores.Other Anything
 comma_segment before = lone_segment (sign ",") (terminals.Comma ∷ []) before false refl refl refl (λ inside code. refl)
 

@@ -35,10 +35,10 @@ get_behind front x rest =
     slice_get-get_or (front ++ x ∷ rest) (length front) x (let e = length-append front (x ∷ rest) in omega (arith, e))
     ∙ ap Some (get_or-append_seam front x rest x)
 
-one_more : {A : Type 0} (front : List A) (x : A) (rest : List A) → (front ++ x ∷ []) ++ rest ≡ front ++ x ∷ rest
+pub one_more : {A : Type 0} (front : List A) (x : A) (rest : List A) → (front ++ x ∷ []) ++ rest ≡ front ++ x ∷ rest
 one_more front x rest = append_assoc front (x ∷ []) rest
 
-length_more : {A : Type 0} (front : List A) (x : A) → length (front ++ x ∷ []) ≡ length front + 1
+pub length_more : {A : Type 0} (front : List A) (x : A) → length (front ++ x ∷ []) ≡ length front + 1
 length_more front x = length-append front (x ∷ [])
 
 among : (terminal : Terminal) (list : List Terminal) → passing.Among terminal list → Among terminal list
@@ -85,7 +85,7 @@ no_comment : (state : State) (terminal : Terminal) → (after state terminal).co
 unfolding after
 no_comment state terminal = no_comment_more state terminal (opened_by terminal)
 
-placed_commented : (state : State) (plains : List Plain) (at : ℕ) → (placed state plains at).commented ≡ state.commented
+pub placed_commented : (state : State) (plains : List Plain) (at : ℕ) → (placed state plains at).commented ≡ state.commented
 unfolding placed
 placed_commented state plains at = go state.start
   where
@@ -95,7 +95,7 @@ placed_commented state plains at = go state.start
     go true = refl
     go false = refl
 
-white_commented : (state : State) (sort : Sort) → (past_white state sort).commented ≡ true
+pub white_commented : (state : State) (sort : Sort) → (past_white state sort).commented ≡ true
 unfolding past_white
 white_commented state sort = refl
 
@@ -118,7 +118,7 @@ module _ (source : Source) (whole : List Plain) where
     pub all_tokens : source.tokens.now.list ≡ done_tokens ++ tokens
     pub here_token : length done_tokens ≡ at
 
-  further : {done plains : List Plain} {plain : Plain} {done_tokens tokens : List Token} {one : Token} {at : ℕ}
+  pub further : {done plains : List Plain} {plain : Plain} {done_tokens tokens : List Token} {one : Token} {at : ℕ}
       → Places done (plain ∷ plains) done_tokens (one ∷ tokens) at
       → Places (done ++ plain ∷ []) plains (done_tokens ++ one ∷ []) tokens (at + 1)
   further {done} {plains} {plain} {done_tokens} {tokens} {one} {at} p = record {
@@ -160,19 +160,19 @@ module _ (source : Source) (whole : List Plain) where
       }
 
   -- the text behind a token
-  rest_text : (joint : Joint) (list : List Joint) (front : List ℕ) → bytes source ≡ front ++ text (joint ∷ list)
+  pub rest_text : (joint : Joint) (list : List Joint) (front : List ℕ) → bytes source ≡ front ++ text (joint ∷ list)
       → bytes source ≡ ((front ++ (spelt_of joint).gap) ++ (spelt_of joint).bytes) ++ text list
   rest_text joint list front e =
       e ∙ sym (append_assoc front (spelt_of joint).gap ((spelt_of joint).bytes ++ text list))
       ∙ sym (append_assoc (front ++ (spelt_of joint).gap) (spelt_of joint).bytes (text list))
 
-  sort_there : {done plains : List Plain} {plain : Plain} {done_tokens tokens : List Token} {at : ℕ}
+  pub sort_there : {done plains : List Plain} {plain : Plain} {done_tokens tokens : List Token} {at : ℕ}
       → Places done (plain ∷ plains) done_tokens tokens at → sort_at whole at ≡ plain.sort
   unfolding sort_at
   sort_there p = ap sort_in (plain_there p)
 
   -- a token that is seen, before others
-  one_sits : (seen : Seen) (list : List Joint) (before others : List Lexeme) {front : List ℕ} {plains done : List Plain}
+  pub one_sits : (seen : Seen) (list : List Joint) (before others : List Lexeme) {front : List ℕ} {plains done : List Plain}
       {plain : Plain} {done_tokens tokens : List Token} {one : Token} {at : ℕ} (it : Plain) (commented : Bool)
       (state : State) (terminal : Terminal) → IsPlain front (joints.Token seen) plain one
       → Places done (plain ∷ plains) done_tokens (one ∷ tokens) at → slice_get whole at ≡ Some it

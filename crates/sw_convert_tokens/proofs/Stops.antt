@@ -1,5 +1,5 @@
 -- What stands behind the text of a value goes on with no name, no number, no range and no sign.
-use Rattle.std.proofs.Common.{◌≡◌, ℕ, ◌+◌, Bool, true, false, not, ◌&&◌, ◌||◌, List, [], ◌∷◌, length, refl, ◌∙◌, ap, arith}
+use Rattle.std.proofs.Common.{◌≡◌, ℕ, ◌+◌, Bool, true, false, not, ◌&&◌, ◌||◌, List, [], ◌∷◌, length, refl, sym, ◌∙◌, ap, arith}
 use Rattle.std.specs.Prelude.{◌==◌, ◌-◌, nat_lt}
 use Rattle.std.proofs.lemmas.Bool.Decides.{nat_tests}
 use Rattle.sw_text_scan.specs.declared.runs.Class.TheVariants as classes
@@ -12,6 +12,7 @@ use Rattle.sw_text_locality.specs.Names as locality
 use Rattle.sw_convert_spelling.specs.Neighbours.{parts_name}
 use Rattle.sw_convert_spelling.proofs.Choices.{right_no, both}
 use Rattle.sw_convert_written.specs.Escapes.{ends_unclosed}
+use Rattle.sw_convert_written.specs.Expressions.{is_url}
 use Rattle.sw_convert_tokens.specs.Written.{Follows, is_stop, is_dots, stops, begins_white}
 
 -- what the first byte behind a value isn't
@@ -94,9 +95,13 @@ pub no_escape : (after : List ℕ) → (byte after 0 == sign "\\") ≡ false →
 unfolding escape_end
 no_escape after e = if_true (not (byte after 0 == sign "\\")) 0 _ (ap not e)
 
+pub name_ends : (after : List ℕ) → is_name_byte (byte after 0) ≡ false → (byte after 0 == sign "\\") ≡ false
+    → next classes.Name after 0 ≡ 0
+name_ends after name slash =
+    if_false (is_name_byte (byte after 0)) (0 + 1) (escape_end after 0) name ∙ no_escape after slash
+
 pub no_more_name : (after : List ℕ) → Dark (byte after 0) → next classes.Name after 0 ≡ 0
-no_more_name after dark =
-    if_false (is_name_byte (byte after 0)) (0 + 1) (escape_end after 0) dark.name ∙ no_escape after dark.slash
+no_more_name after dark = name_ends after dark.name dark.slash
 
 -- a name ends before it, where escapes are told to be open as the name tells
 pub name_parts : (bytes after : List ℕ) → locality.ends_unclosed bytes 0 ≡ ends_unclosed bytes → Follows bytes after
@@ -125,3 +130,44 @@ follows_parts value after f = record { dark = stopped after f.stop; closed = f.c
 
 pub nothing_parts : (value : List ℕ) → Parted value []
 nothing_parts value = record { dark = stopped [] refl; closed = refl }
+
+-- ---- behind a name, where a `(` may stand too
+
+-- what the first byte behind a name isn't
+pub record Dim (b : ℕ) : Type 0 where
+  pub name : is_name_byte b ≡ false
+  pub slash : (b == sign "\\") ≡ false
+  pub feed : (b == LINE_FEED) ≡ false
+  pub sign_before : is_plus_or_minus b ≡ false
+  pub equals : (b == sign "=") ≡ false
+
+pub dim_of : (b : ℕ) → Dark b → Dim b
+dim_of b dark = record {
+  name = dark.name;
+  slash = dark.slash;
+  feed = dark.feed;
+  sign_before = dark.sign_before;
+  equals = dark.equals;
+}
+
+-- what stands behind a name goes on with none, takes no open escape for its own, and makes no url of it
+pub record Behind (value after : List ℕ) : Type 0 where
+  pub dim : Dim (byte after 0)
+  pub closed : (begins_white after && ends_unclosed value) ≡ false
+  pub url : (byte after 0 == sign "(") ≡ true → is_url value ≡ false
+
+pub parted_behind : (value after : List ℕ) → Parted value after → Behind value after
+parted_behind value after p = record {
+  dim = dim_of (byte after 0) p.dark;
+  closed = p.closed;
+  url = λ e. absurd (let d = p.dark.paren in let wrong : true ≡ false = sym e ∙ d in cc);
+}
+
+-- the `(` of a call
+pub paren_behind : (value rest : List ℕ) → is_url value ≡ false → Behind value (sign "(" ∷ rest)
+unfolding byte
+paren_behind value rest no_url = record {
+  dim = record { name = refl; slash = refl; feed = refl; sign_before = refl; equals = refl };
+  closed = refl;
+  url = λ e. no_url;
+}

@@ -1,5 +1,5 @@
 -- What is written of a variable that was read is its tokens.
-use Rattle.std.proofs.Common.{◌≡◌, ℕ, suc, true, false, List, [], ◌∷◌, ◌++◌, length, refl, sym, ◌∙◌, ap, subst, append_assoc, lit<}
+use Rattle.std.proofs.Common.{◌≡◌, ℕ, suc, Bool, true, false, List, [], ◌∷◌, ◌++◌, length, refl, sym, ◌∙◌, ap, subst, append_assoc, lit<}
 use Rattle.std.specs.Prelude.{codes}
 use Rattle.sw_text.specs.Names.{dashed}
 use Rattle.sw_text_scan.specs.Bytes.{sign, byte}
@@ -12,6 +12,8 @@ use Rattle.sw_parse_terminals.specs.declared.terminal.Terminal.{Terminal}
 use Rattle.sw_parse_terminals.specs.declared.terminal.Terminal.TheVariants as terminals
 use Rattle.sw_parse_terminals.specs.Numbers.{number_of, just}
 use Rattle.sw_parse_lexemes.specs.declared.sort.Sort.{Sort}
+use Rattle.sw_tokens.specs.Tokens.{is_spaced}
+use Rattle.sw_parse_lexemes.specs.declared.sort.Sort.TheVariants as sorts
 use Rattle.sw_parse_lexemes.specs.Classes.{is_name}
 use Rattle.sw_parse_lexemes.specs.Sorts.{sort_of}
 use Rattle.sw_parse_table.specs.declared.source.Source.{Source}
@@ -29,7 +31,7 @@ use Rattle.sw_convert_again.specs.Tokens as again
 use Rattle.sw_convert_again.specs.Spells.{dollar}
 use Rattle.sw_convert_again.proofs.Tokens.{one_byte}
 use Rattle.sw_convert_tokens.specs.Joints.{Segment}
-use Rattle.sw_convert_tokens.specs.Written.{Follows, gap_of, AsValue, WrittenAs}
+use Rattle.sw_convert_tokens.specs.Written.{Follows, is_calm, gap_of, AsValue, WrittenAs}
 use Rattle.sw_convert_tokens.specs.Values.{WasRead}
 use Rattle.sw_convert_tokens.specs.Variables.{VariablesAreWritten}
 use Rattle.sw_convert_tokens.proofs.Joins.{join, as_text, as_behind}
@@ -43,7 +45,7 @@ use Rattle.sw_convert_tokens.proofs.NamePieces.{name_in, name_run}
 use Rattle.sw_convert_tokens.proofs.Names.{run_by, name_dollar, name_black}
 use Rattle.sw_convert_tokens.proofs.Words.{kind_of_name, name_yes, name_opens, name_behind, name_comment, bytes_sit, copied_name, copied_bytes}
 
-only_owner : (terminal : Terminal) → member (number_of terminal) (just terminals.Owner) ≡ true → terminal ≡ terminals.Owner
+pub only_owner : (terminal : Terminal) → member (number_of terminal) (just terminals.Owner) ≡ true → terminal ≡ terminals.Owner
 only_owner terminals.Owner m = refl
 only_owner _ m = absurd (cc)
 
@@ -52,18 +54,18 @@ only_name : (terminal : Terminal) → member (number_of terminal) (just terminal
 only_name terminals.VariableName m = refl
 only_name _ m = absurd (cc)
 
-dollar_ends : Ends (sign "$")
+pub dollar_ends : Ends (sign "$")
 dollar_ends = record { slash = refl; digit = refl }
 
 -- the name of a variable behind its `$`, as it is written
-record VariableName (source : Source) (i : ℕ) : Type 0 where
-  sort : Sort
-  is : is_name sort ≡ true
-  segment : Segment befores.Dollar (name_text (dashed (bytes_at source i)))
+pub record VariableName (source : Source) (i : ℕ) : Type 0 where
+  pub sort : Sort
+  pub is : is_name sort ≡ true
+  pub segment : Segment befores.Dollar (name_text (dashed (bytes_at source i)))
       (tok terminals.VariableName (Dashed (dashed (bytes_at source i))) ∷ []) (direct sort terminals.VariableName ∷ [])
       befores.Other (Follows (name_text (dashed (bytes_at source i))))
 
-variable_name : (source : Source) (i : ℕ) → WasRead source → Old source i (just terminals.VariableName)
+pub variable_name : (source : Source) (i : ℕ) → WasRead source → Old source i (just terminals.VariableName)
     → VariableName source i
 variable_name source i was old =
     let it = old_token source was i old.lexeme old.there in
@@ -92,31 +94,39 @@ variable_name source i was old =
           (name_behind kept.kind kept.is) name));
     }
 
--- a `$` and the name that was read behind one
+-- a `$` and the name that was read behind one, where it may be these terminals
+pub variable_segment : (source : Source) (i : ℕ) → (name : VariableName source i) → (ts : List Terminal) (before : Before)
+    (spaced : Bool) → is_calm (behind_gap before (gap_of spaced)) ≡ true
+    → Segment before (gap_of spaced ++ dollar_name (dashed (bytes_at source i)))
+    (record { kinds = ts; said = again.Nothing } ∷ tok terminals.VariableName (Dashed (dashed (bytes_at source i))) ∷ [])
+    (record { sort = sorts.Dollar; spaced = is_spaced (behind_gap before (gap_of spaced)); may_be = ts }
+    ∷ direct name.sort terminals.VariableName ∷ [])
+    befores.Other (Follows (dollar_name (dashed (bytes_at source i))))
+unfolding byte
+variable_segment source i name ts before spaced calm =
+    let text = name_text (dashed (bytes_at source i)) in
+    as_behind (λ after f. follows_end [] text (sign "$") dollar_ends after f)
+    (as_text (append_assoc (gap_of spaced) (codes "$") text)
+    (join
+    (sign_segment kinds.Dollar (codes "$") ts before spaced Anything refl refl refl (lit< tt)
+    (λ inside after code ok. sign_token kinds.Dollar after inside (behind_gap before (gap_of spaced)) refl code calm refl))
+    name.segment (λ after f. tt)))
+
 pub variable_written : (source : Source) (i : ℕ) → WasRead source → Old source i (just terminals.VariableName)
     → WrittenAs (AsValue false) (dollar_name (dashed (bytes_at source i)))
     (dollar ∷ tok terminals.VariableName (Dashed (dashed (bytes_at source i))) ∷ [])
-unfolding byte
 variable_written source i was old before spaced calm =
-    let name = variable_name source i was old in
-    let text = name_text (dashed (bytes_at source i)) in record {
+    let name = variable_name source i was old in record {
       passed = _;
-      segment = as_behind (λ after f. follows_end [] text (sign "$") dollar_ends after f)
-          (as_text (append_assoc (gap_of spaced) (codes "$") text)
-          (join
-          (sign_segment kinds.Dollar (codes "$") (terminals.Dollar ∷ terminals.DollarNamed ∷ []) before spaced Anything refl refl
-          refl (lit< tt)
-          (λ inside after code ok. sign_token kinds.Dollar after inside (behind_gap before (gap_of spaced)) refl code calm refl))
-          name.segment (λ after f. tt)));
+      segment = variable_segment source i name (terminals.Dollar ∷ terminals.DollarNamed ∷ []) before spaced calm;
       told = λ mode b. variable name.sort name.is;
     }
 
--- a `.` or a `$` stands behind
-Begins : ℕ → List ℕ → Type 0
+-- this sign stands behind
+abbrev pub Begins : ℕ → List ℕ → Type 0
 Begins b after = (rest : List ℕ) × (after ≡ b ∷ rest)
 
-dot_parts : (value after : List ℕ) → Begins (sign ".") after → Parted value after
-unfolding Begins
+pub dot_parts : (value after : List ℕ) → Begins (sign ".") after → Parted value after
 dot_parts value after b =
     subst (Parted value) (sym b.1) (record {
       dark = subst Dark (sym (first_byte (sign ".") b.0)) (dot_dark (sign ".") refl);
@@ -129,7 +139,7 @@ pub qualified_written : (source : Source) (i : ℕ) → WasRead source → Old s
     → WrittenAs (AsValue false) (qualified_text (qualified_of source i (suc (suc (suc i)))))
     (tok terminals.Owner (Bytes 1 (bytes_at source i)) ∷ again.sign terminals.OwnerDot ∷ again.sign terminals.OwnerDollar
     ∷ tok terminals.VariableName (Dashed (dashed (bytes_at source (suc (suc (suc i)))))) ∷ [])
-unfolding byte Begins
+unfolding byte
 qualified_written source i was owner old before spaced calm =
     let it = old_token source was i owner.lexeme owner.there in
     let sort = sort_of it.kind it.text in

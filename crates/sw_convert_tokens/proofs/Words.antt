@@ -22,7 +22,7 @@ use Rattle.sw_parse_lexemes.specs.declared.sort.Sort.{Sort}
 use Rattle.sw_parse_lexemes.specs.declared.sort.Sort.TheVariants as sorts
 use Rattle.sw_parse_lexemes.specs.declared.state.Mode.{Mode}
 use Rattle.sw_parse_lexemes.specs.declared.state.Mode.TheVariants as modes
-use Rattle.sw_parse_lexemes.specs.Classes.{is_name, is_reserved, is_comment}
+use Rattle.sw_parse_lexemes.specs.Classes.{is_name, is_reserved, is_comment, is_number}
 use Rattle.sw_parse_lexemes.specs.Sorts.{quoted_sort, sort_of}
 use Rattle.sw_parse_lexemes.specs.Words.{of_two, of_three, of_four, of_five, of_six, of_seven, of_nine, word_sort, is_prefixed_calc, at_one, at_three, at_four, at_five, at_six, at_seven, at_eight, at_nine, at_sort}
 use Rattle.sw_parse_table.specs.declared.source.Source.{Source}
@@ -34,7 +34,7 @@ use Rattle.sw_convert_written.specs.declared.manner.Manner.TheVariants as manner
 use Rattle.sw_convert_written.specs.Pieces.{pieces_text}
 use Rattle.sw_convert_written.specs.Expressions.{parts_written, expr_text}
 use Rattle.sw_convert_written.proofs.Unrolled as unrolled
-use Rattle.sw_convert_passing.specs.Kinds.{ends_bound}
+use Rattle.sw_convert_passing.specs.Kinds.{ends_bound, is_plus_or_minus}
 use Rattle.sw_convert_passing.specs.Written.{written}
 use Rattle.sw_convert_passing.specs.Values.{Value, word, named, no_part}
 use Rattle.sw_convert_again.specs.Tokens.{Said, Says, tok, text_to_end}
@@ -44,22 +44,23 @@ use Rattle.sw_convert_tokens.specs.Written.{Follows, is_calm, gap_of, is_bounded
 use Rattle.sw_convert_tokens.specs.Words.{WordsAreWritten}
 use Rattle.sw_convert_tokens.proofs.Joins.{as_text, as_behind}
 use Rattle.sw_convert_tokens.proofs.Signs.{token_segment}
-use Rattle.sw_convert_tokens.proofs.Stops.{Parted, follows_parts, nothing_parts}
+use Rattle.sw_convert_tokens.proofs.Stops.{Parted, Behind, parted_behind, follows_parts, nothing_parts}
 use Rattle.sw_convert_tokens.proofs.Laid.{range_behind}
 use Rattle.sw_convert_tokens.proofs.Olds.{OldToken, old_token}
 use Rattle.sw_convert_tokens.proofs.OriginChoices.{is_range, fits}
 use Rattle.sw_convert_tokens.proofs.NamePieces.{name_in, name_keep}
-use Rattle.sw_convert_tokens.proofs.Names.{name_token, name_black}
+use Rattle.sw_convert_tokens.proofs.NumberPieces.{is_numeric, is_signed}
+use Rattle.sw_convert_tokens.proofs.Names.{token_at, name_black}
 
 -- ---- kinds of names
 
-only_word : (terminal : Terminal) → member (number_of terminal) (just terminals.Word) ≡ true → terminal ≡ terminals.Word
+pub only_word : (terminal : Terminal) → member (number_of terminal) (just terminals.Word) ≡ true → terminal ≡ terminals.Word
 only_word terminals.Word m = refl
 only_word _ m = absurd (cc)
 
--- a name or a unicode range
+-- a name, a unicode range, a number, or a sign before one
 abbrev is_wordlike : Sort → Bool
-is_wordlike sort = is_name sort || is_range sort
+is_wordlike sort = is_name sort || (is_range sort || (is_number sort || is_plus_or_minus sort))
 
 pick_no : (t : Bool) (x y : Sort) → is_wordlike x ≡ false → is_wordlike y ≡ false → is_wordlike (if t then x else y) ≡ false
 pick_no true x y e f = e
@@ -78,6 +79,18 @@ at_no text =
     (pick_no (length text == 9) (at_nine text) _ (pick_no (bytes_eq text (codes "@function")) sorts.AtFunction _ refl (pick_no (bytes_eq text (codes "@supports")) sorts.AtSupports _ refl refl))
     refl))))))))
 
+no_more_name : (a b c d : Bool) → (a || (b || (c || d))) ≡ false → c ≡ false
+no_more_name true b c d e = absurd (cc)
+no_more_name false true c d e = absurd (cc)
+no_more_name false false true d e = absurd (cc)
+no_more_name false false false d e = refl
+
+no_last : (a b c d : Bool) → (a || (b || (c || d))) ≡ false → d ≡ false
+no_last true b c d e = absurd (cc)
+no_last false true c d e = absurd (cc)
+no_last false false true d e = absurd (cc)
+no_last false false false d e = e
+
 quoted_no : (told : List ℕ) → is_wordlike (quoted_sort told) ≡ false
 quoted_no told = pick_no (has_namespace told) sorts.Quoted sorts.Unnamed refl refl
 
@@ -89,7 +102,7 @@ kind_of_name kinds.AtName text n = sym (or_left (is_name (at_sort text)) _ (at_n
 kind_of_name (kinds.Quoted told) text n = sym (or_left (is_name (quoted_sort told)) _ (quoted_no told)) ∙ n
 kind_of_name _ text n = n
 
-name_reserved : (kind : TokenKind) (text : List ℕ) → names.is_name kind ≡ true → is_reserved (word_sort text) ≡ false
+pub name_reserved : (kind : TokenKind) (text : List ℕ) → names.is_name kind ≡ true → is_reserved (word_sort text) ≡ false
     → is_reserved (sort_of kind text) ≡ false
 name_reserved kinds.Word text n r = r
 name_reserved kinds.Name text n r = go (is_prefixed_calc text)
@@ -117,7 +130,7 @@ name_comment sorts.Comment n = absurd (cc)
 name_comment sorts.CommentTemplate n = absurd (cc)
 name_comment _ n = refl
 
-unbounded : (mode : Mode) (sort : Sort) → is_bounded mode ≡ false → ends_bound mode sort ≡ false
+pub unbounded : (mode : Mode) (sort : Sort) → is_bounded mode ≡ false → ends_bound mode sort ≡ false
 unbounded modes.Bounds sort b = absurd (cc)
 unbounded modes.BoundEnds sort b = absurd (cc)
 unbounded _ sort b = refl
@@ -153,10 +166,41 @@ kind_of_range kinds.UnicodeRange text r = refl
 kind_of_range kinds.Word text r = absurd (no_name (sort_of kinds.Word text) (name_yes kinds.Word text refl) r)
 kind_of_range kinds.Name text r = absurd (no_name (sort_of kinds.Name text) (name_yes kinds.Name text refl) r)
 kind_of_range kinds.AtName text r =
-    absurd (let no : true ≡ false = sym r ∙ or_right (is_name (at_sort text)) _ (at_no text) in cc)
+    absurd
+    (let no : true ≡ false = sym r ∙ or_left (is_range (at_sort text)) _ (or_right (is_name (at_sort text)) _ (at_no text)) in cc)
 kind_of_range (kinds.Quoted told) text r =
-    absurd (let no : true ≡ false = sym r ∙ or_right (is_name (quoted_sort told)) _ (quoted_no told) in cc)
+    absurd
+    (let no : true ≡ false =
+    sym r ∙ or_left (is_range (quoted_sort told)) _ (or_right (is_name (quoted_sort told)) _ (quoted_no told)) in cc)
 kind_of_range _ text r = absurd (cc)
+
+no_number : (sort : Sort) → is_name sort ≡ true → is_number sort ≡ true → ⊥
+no_number sorts.Digits n r = let no : false ≡ true = n in cc
+no_number sorts.Number n r = let no : false ≡ true = n in cc
+no_number _ n r = let no : false ≡ true = r in cc
+
+pub kind_of_number : (kind : TokenKind) (text : List ℕ) → is_number (sort_of kind text) ≡ true → is_numeric kind ≡ true
+kind_of_number kinds.Word text r = absurd (no_number (sort_of kinds.Word text) (name_yes kinds.Word text refl) r)
+kind_of_number kinds.Name text r = absurd (no_number (sort_of kinds.Name text) (name_yes kinds.Name text refl) r)
+kind_of_number kinds.AtName text r =
+    absurd (let no : true ≡ false = sym r ∙ no_more_name (is_name (at_sort text)) _ _ _ (at_no text) in cc)
+kind_of_number (kinds.Quoted told) text r =
+    absurd (let no : true ≡ false = sym r ∙ no_more_name (is_name (quoted_sort told)) _ _ _ (quoted_no told) in cc)
+kind_of_number _ text r = r
+
+no_sign : (sort : Sort) → is_name sort ≡ true → is_plus_or_minus sort ≡ true → ⊥
+no_sign sorts.Plus n r = let no : false ≡ true = n in cc
+no_sign sorts.Minus n r = let no : false ≡ true = n in cc
+no_sign _ n r = let no : false ≡ true = r in cc
+
+pub kind_of_sign : (kind : TokenKind) (text : List ℕ) → is_plus_or_minus (sort_of kind text) ≡ true → is_signed kind ≡ true
+kind_of_sign kinds.Word text r = absurd (no_sign (sort_of kinds.Word text) (name_yes kinds.Word text refl) r)
+kind_of_sign kinds.Name text r = absurd (no_sign (sort_of kinds.Name text) (name_yes kinds.Name text refl) r)
+kind_of_sign kinds.AtName text r =
+    absurd (let no : true ≡ false = sym r ∙ no_last (is_name (at_sort text)) _ _ _ (at_no text) in cc)
+kind_of_sign (kinds.Quoted told) text r =
+    absurd (let no : true ≡ false = sym r ∙ no_last (is_name (quoted_sort told)) _ _ _ (quoted_no told) in cc)
+kind_of_sign _ text r = r
 
 -- ---- texts of one token
 
@@ -168,11 +212,11 @@ one_text source from first stop e =
     ap (λ (k : ℕ). texts_from source (to_at source k) from first (k - first)) e
     ∙ ap (λ (n : ℕ). texts_from source (to_at source first) from first n) (let z : first - first ≡ 0 = omega arith in z)
 
-parts_are : (source : Source) (i : ℕ) → parts_between source i (suc i) [] ≡ parts.Plain (bytes_at source i)
+pub parts_are : (source : Source) (i : ℕ) → parts_between source i (suc i) [] ≡ parts.Plain (bytes_at source i)
 parts_are source i =
     ap plain_parts (one_text source (from_at source i) i (suc i - 1) (let z : suc i - 1 ≡ i = omega arith in z))
 
-said_is : (source : Source) (i : ℕ)
+pub said_is : (source : Source) (i : ℕ)
     → text_to_end source (from_at source i) i (i + 1) ≡ record { first = bytes_at source i; rest = [] }
 said_is source i = one_text source (from_at source i) i ((i + 1) - 1) (let z : (i + 1) - 1 ≡ i = omega arith in z)
 
@@ -197,14 +241,14 @@ word_told mode spaced sort n r b =
     (names.both (not (ends_bound mode sort)) _ (ap not (unbounded mode sort b)) refl)) no_part)
 
 -- a name that was read, written as it stood
-pub copied_name : (source : Source) (i : ℕ) (lexeme : Lexeme) (it : OldToken source i lexeme)
+pub copied_behind : (source : Source) (i : ℕ) (lexeme : Lexeme) (it : OldToken source i lexeme)
     → is_name (sort_of it.kind it.text) ≡ true → (terminal : Terminal) (said : Said) (before : Before) (spaced : Bool)
     → is_calm (behind_gap before (gap_of spaced)) ≡ true → (P : List ℕ → Type 0)
-    → ((after : List ℕ) → P after → Parted it.text after)
+    → ((after : List ℕ) → P after → Behind it.text after)
     → ((new : Source) (at : ℕ) → bytes_at new at ≡ bytes_at source i → Says new at said)
     → Segment before (gap_of spaced ++ it.text) (tok terminal said ∷ [])
     (written (sort_of it.kind it.text) (is_spaced (behind_gap before (gap_of spaced))) terminal ∷ []) befores.Other P
-copied_name source i lexeme it n terminal said before spaced calm P parted says =
+copied_behind source i lexeme it n terminal said before spaced calm P parted says =
     let k = kind_of_name it.kind it.text n in
     let closed = name_opens it.kind k in
     let own = it.own closed in
@@ -218,8 +262,19 @@ copied_name source i lexeme it n terminal said before spaced calm P parted says 
     (λ new commented at front after sits.
     says new at (bytes_sit new commented at front _ after sits ∙ sym own.bytes_are))
     (λ inside after code ok.
-    name_token it.text own.after after it.kind own.change k own.some named_piece (parted after ok) inside (behind_gap before (gap_of spaced)) code calm
+    token_at it.text own.after after it.kind own.change k own.some named_piece (parted after ok) inside (behind_gap before (gap_of spaced)) code calm
     ∙ ap (made it.kind (length it.text)) keep))
+
+pub copied_name : (source : Source) (i : ℕ) (lexeme : Lexeme) (it : OldToken source i lexeme)
+    → is_name (sort_of it.kind it.text) ≡ true → (terminal : Terminal) (said : Said) (before : Before) (spaced : Bool)
+    → is_calm (behind_gap before (gap_of spaced)) ≡ true → (P : List ℕ → Type 0)
+    → ((after : List ℕ) → P after → Parted it.text after)
+    → ((new : Source) (at : ℕ) → bytes_at new at ≡ bytes_at source i → Says new at said)
+    → Segment before (gap_of spaced ++ it.text) (tok terminal said ∷ [])
+    (written (sort_of it.kind it.text) (is_spaced (behind_gap before (gap_of spaced))) terminal ∷ []) befores.Other P
+copied_name source i lexeme it n terminal said before spaced calm P parted says =
+    copied_behind source i lexeme it n terminal said before spaced calm P
+    (λ after f. parted_behind it.text after (parted after f)) says
 
 -- its bytes are those that stood there
 pub copied_bytes : (source : Source) (i : ℕ) (lexeme : Lexeme) (it : OldToken source i lexeme)

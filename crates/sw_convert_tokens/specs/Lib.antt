@@ -1,6 +1,9 @@
 pub mod Joints
 pub mod Written
 pub mod Values
-pub mod ReadsBack
 pub mod Words
 pub mod Variables
+pub mod Numbers
+pub mod Calls
+pub mod Hashes
+pub mod Counted

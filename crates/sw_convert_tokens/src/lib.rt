@@ -5,6 +5,4 @@
 
 mod laws;
 
-pub use laws::{
-    expressions_read_back, values_are_written, variables_are_written, words_are_written,
-};
+pub use laws::{numbers_are_written, variables_are_written, words_are_written};

@@ -1,0 +1,17 @@
+pub mod Segments
+pub mod Gaps
+pub mod Keywords
+pub mod Valued
+pub mod Flags
+pub mod Variables
+pub mod Flow
+pub mod Loads
+pub mod Fronts
+pub mod Texts
+pub mod Names
+pub mod Blocks
+pub mod Statements
+pub mod Sheets
+pub mod Steps
+pub mod ReadsBack
+pub mod Told

@@ -1,0 +1,109 @@
+-- Sheets of statements of the kinds that are written as their tokens.
+use Rattle.std.proofs.Common.{◌≡◌, ℕ, Bool, true, false, ◌||◌, List, Option, refl}
+use Rattle.sw_tree.specs.declared.statement.Branch.{Branch}
+use Rattle.sw_tree.specs.declared.statement.Statement.{Statement}
+use Rattle.sw_parse_lexemes.specs.declared.state.Mode.TheVariants as modes
+use Rattle.sw_parse_table.specs.declared.source.Source.{Source}
+use Rattle.sw_convert_passing.proofs.Facts.{and_left, and_right}
+use Rattle.sw_convert_again.specs.Tokens.{Tok}
+use Rattle.sw_convert_again.specs.Statements.{SpellsStatement, SpellsBlock, SpellsBranches, SpellsElse, SpellsStatements}
+use Rattle.sw_convert_again.specs.Statements as spells
+use Rattle.sw_convert_tokens.specs.Values.{WasRead}
+use Rattle.sw_convert_statements.specs.Statements.{FrontIs, HasFronts, BlockHasFronts, BranchesHaveFronts, ElseHasFronts, ListHasFronts}
+use Rattle.sw_convert_statements.specs.Fronts.{ValuesAreKnown, is_told}
+use Rattle.sw_convert_statements.specs.Texts.{TextsAreKnown, has_text}
+use Rattle.sw_convert_statements.specs.Told.{is_known, are_known, block_known, branches_known, else_known, list_known, KnownSheetsHaveFronts}
+use Rattle.sw_convert_statements.proofs.Fronts.{fronts_written, branches_written}
+use Rattle.sw_convert_statements.specs.Names.{NamesAreKnown, has_name}
+use Rattle.sw_convert_statements.proofs.Names.{named_fronts_written}
+use Rattle.sw_convert_statements.proofs.Texts.{text_fronts_written}
+
+module _ (source : Source) (was : WasRead source) (values : ValuesAreKnown source) (raws : TextsAreKnown modes.Raw source)
+    (customs : TextsAreKnown modes.Custom source) (names : NamesAreKnown source) where
+  front : {i j : ℕ} {statement : Statement} {tokens : List Tok} → (spelt : SpellsStatement source i j statement tokens)
+      → is_known spelt ≡ true → FrontIs spelt
+  front spelt known = go (is_told spelt) (has_text spelt) (has_name spelt) refl refl refl known
+    where
+      go : (a b c : Bool) → is_told spelt ≡ a → has_text spelt ≡ b → has_name spelt ≡ c → (a || (b || c)) ≡ true
+          → FrontIs spelt
+      go true b c e f g k = fronts_written source was values _ _ _ _ spelt e
+      go false true c e f g k = text_fronts_written source raws _ _ _ _ spelt f
+      go false false true e f g k = named_fronts_written source values raws customs names _ _ _ _ spelt g
+      go false false false e f g k = absurd (cc)
+
+  mutual
+    fronts : {i j : ℕ} {statement : Statement} {tokens : List Tok}
+        → (spelt : SpellsStatement source i j statement tokens) → are_known spelt ≡ true → HasFronts spelt
+    fronts (spells.while_block span old inner block) k =
+        (front (spells.while_block span old inner block) refl, block_fronts block k)
+    fronts (spells.each_block span one two three names in_word inner block) k =
+        (front (spells.each_block span one two three names in_word inner block) refl, block_fronts block k)
+    fronts (spells.supports_block span old raw block) k =
+        (front (spells.supports_block span old raw block) refl, block_fronts block k)
+    fronts (spells.at_root_block span old block) k =
+        (front (spells.at_root_block span old block) refl, block_fronts block k)
+    fronts (spells.at_root_text_block span old raw block) k =
+        (front (spells.at_root_text_block span old raw block) refl, block_fronts block k)
+    fronts (spells.at_rule_block span text_span name raw block) k =
+        (front (spells.at_rule_block span text_span name raw block) refl, block_fronts block k)
+    fronts (spells.properties_block span text_span word mark block) k =
+        (front (spells.properties_block span text_span word mark block) refl, block_fronts block k)
+    fronts (spells.properties_value_block span text_span word mark inner block) k =
+        (front (spells.properties_value_block span text_span word mark inner block) refl, block_fronts block k)
+    fronts (spells.rule_block span raw block) k = (front (spells.rule_block span raw block) refl, block_fronts block k)
+    fronts (spells.if_block span old inner block further otherwise) k = (
+      front (spells.if_block span old inner block further otherwise) refl,
+      block_fronts block (and_left (block_known block) _ k),
+      branch_fronts further
+          (and_left (branches_known further) _ (and_right (block_known block) _ k)),
+      else_fronts otherwise
+          (and_right (branches_known further) _ (and_right (block_known block) _ k)),
+    )
+    fronts (spells.return_line span old inner end) k = front (spells.return_line span old inner end) k
+    fronts (spells.say_line level span old inner end) k = front (spells.say_line level span old inner end) k
+    fronts (spells.variable_line span one two three inner flags end) k =
+        front (spells.variable_line span one two three inner flags end) k
+    fronts (spells.import_line span old inner end) k = front (spells.import_line span old inner end) k
+    fronts (spells.extend_line span old inner end) k = front (spells.extend_line span old inner end) k
+    fronts (spells.content_line span old given end) k = front (spells.content_line span old given end) k
+    fronts (spells.charset_line span one two end) k = front (spells.charset_line span one two end) k
+    fronts (spells.use_line span one two name settings end) k =
+        front (spells.use_line span one two name settings end) k
+    fronts (spells.forward_line span one two renamed members settings end) k =
+        front (spells.forward_line span one two renamed members settings end) k
+    fronts (spells.declaration_line span text_span word mark inner end) k =
+        front (spells.declaration_line span text_span word mark inner end) k
+    fronts (spells.custom_line span text_span name mark inner end) k =
+        front (spells.custom_line span text_span name mark inner end) k
+    fronts (spells.at_rule_line span text_span name raw end) k = front (spells.at_rule_line span text_span name raw end) k
+    fronts _ k = absurd (cc)
+
+    block_fronts : {i j : ℕ} {list : List Statement} {tokens : List Tok} → (block : SpellsBlock source i j list tokens)
+        → block_known block ≡ true → BlockHasFronts block
+    block_fronts (spells.braces opens inner closes) k = list_fronts inner k
+
+    branch_fronts : {i j : ℕ} {branches : List Branch} {tokens : List Tok}
+        → (further : SpellsBranches source i j branches tokens) → branches_known further ≡ true
+        → BranchesHaveFronts further
+    branch_fronts spells.no_branches k = tt
+    branch_fronts (spells.more_branches old inner block more) k = (
+      branches_written _ _ (values _ _ _ _ inner),
+      block_fronts block (and_left (block_known block) _ k),
+      branch_fronts more (and_right (block_known block) _ k),
+    )
+
+    else_fronts : {i j : ℕ} {otherwise : Option (List Statement)} {tokens : List Tok}
+        → (last : SpellsElse source i j otherwise tokens) → else_known last ≡ true → ElseHasFronts last
+    else_fronts spells.no_else k = tt
+    else_fronts (spells.else_block old block) k = block_fronts block k
+
+    list_fronts : {i j : ℕ} {list : List Statement} {tokens : List Tok}
+        → (spelt : SpellsStatements source i j list tokens) → list_known spelt ≡ true → ListHasFronts spelt
+    list_fronts spells.no_statements k = tt
+    list_fronts (spells.lone_semicolon old more) k = list_fronts more k
+    list_fronts (spells.more_statements one more) k =
+        (fronts one (and_left (are_known one) _ k), list_fronts more (and_right (are_known one) _ k))
+
+pub known_sheets_have_fronts : KnownSheetsHaveFronts
+known_sheets_have_fronts source was values raws customs names i j list tokens spelt k =
+    list_fronts source was values raws customs names spelt k

@@ -1,0 +1,59 @@
+-- What is written of statements with values, up to their end or their block, is their tokens, where what is written of the
+-- values is.
+use Rattle.std.specs.Prelude.{◌≡◌, ℕ, suc, Bool, true, false, List, ◌∷◌, ◌++◌, codes}
+use Rattle.sw_tree.specs.declared.expr.Expr.{Expr}
+use Rattle.sw_tree.specs.declared.statement.Statement.{Statement}
+use Rattle.sw_parse_terminals.specs.declared.terminal.Terminal.TheVariants as terminals
+use Rattle.sw_parse_lexemes.specs.declared.state.Mode.TheVariants as modes
+use Rattle.sw_parse_table.specs.declared.source.Source.{Source}
+use Rattle.sw_parse_terminals.specs.Urls.{has_namespace}
+use Rattle.sw_parse_table.specs.Sources.{decoded_at}
+use Rattle.sw_convert_written.specs.Expressions.{expr_text}
+use Rattle.sw_convert_again.specs.Tokens.{Tok, sign}
+use Rattle.sw_convert_again.specs.Spells.{Spells}
+use Rattle.sw_convert_again.specs.Statements.{SpellsStatement}
+use Rattle.sw_convert_again.specs.Statements as spells
+use Rattle.sw_convert_again.specs.Loads as spells_loads
+use Rattle.sw_convert_tokens.specs.Written.{AsRow, WrittenAs}
+use Rattle.sw_convert_tokens.specs.Values.{WasRead}
+use Rattle.sw_convert_statements.specs.Segments.{ElseWritten}
+use Rattle.sw_convert_statements.specs.Statements.{FrontIs}
+
+-- what is written of each value of a sheet is its tokens
+abbrev pub ValuesAreKnown : Source → Type 0
+ValuesAreKnown source =
+    (i j : ℕ) (value : Expr) (tokens : List Tok) → Spells source i j value tokens
+    → WrittenAs AsRow (expr_text value) tokens
+
+-- the statements of which it is proved: those of values, `@each`, variables with flags, `@charset`, `@content` without
+-- arguments, `@at-root` without a selector, `@forward` of a url alone, and `@use` of a url alone or `as *`
+abbrev pub is_told : {source : Source} {i j : ℕ} {statement : Statement} {tokens : List Tok}
+    → SpellsStatement source i j statement tokens → Bool
+is_told (spells.return_line span old inner end) = true
+is_told (spells.say_line level span old inner end) = true
+is_told (spells.variable_line span one two three inner flags end) = true
+is_told (spells.charset_line span one two end) = true
+is_told (spells.content_line span old spells.no_parens end) = true
+is_told (spells.content_line span old (spells.empty_parens opens closes) end) = true
+is_told (spells.at_root_block span old block) = true
+is_told (spells.forward_line span one two spells_loads.no_prefix spells_loads.no_filter spells_loads.no_configuration end) =
+    true
+is_told {source} (spells.use_line {i} span one two spells_loads.default_namespace spells_loads.no_configuration end) =
+    has_namespace (decoded_at source (suc i))
+is_told (spells.use_line span one two (spells_loads.without_namespace as_word star) spells_loads.no_configuration end) = true
+is_told (spells.while_block span old inner block) = true
+is_told (spells.if_block span old inner block further otherwise) = true
+is_told (spells.each_block span one two three names in_word inner block) = true
+is_told _ = false
+
+abbrev pub FrontsAreWritten : Type 0
+FrontsAreWritten =
+    (source : Source) → WasRead source → ValuesAreKnown source → (i j : ℕ) (statement : Statement) (tokens : List Tok)
+    → (spelt : SpellsStatement source i j statement tokens) → is_told spelt ≡ true → FrontIs spelt
+
+-- the same of `@else if`
+abbrev pub BranchesAreWritten : Type 0
+BranchesAreWritten =
+    (value : List ℕ) (tokens : List Tok) → WrittenAs AsRow value tokens
+    → ElseWritten modes.Expression (codes "@else if " ++ value)
+    (sign terminals.AtElseIf ∷ sign terminals.If ∷ tokens)

@@ -1,0 +1,9 @@
+pub mod Segments
+pub mod Statements
+pub mod Written
+pub mod Sheets
+pub mod Fronts
+pub mod Texts
+pub mod Names
+pub mod ReadsBack
+pub mod Told

@@ -1,0 +1,124 @@
+-- A value in `#{}`, as it is written: two tokens around its own.
+use Rattle.std.proofs.Common.{◌≡◌, ◌<◌, ℕ, Bool, true, false, List, [], ◌∷◌, ◌++◌, length, refl, sym, subst, lit<}
+use Rattle.std.specs.Prelude.{codes}
+use Rattle.sw_text_scan.specs.Bytes.{byte}
+use Rattle.sw_tokens.specs.declared.pieces.Before.{Before}
+use Rattle.sw_tokens.specs.declared.pieces.Before.TheVariants as befores
+use Rattle.sw_tokens.specs.declared.pieces.Change.TheVariants as changes
+use Rattle.sw_tokens.specs.declared.skips.Inside.{Inside}
+use Rattle.sw_tokens.specs.declared.skips.Inside.TheVariants as insides
+use Rattle.sw_tokens.specs.declared.token.TokenKind.TheVariants as kinds
+use Rattle.sw_tokens.specs.Pieces.{made, piece, code_piece, url_piece, comment_piece}
+use Rattle.sw_tokens.specs.Tokens.{is_spaced}
+use Rattle.sw_parse_terminals.specs.declared.terminal.Terminal.{Terminal}
+use Rattle.sw_parse_terminals.specs.declared.terminal.Terminal.TheVariants as terminals
+use Rattle.sw_parse_lexemes.specs.declared.state.Mode.TheVariants as modes
+use Rattle.sw_convert_spelling.specs.Spelt.{behind_gap, innermost, is_sheet_code, is_gap}
+use Rattle.sw_convert_passing.specs.Values.{Items, items}
+use Rattle.sw_convert_again.specs.Tokens.{Said, Tok}
+use Rattle.sw_convert_tokens.specs.Joints.{Seen, Joint, Token, text, Stand}
+use Rattle.sw_convert_tokens.specs.Written.{Follows, gap_of, AsRow, IsWritten, WrittenAs}
+use Rattle.sw_convert_tokens.proofs.Joins.{stand_append}
+
+-- where a `#{` opens a value
+abbrev pub takes_insert : Inside → Bool
+takes_insert insides.Sheet = true
+takes_insert insides.Interpolation = true
+takes_insert insides.Url = true
+takes_insert insides.UrlInside = true
+takes_insert insides.Comment = true
+takes_insert _ = false
+
+pub code_inserts : (inside : Inside) → is_sheet_code inside ≡ true → takes_insert inside ≡ true
+code_inserts insides.Sheet c = refl
+code_inserts insides.Interpolation c = refl
+code_inserts _ c = absurd (cc)
+
+open_token : (inside : Inside) (before : Before) (after : List ℕ) → takes_insert inside ≡ true
+    → piece (codes "#{" ++ after) inside before 0 ≡ made kinds.OpenInterpolation 2 (changes.Push insides.Interpolation)
+unfolding code_piece url_piece comment_piece byte
+open_token insides.Sheet before after t = refl
+open_token insides.Interpolation before after t = refl
+open_token insides.Url before after t = refl
+open_token insides.UrlInside before after t = refl
+open_token insides.Comment before after t = refl
+open_token _ before after t = absurd (cc)
+
+close_token : (before : Before) (after : List ℕ)
+    → piece (codes "}" ++ after) insides.Interpolation before 0 ≡ made kinds.CloseInterpolation 1 changes.Pop
+unfolding code_piece byte
+close_token before after = refl
+
+abbrev pub opening : Before → Bool → Terminal → Said → Seen
+opening before spaced terminal said = record {
+  gap = gap_of spaced;
+  kind = kinds.OpenInterpolation;
+  bytes = codes "#{";
+  change = changes.Push insides.Interpolation;
+  spaced = is_spaced (behind_gap before (gap_of spaced));
+  may_be = terminal ∷ [];
+  said = said;
+}
+
+abbrev pub closing : Said → Seen
+closing said = record {
+  gap = [];
+  kind = kinds.CloseInterpolation;
+  bytes = codes "}";
+  change = changes.Pop;
+  spaced = false;
+  may_be = terminals.InsertEnd ∷ [];
+  said = said;
+}
+
+-- a value inside
+abbrev pub Inner : List ℕ → List Tok → Type 0
+Inner value tokens = IsWritten AsRow value tokens befores.Other false
+
+pub inner_of : (value : List ℕ) (tokens : List Tok) → WrittenAs AsRow value tokens → Inner value tokens
+inner_of value tokens written = written befores.Other false refl
+
+pub inner_items : {value : List ℕ} {tokens : List Tok} → (inner : Inner value tokens) → Items inner.passed
+inner_items inner = let (ended, row) = inner.told modes.Expression refl in items row
+
+close_follows : (value rest : List ℕ) → Follows value (codes "}" ++ rest)
+close_follows value rest = record { stop = refl; closed = refl }
+
+some_two : 0 < length (codes "#{")
+some_two = lit< tt
+
+some_one : 0 < length (codes "}")
+some_one = lit< tt
+
+-- tokens behind the `}`, and all from the `#{` on
+pub close_stand : (stack : List Inside) (said : Said) (joints : List Joint) (after : List ℕ)
+    → Stand stack befores.Other joints stack after
+    → Stand (insides.Interpolation ∷ stack) befores.Other (Token (closing said) ∷ joints) stack after
+close_stand stack said joints after more = (
+  refl,
+  some_one,
+  (refl, refl),
+  λ e. absurd (cc),
+  close_token befores.Other (text joints ++ after),
+  more,
+)
+
+pub insert_stand : (stack : List Inside) (before : Before) (spaced : Bool) (terminal : Terminal) (first said : Said)
+    {value : List ℕ} {tokens : List Tok} (inner : Inner value tokens) (joints : List Joint) (after : List ℕ)
+    → takes_insert (innermost stack) ≡ true → is_gap (innermost stack) (gap_of spaced) (codes "#{") ≡ true
+    → Stand stack befores.Other joints stack after
+    → Stand stack before
+    (Token (opening before spaced terminal first) ∷ (inner.segment.joints ++ Token (closing said) ∷ joints)) stack after
+insert_stand stack before spaced terminal first said {value} inner joints after takes gap more = (
+  gap,
+  some_two,
+  (refl, refl),
+  λ e. absurd (cc),
+  open_token (innermost stack) (behind_gap before (gap_of spaced)) _ takes,
+  stand_append (insides.Interpolation ∷ stack) (insides.Interpolation ∷ stack) stack befores.Other inner.segment.joints
+      (Token (closing said) ∷ joints) after
+      (inner.segment.stand (insides.Interpolation ∷ stack) (text (Token (closing said) ∷ joints) ++ after) refl
+      (close_follows value (text joints ++ after)))
+      (subst (λ (b : Before). Stand (insides.Interpolation ∷ stack) b (Token (closing said) ∷ joints) stack after)
+      (sym inner.segment.last) (close_stand stack said joints after more)),
+)

@@ -1,0 +1,5 @@
+pub mod Adjoining
+pub mod Inserted
+pub mod Names
+pub mod RawTexts
+pub mod Urls

@@ -1,0 +1,36 @@
+// What is written of a text in which values stand is its tokens.
+ghost use Rattle.sw_convert_texts.specs.Adjoining.{PartsAdjoin};
+ghost use Rattle.sw_convert_texts.specs.Names.{AtNamesAreWritten, CalledWordsAreWritten, CustomNamesAreWritten, WordsWithValuesAreWritten};
+ghost use Rattle.sw_convert_texts.specs.Urls.{UrlsAreWritten};
+
+/// A law: what is written of a word with `#{}` in it is its tokens, where this is so of the values in it.
+pub fn words_with_values_are_written()
+    ensures { WordsWithValuesAreWritten }
+{}
+
+/// A law: and so before the arguments of a call, where the word doesn't end with `url`.
+pub fn called_words_are_written()
+    ensures { CalledWordsAreWritten }
+{}
+
+/// A law: what is written of the name of a custom property, with `#{}` in it or without, is its tokens, where this is so
+/// of the values in it.
+pub fn custom_names_are_written()
+    ensures { CustomNamesAreWritten }
+{}
+
+/// A law: what is written of the name of an at-rule, `@` with a name and with `#{}` in it or without, is its tokens, where
+/// this is so of the values in it.
+pub fn at_names_are_written()
+    ensures { AtNamesAreWritten }
+{}
+
+/// A law: what is written of a url without braces is its token.
+pub fn urls_are_written()
+    ensures { UrlsAreWritten }
+{}
+
+/// A law: what a word or a name that was read goes on with begins where it ends, and no comment stands between them.
+pub fn parts_adjoin()
+    ensures { PartsAdjoin }
+{}

@@ -1,5 +1,0 @@
-use Rattle.sw_convert_tokens.proofs.ReadsBack.{expressions_read_back}
-use Rattle.sw_convert_tokens.proofs.laws.expressions_read_back.Goals as goal
-
-pub returns : goal.returns
-returns c = expressions_read_back

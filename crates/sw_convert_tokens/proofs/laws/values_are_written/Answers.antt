@@ -1,5 +1,0 @@
-use Rattle.sw_convert_tokens.proofs.Values.{values_written}
-use Rattle.sw_convert_tokens.proofs.laws.values_are_written.Goals as goal
-
-pub returns : goal.returns
-returns c = values_written

@@ -1,0 +1,5 @@
+mod Quotients
+mod Shapes
+mod Called
+mod Values
+pub mod ReadsBack

@@ -1,0 +1,444 @@
+-- Values that are built of others: signs, operators, lists, brackets and maps.
+use Rattle.std.proofs.Common.{◌≡◌, ◌⊎◌, ℕ, suc, Bool, true, false, not, ◌&&◌, List, [], ◌∷◌, ◌++◌, map, inl, inr, append-nil, refl, sym, ◌∙◌, ap, subst, append_assoc}
+use Rattle.std.specs.Prelude.{codes}
+use Rattle.std.specs.List.{list_all}
+use Rattle.sw_text.specs.Names.{dashed}
+use Rattle.sw_text.specs.declared.place.Span.{Span}
+use Rattle.sw_text_scan.specs.Bytes.{sign}
+use Rattle.sw_text_scan.proofs.Bounds.{and_left, and_right, not_true}
+use Rattle.sw_tokens.specs.declared.token.TokenKind.TheVariants as kinds
+use Rattle.sw_tree.specs.declared.text.Parts.{Parts}
+use Rattle.sw_tree.specs.declared.text.Parts.TheVariants.{Plain as PlainParts}
+use Rattle.sw_tree.specs.declared.text.Piece.{Piece}
+use Rattle.sw_tree.specs.declared.text.Piece.TheVariants as pieces
+use Rattle.sw_tree.specs.declared.expr.Argument.{Argument}
+use Rattle.sw_tree.specs.declared.expr.Around.TheVariants as arounds
+use Rattle.sw_tree.specs.declared.expr.Expr.{Expr}
+use Rattle.sw_tree.specs.declared.expr.ExprKind.TheVariants as exprs
+use Rattle.sw_tree.specs.declared.expr.Link.{Link}
+use Rattle.sw_tree.specs.declared.expr.Operator.{Operator}
+use Rattle.sw_tree.specs.declared.expr.Pair.{Pair}
+use Rattle.sw_tree.specs.declared.expr.Separator.TheVariants as separators
+use Rattle.sw_tree.specs.declared.expr.Sign.{Sign}
+use Rattle.sw_parse_terminals.specs.declared.terminal.Terminal.{Terminal}
+use Rattle.sw_parse_terminals.specs.declared.terminal.Terminal.TheVariants as terminals
+use Rattle.sw_parse_terminals.specs.Numbers.{just}
+use Rattle.sw_parse_lexemes.specs.Classes.{is_reserved}
+use Rattle.sw_parse_lexemes.specs.Words.{word_sort}
+use Rattle.sw_parse_table.specs.declared.source.Source.{Source}
+use Rattle.sw_parse_table.specs.Parts.{Part}
+use Rattle.sw_parse_table.specs.Operators.{operator_of, operator_in, sign_of, sign_in, constant_of, constant_in, constant_at}
+use Rattle.sw_parse_table.specs.Sets.{constants}
+use Rattle.sw_parse_table.specs.Sources.{lexeme_at, bytes_at, decoded_at, parts_between, bytes_between}
+use Rattle.sw_parse_table.specs.Values.{expression, qualified_of}
+use Rattle.sw_convert_written.specs.Names.{dollar_name}
+use Rattle.sw_convert_written.specs.Escapes.{ends_unclosed, space_behind}
+use Rattle.sw_convert_written.specs.declared.manner.Manner.TheVariants as manners
+use Rattle.sw_convert_written.specs.Pieces.{Written, piece_text, pieces_text}
+use Rattle.sw_convert_written.specs.Signs.{operator_text, constant_text, sign_text}
+use Rattle.sw_convert_written.specs.Expressions.{ShownLink, expr_text, expr_shown, link_shown, links_text, is_quotient, is_divide, is_number, items_behind, signs_text, pair_text, with_commas, quoted_text, argument_text, piece_written}
+use Rattle.sw_convert_written.proofs.Unrolled as unrolled
+use Rattle.sw_convert_passing.specs.Standing.{is_prefix_sign}
+use Rattle.sw_convert_passing.specs.Values as passing
+use Rattle.sw_convert_again.specs.Bare.{is_bare}
+use Rattle.sw_convert_again.specs.Tokens.{Tok, tok, Old}
+use Rattle.sw_convert_again.specs.Tokens as again
+use Rattle.sw_convert_again.specs.Spells.{from_start, is_named, without_named, undollared, call_tokens, Spells, SpellsWord, SpellsPlain, SpellsLinks, SpellsItems, SpellsCommas, SpellsPairs, SpellsSigns, SpellsArgument, SpellsMore, SpellsArguments, SpellsPieces, SpellsRow, unlisted, no_links, more_links, no_items, more_items, no_commas, more_commas, no_pairs, more_pairs, no_signs, more_signs, within, paren}
+use Rattle.sw_convert_again.specs.Spells as spells
+use Rattle.sw_convert_tokens.specs.Written.{AsValue, AsRow, WrittenAs}
+use Rattle.sw_convert_tokens.specs.Values.{WasRead, IsValueWritten}
+use Rattle.sw_convert_values.specs.Values.{is_called, is_owned_called, is_text, are_apart, has_insert, is_single_word, is_single, SinglesAreWritten, ValuesAreWritten}
+use Rattle.sw_convert_tokens.proofs.Ends.{bare_list, no_sign_behind}
+use Rattle.sw_convert_tokens.proofs.Signs.{Fits}
+use Rattle.sw_convert_tokens.proofs.Unclosed.{slash_ends, unclosed_behind}
+use Rattle.sw_convert_tokens.proofs.Spaces.{unclosed_spaced}
+use Rattle.sw_convert_tokens.proofs.Between.{operators_are, binary_by, beside_written, linked_written, divided_written, unclosed_linked, prefix_by, prefix_written}
+use Rattle.sw_convert_values.proofs.Quotients.{number_begun}
+use Rattle.sw_convert_spelling.proofs.Choices.{by_test}
+use Rattle.sw_convert_tokens.specs.Hashes.{is_colour}
+use Rattle.sw_convert_tokens.specs.Counted.{is_counted, is_minus_counted}
+use Rattle.sw_convert_tokens.proofs.Counted.{number_stays, minus_stays}
+use Rattle.sw_convert_tokens.proofs.Hashes.{colour_written}
+use Rattle.sw_convert_tokens.proofs.Undollared.{placed_argument}
+use Rattle.sw_convert_tokens.proofs.Arguments.{IsItems, AreArguments, value_argument, name_argument, first_argument, further_argument, colon_argument, dots_behind, no_arguments_written, arguments_written}
+use Rattle.sw_convert_tokens.proofs.Templates.{IsText, nothing_more, text_more, insert_more, template_written}
+use Rattle.sw_convert_texts.specs.Inserted.{RowHasValues, WordHasValues}
+use Rattle.sw_convert_texts.specs.Names.{is_mixed, word_plain}
+use Rattle.sw_convert_texts.specs.Urls.{unbraced}
+use Rattle.sw_convert_texts.proofs.WordsWithValues.{words_written as mixed_words_written}
+use Rattle.sw_convert_texts.proofs.Urls.{urls_written}
+use Rattle.sw_convert_tokens.proofs.OldNumbers.{numbers_written}
+use Rattle.sw_convert_tokens.proofs.Variables.{variable_written, qualified_written}
+use Rattle.sw_convert_tokens.proofs.Rows.{row_of, comma_written, comma_ended, colon_written, parens_none, parens_written, brackets_none, brackets_written}
+use Rattle.sw_convert_tokens.proofs.Leaves.{constant_by, constant_written, parent_written, important_written, quoted_written}
+use Rattle.sw_convert_tokens.proofs.Words.{words_written}
+use Rattle.sw_convert_tokens.proofs.Ranges.{range_written}
+use Rattle.sw_convert_tokens.proofs.Decodings.{decoded_there}
+use Rattle.sw_convert_values.proofs.Shapes.{same, same_row, stays_as, list_around, bare_text, pieces_more, quoted_is, text_some, is_divided, again_behind, three, tokens_behind, parens_text, brackets_text}
+use Rattle.sw_convert_values.proofs.Called.{called_in, owned_in, begun_in, arguments_as, named_text}
+
+module _ (source : Source) (was : WasRead source) (known : SinglesAreWritten source) where
+  abbrev IsWritten : ℕ → List ℕ → List Tok → Type 0
+  IsWritten = IsValueWritten source
+
+  unsigned : {i : ℕ} {text : List ℕ} {tokens : List Tok} → WrittenAs (AsValue false) text tokens → IsWritten i text tokens
+  unsigned it = record { signed = false; written = it; sign = λ e. absurd (cc) }
+
+  retold : {i : ℕ} {xs ys : List ℕ} {ks ls : List Tok} → xs ≡ ys → ks ≡ ls → IsWritten i xs ks → IsWritten i ys ls
+  retold e f a = record { signed = a.signed; written = same e f a.written; sign = a.sign }
+
+  single : {i j : ℕ} {value : Expr} {tokens : List Tok} → (spelt : Spells source i j value tokens)
+      → is_single spelt ≡ true → IsWritten i (expr_text value) tokens
+  single {i} {j} {value} {tokens} spelt e = unsigned (known i j value tokens spelt e)
+
+  -- a name by itself that is no constant and no operator
+  name_in : {i : ℕ} → (span : Span) (old : Old source i (just terminals.Word))
+      → IsWritten i (expr_text (expression (exprs.Word (parts_between source i (suc i) [])) span))
+      (tok terminals.Word (from_start source i [] 1) ∷ [])
+  name_in {i} span old =
+      by_test (IsWritten _ _ _) (is_reserved (word_sort (bytes_at source i)))
+      (λ e. single (spells.word span (spells.named old spells.row_end)) e)
+      (λ e. unsigned (words_written source i span was old e))
+
+  -- a word with `#{}`
+  mixed_in : {i j : ℕ} {parts : Parts} {tokens : List Tok} → (span : Span) (word : SpellsWord source i j parts tokens)
+      → is_mixed word ≡ true → is_single_word source word ≡ not (word_plain source word) → WordHasValues word
+      → IsWritten i (expr_text (expression (exprs.Word parts) span)) tokens
+  mixed_in {i} {j} {parts} {tokens} span word mixed same_test values =
+      by_test (IsWritten _ _ _) (word_plain source word)
+      (λ e. unsigned (same (sym (unrolled.word_is parts)) refl
+      (λ before spaced calm.
+      let it = mixed_words_written source i j parts tokens was word mixed e values before spaced calm in record {
+        passed = it.passed;
+        segment = it.segment;
+        told = λ mode free. passing.word (it.told mode false false);
+      })))
+      (λ e. single (spells.word span word) (same_test ∙ ap not e))
+
+  -- a value, or a list with commas and without brackets
+  abbrev Either : ℕ → Expr → List Tok → Type 0
+  Either i value tokens =
+      IsWritten i (expr_text value) tokens
+      ⊎ ((is_bare value ≡ true) × WrittenAs AsRow (expr_text value) tokens)
+
+  constant_is : {i : ℕ} (old : Old source i constants) (span : Span)
+      → expr_text (expression (exprs.Constant (constant_at source i)) span)
+      ≡ constant_text (constant_of old.lexeme.terminal)
+  constant_is {i} old span = unrolled.constant_is (constant_at source i) ∙ ap constant_text (ap constant_in old.there)
+
+  row_in : {i : ℕ} (value : Expr) {tokens : List Tok} → Either i value tokens → WrittenAs AsRow (expr_text value) tokens
+  row_in value (inl it) = row_of it.written
+  row_in value (inr (e, it)) = it
+
+  plain_in : {i : ℕ} (value : Expr) {tokens : List Tok} → is_bare value ≡ false → Either i value tokens
+      → IsWritten i (expr_text value) tokens
+  plain_in value bare (inl it) = it
+  plain_in value bare (inr (e, it)) = absurd (cc)
+
+  mutual
+    either : {i j : ℕ} {value : Expr} {tokens : List Tok} → Spells source i j value tokens → Either i value tokens
+    either (spells.number {i} {j} number span e old) = inl (unsigned (numbers_written source i j number span was e old))
+    either (spells.quoted {i} span old) =
+        inl (unsigned (same
+        (sym (unrolled.quoted_is (PlainParts (decoded_at source i)) ∙ ap quoted_text (unrolled.plain_is (decoded_at source i)))) refl
+        (quoted_written (decoded_at source i) (decoded_there source was i))))
+    either (spells.template {texts = texts} span opens inner close) =
+        inl (by_test (IsWritten _ _ _) (are_apart false inner && has_insert inner)
+        (λ e. unsigned (same (sym (quoted_is span texts)) refl
+        (template_written (pieces_in false inner (and_left (are_apart false inner) _ e))
+        (begun_in source was inner (and_left (are_apart false inner) _ e) (and_right (are_apart false inner) _ e)))))
+        (λ e. single (spells.template span opens inner close) (ap not e)))
+    either (spells.hash {i} span one two) =
+        let text = bytes_between source i (suc (suc i)) in
+        inl (by_test (IsWritten _ _ _) (is_colour text)
+        (λ e. unsigned (same (sym (unrolled.hash_is text)) refl (colour_written text e)))
+        (λ e. single (spells.hash span one two) (ap not e)))
+    either (spells.constant span old) =
+        inl (unsigned (same (sym (constant_is old span)) refl
+        (constant_written (constant_by old.lexeme.terminal old.kind))))
+    either (spells.url {i} span old) =
+        inl (by_test (IsWritten _ _ _) (list_all unbraced (bytes_at source i))
+        (λ e. unsigned (urls_written source i span was old e))
+        (λ e. single (spells.url span old) (ap not e)))
+    either (spells.url_template span opens inner close) = inl (single (spells.url_template span opens inner close) refl)
+    either (spells.special span name opens inner close) = inl (single (spells.special span name opens inner close) refl)
+    either (spells.stays_number {i} span old) =
+        let text = bytes_between source i (suc i) in
+        inl (by_test (IsWritten _ _ _) (is_counted text)
+        (λ e. unsigned (same (sym (stays_as text span)) refl (number_stays text e)))
+        (λ e. single (spells.stays_number span old) (ap not e)))
+    either (spells.stays_signed {i} span one two) =
+        let text = bytes_between source i (suc (suc i)) in
+        inl (by_test (IsWritten _ _ _) (is_minus_counted text)
+        (λ e. unsigned (same (sym (stays_as text span)) refl (minus_stays text e)))
+        (λ e. single (spells.stays_signed span one two) (ap not e)))
+    either (spells.variable {i} span one two) =
+        inl (unsigned (same (sym (unrolled.variable_is (dashed (bytes_at source (suc i))))) refl
+        (variable_written source (suc i) was two)))
+    either (spells.owned_variable {i} span one two third four) =
+        inl (unsigned (same (sym (unrolled.qualified_is (qualified_of source i (suc (suc (suc i)))))) refl
+        (qualified_written source i was one four)))
+    either (spells.range {i} span old) = inl (unsigned (range_written source i span was old))
+    either (spells.word span (spells.named old spells.row_end)) = inl (name_in span old)
+    either (spells.word span (spells.named old (spells.row_part one more))) =
+        inl (mixed_in span (spells.named old (spells.row_part one more)) refl refl (row_values more))
+    either (spells.word span (spells.named old (spells.row_insert {value = value} opens inner close more))) =
+        inl (mixed_in span (spells.named old (spells.row_insert opens inner close more)) refl refl
+        (row_in value (either inner), row_values more))
+    either (spells.word span (spells.begun {value = value} opens inner close more)) =
+        inl (mixed_in span (spells.begun opens inner close more) refl refl (row_in value (either inner), row_values more))
+    either (spells.word span (spells.begun_minus {value = value} minus opens inner close more)) =
+        inl (mixed_in span (spells.begun_minus minus opens inner close more) refl refl
+        (row_in value (either inner), row_values more))
+    either (spells.call {args = args} span name_span name opens inner close) =
+        inl (by_test (IsWritten _ _ _) (is_called source name)
+        (λ e. unsigned (called_in source was args span name_span name e (word_values name) (arguments_in inner)))
+        (λ e. single (spells.call span name_span name opens inner close) (ap not e)))
+    either (spells.owned_call {args = args} span name_span owner dot name opens inner close) =
+        inl (by_test (IsWritten _ _ _) (is_owned_called source name)
+        (λ e. unsigned (owned_in source was args span name_span owner name e (word_values name) (arguments_in inner)))
+        (λ e. single (spells.owned_call span name_span owner dot name opens inner close) (ap not e)))
+    either (spells.parent span old) = inl (unsigned (same (sym unrolled.parent_is) refl parent_written))
+    either (spells.important span one two) = inl (unsigned (same (sym unrolled.important_is) refl important_written))
+    either (spells.prefixed {operand = operand} first span before value) =
+        inl (retold (sym (unrolled.prefixed_is (first ∷ _) operand)) refl (signs_written before (plain value)))
+    either (spells.chain {first = first} {links = links} link span value more) =
+        inl (let one = plain value in
+        let shown = map link_shown (link ∷ links) in
+        retold (sym (unrolled.chain_is first (link ∷ links))) refl
+        (record {
+          signed = one.signed;
+          written = links_written (is_quotient (expr_shown first) shown) more (expr_text first) refl one.written
+              (λ e. and_right (is_number (expr_shown first).sort) _ e);
+          sign = one.sign;
+        }))
+    either (spells.spaced {first = first} {items = items} next span value more) =
+        inl (let one = plain value in
+        retold (sym (bare_text (first ∷ next ∷ items) separators.Space span ∙ append-nil _)) refl
+        (record {
+          signed = one.signed;
+          written = items_written value more (expr_text first) refl one.written;
+          sign = one.sign;
+        }))
+    either (spells.comma_one {item = item} span value old) =
+        inr (
+          bare_list span (item ∷ []),
+          same_row (sym (bare_text (item ∷ []) separators.Comma span
+              ∙ ap (λ (t : List ℕ). t ++ codes ",") (append-nil (expr_text item)))) refl
+              (comma_ended (row_of (plain value).written)),
+        )
+    either (spells.comma_more {first = first} {items = items} next span value more end) =
+        inr (
+          bare_list span (first ∷ next ∷ items),
+          same_row (sym (bare_text (first ∷ next ∷ items) separators.Comma span ∙ append-nil _)) refl
+              (commas_written (expr_text first) more (row_of (plain value).written)),
+        )
+    either (spells.in_brackets_none span opens close) =
+        inl (unsigned (same (sym (list_around [] separators.Undecided arounds.Brackets span)) refl brackets_none))
+    either (spells.in_brackets_some {value = value} span opens inner close) =
+        inl (unsigned (same (sym (brackets_text span value)) refl (brackets_written (row_in value (either inner)))))
+    either (spells.in_parens_none span opens close) =
+        inl (unsigned (same (sym (list_around [] separators.Undecided arounds.Parens span)) refl parens_none))
+    either (spells.in_parens_some {value = value} span opens inner close) =
+        inl (unsigned (same (sym (parens_text span value)) refl (parens_written (row_in value (either inner)))))
+    either (spells.map {key = key} {value = value} {pairs = pairs} {tokens = tokens} {others = others} {more = more_tokens} span opens one colon two more end close) =
+        inl (unsigned (same (sym (unrolled.map_is (record { key = key; value = value } ∷ pairs)))
+        (ap (λ (t : List Tok). within paren t terminals.ParenEnd)
+        (tokens_behind tokens (again.sign terminals.Colon) others more_tokens))
+        (parens_written (pairs_written more (colon_written (row_of (plain one).written) (plain two).written)))))
+
+    plain : {i j : ℕ} {value : Expr} {tokens : List Tok} → SpellsPlain source i j value tokens
+        → IsWritten i (expr_text value) tokens
+    plain (unlisted {value = value} bare spelt) = plain_in value bare (either spelt)
+
+    -- signs before an operand
+    signs_written : {i k : ℕ} {signs : List Sign} {tokens others : List Tok} {text : List ℕ}
+        → SpellsSigns source i k signs tokens → IsWritten k text others
+        → IsWritten i (signs_text signs ++ text) (tokens ++ others)
+    signs_written no_signs it = it
+    signs_written {text = text} (more_signs {i} {signs = signs} {tokens = tokens} old more) it =
+        let inner = signs_written more it in
+        let terminal = old.lexeme.terminal in record {
+          signed = is_prefix_sign terminal;
+          written = same
+              (sym (append_assoc (sign_text (sign_of terminal)) (signs_text signs) text)
+              ∙ ap (λ (s : Sign). (sign_text s ++ signs_text signs) ++ text) (sym (ap sign_in old.there))) refl
+              (prefix_written inner.written (prefix_by terminal old.kind));
+          sign = λ e. record { lexeme = old.lexeme; there = old.there; is = e };
+        }
+
+    -- operators, and what stands behind each
+    links_written : {i j : ℕ} {links : List Link} {left : List ℕ} {ks others : List Tok} {signed : Bool} (quotient : Bool)
+        → SpellsLinks source i j links others → (last : List ℕ) → ends_unclosed left ≡ ends_unclosed last
+        → WrittenAs (AsValue signed) left ks
+        → (quotient ≡ true
+        → list_all (λ (l : ShownLink). is_divide l.operator && is_number l.operand.sort) (map link_shown links) ≡ true)
+        → WrittenAs (AsValue signed) (left ++ links_text quotient last (map link_shown links)) (ks ++ others)
+    links_written {left = left} {ks = ks} quotient no_links last e it all =
+        same (sym (append-nil left)) (sym (append-nil ks)) it
+    links_written {left = left} {ks = ks} false
+        (more_links {i} {operand = operand} {links = links} {tokens = tokens} {others = others} precedence old value more) last
+        e it all =
+        let terminal = old.lexeme.terminal in
+        let op = operators_are terminal (binary_by precedence terminal old.kind) in
+        let one = plain value in
+        let rest = links_text false (expr_text operand) (map link_shown links) in
+        same
+        (again_behind left (space_behind last) (operator_text (operator_of terminal)) (expr_text operand) rest
+        ∙ ap (λ (o : Operator). left ++ ((space_behind last ++ operator_text o) ++ (expr_text operand ++ rest)))
+        (sym (ap operator_in old.there)))
+        (tokens_behind ks (again.sign terminal) tokens others)
+        (links_written false more (expr_text operand) (unclosed_linked left last (expr_text operand) terminal op)
+        (linked_written last terminal op e it one.written) (λ f. absurd (cc)))
+    links_written {left = left} {ks = ks} true
+        (more_links {i} {operand = operand} {links = links} {tokens = tokens} {others = others} precedence old value more) last
+        e it all =
+        let terminal = old.lexeme.terminal in
+        let one = plain value in
+        let here = and_left (is_divide (operator_in (lexeme_at source i)) && is_number (expr_shown operand).sort) _ (all refl) in
+        let is : terminal ≡ terminals.Divide = is_divided terminal (binary_by precedence terminal old.kind)
+        (ap (λ (o : Operator). is_divide o) (sym (ap operator_in old.there)) ∙ and_left (is_divide (operator_in (lexeme_at source i))) _ here) in
+        same (three left (codes "/") (expr_text operand) (links_text true (expr_text operand) (map link_shown links)))
+        (tokens_behind ks (again.sign terminals.Divide) tokens others
+        ∙ ap (λ (t : Terminal). ks ++ again.sign t ∷ (tokens ++ others)) (sym is))
+        (links_written true more (expr_text operand) (unclosed_behind left (expr_text operand) (sign "/") slash_ends)
+        (divided_written it one.written (begun value (and_right (is_divide (operator_in (lexeme_at source i))) _ here)))
+        (λ f. and_right (is_divide (operator_in (lexeme_at source i)) && is_number (expr_shown operand).sort) _ (all refl)))
+      where
+        begun : {i k : ℕ} {value : Expr} {tokens : List Tok} → SpellsPlain source i k value tokens
+            → is_number (expr_shown value).sort ≡ true → (after : List ℕ) → Fits kinds.Slash (expr_text value ++ after)
+        begun (unlisted bare spelt) = number_begun source spelt
+
+    -- items with spaces between them, the first of which stands behind another one
+    items_written : {i k j : ℕ} {before : Expr} {bs ks others : List Tok} {items : List Expr} {left : List ℕ} {signed : Bool}
+        → SpellsPlain source i k before bs → SpellsItems source k j items others → (last : List ℕ)
+        → ends_unclosed left ≡ ends_unclosed last → WrittenAs (AsValue signed) left ks
+        → WrittenAs (AsValue signed) (left ++ items_behind separators.Space false last (map expr_text items)) (ks ++ others)
+    items_written {ks = ks} {left = left} previous no_items last e it = same (sym (append-nil left)) (sym (append-nil ks)) it
+    items_written {ks = ks} {left = left} previous
+        (more_items {item = item} {items = items} {tokens = tokens} {others = others} value more) last e it =
+        let one = plain value in
+        same (three left (space_behind last) (expr_text item) (items_behind separators.Space false (expr_text item) (map expr_text items)))
+        (append_assoc ks tokens others)
+        (items_written value more (expr_text item) (unclosed_spaced left (expr_text item) (ends_unclosed last))
+        (beside_written last e it (calm previous value one refl)))
+      where
+        calm : {i k j : ℕ} {before item : Expr} {bs tokens : List Tok} → SpellsPlain source i k before bs
+            → SpellsPlain source k j item tokens
+            → (one : IsWritten k (expr_text item) tokens) → {signed : Bool} → one.signed ≡ signed
+            → WrittenAs (AsValue false) (expr_text item) tokens
+        calm {item = item} {tokens = tokens} (unlisted b first) (unlisted c next) one {signed = true} e =
+            absurd (no_sign_behind source was.lexemes b first (one.sign e))
+        calm {item = item} {tokens = tokens} (unlisted b first) (unlisted c next) one {signed = false} e =
+            subst (λ (s : Bool). WrittenAs (AsValue s) (expr_text item) tokens) e one.written
+
+    -- items with commas between them
+    commas_written : {k j : ℕ} {ks others : List Tok} {items : List Expr} {left : List ℕ} (before : List ℕ)
+        → SpellsCommas source k j items others → WrittenAs AsRow left ks
+        → WrittenAs AsRow (left ++ items_behind separators.Comma false before (map expr_text items)) (ks ++ others)
+    commas_written {ks = ks} {left = left} before no_commas it = same_row (sym (append-nil left)) (sym (append-nil ks)) it
+    commas_written {ks = ks} {left = left} before
+        (more_commas {item = item} {items = items} {tokens = tokens} {others = others} old value more) it =
+        same_row (three left (codes ", ") (expr_text item) (items_behind separators.Comma false (expr_text item) (map expr_text items)))
+        (tokens_behind ks (again.sign terminals.Comma) tokens others)
+        (commas_written (expr_text item) more (comma_written it (plain value).written))
+
+    -- keys and values
+    pairs_written : {k j : ℕ} {ks others : List Tok} {pairs : List Pair} {left : List ℕ}
+        → SpellsPairs source k j pairs others → WrittenAs AsRow left ks
+        → WrittenAs AsRow (left ++ with_commas false (map pair_text pairs)) (ks ++ others)
+    pairs_written {ks = ks} {left = left} no_pairs it = same_row (sym (append-nil left)) (sym (append-nil ks)) it
+    pairs_written {ks = ks} {left = left}
+        (more_pairs {key = key} {value = value} {pairs = pairs} {tokens = tokens} {others = others} {more = more} comma one
+        colon two further) it =
+        let rest = with_commas false (map pair_text pairs) in
+        same_row
+        (append_assoc (left ++ (codes ", " ++ expr_text key)) (codes ": " ++ expr_text value) rest
+        ∙ three left (codes ", ") (expr_text key) ((codes ": " ++ expr_text value) ++ rest)
+        ∙ ap (λ (t : List ℕ). left ++ (codes ", " ++ t)) (sym (append_assoc (expr_text key) (codes ": " ++ expr_text value) rest)))
+        (append_assoc (ks ++ again.sign terminals.Comma ∷ tokens) (again.sign terminals.Colon ∷ others) more
+        ∙ tokens_behind ks (again.sign terminals.Comma) tokens (again.sign terminals.Colon ∷ (others ++ more)))
+        (pairs_written further (colon_written (comma_written it (plain one).written) (plain two).written))
+
+    -- values in words
+    row_values : {part opening : Terminal} {extra i j count : ℕ} {inserts : List Part} {tokens : List Tok}
+        → (row : SpellsRow source part opening extra i j inserts count tokens) → RowHasValues row
+    row_values spells.row_end = tt
+    row_values (spells.row_part old row) = row_values row
+    row_values (spells.row_insert {value = value} opens inner close row) = (row_in value (either inner), row_values row)
+
+    word_values : {i j : ℕ} {parts : Parts} {tokens : List Tok} → (word : SpellsWord source i j parts tokens)
+        → WordHasValues word
+    word_values (spells.named old row) = row_values row
+    word_values (spells.begun {value = value} opens inner close row) = (row_in value (either inner), row_values row)
+    word_values (spells.begun_minus {value = value} minus opens inner close row) =
+        (row_in value (either inner), row_values row)
+
+    -- text and values in a string
+    pieces_in : (behind : Bool) → {i j : ℕ} {texts : List Piece} {tokens : List Tok}
+        → (it : SpellsPieces source i j texts tokens) → are_apart behind it ≡ true
+        → IsText behind (pieces_text manners.Quoted (map piece_written texts)) tokens
+    pieces_in behind spells.no_pieces e = nothing_more behind
+    pieces_in behind (spells.text_piece {i} {texts = texts} {tokens = tokens} old more) e =
+        let said = decoded_at source i in
+        let inner = and_right (not behind) _ e in
+        subst (λ (t : List ℕ). IsText behind t (tok terminals.TextPiece (again.Decoded said) ∷ tokens))
+        (sym (pieces_more (pieces.Text said) texts
+        ∙ ap (λ (w : Written). piece_text manners.Quoted w ++ pieces_text manners.Quoted (map piece_written texts)) (unrolled.said_is said)))
+        (text_more behind (not_true behind (and_left (not behind) _ e)) said (decoded_there source was i)
+        (text_some said (and_left (is_text said) _ inner)) (pieces_in true more (and_right (is_text said) _ inner)))
+    pieces_in behind
+        (spells.inserted_piece {value = value} {texts = texts} {tokens = tokens} {others = others} opens inner closes more) e =
+        subst (λ (t : List ℕ). IsText behind t (again.sign terminals.Insert ∷ (tokens ++ again.sign terminals.InsertEnd ∷ others)))
+        (sym (pieces_more (pieces.Inserted value) texts
+        ∙ ap (λ (w : Written). piece_text manners.Quoted w ++ pieces_text manners.Quoted (map piece_written texts)) (unrolled.inserted_is value)))
+        (insert_more behind (row_in value (either inner)) (pieces_in false more e))
+
+    -- arguments
+    argument_in : {i j : ℕ} {arg : Argument} {tokens : List Tok} → SpellsArgument source i j arg tokens
+        → AreArguments false (argument_text arg) tokens
+    argument_in (spells.named_argument {i} {value = inner} dollar name colon value) =
+        let said = dollar_name (dashed (bytes_at source (suc i))) in
+        arguments_as (named_text said (expr_text inner)) refl
+        (colon_argument (first_argument (name_argument false source (suc i) was name)) (value_argument true (plain value).written))
+    argument_in (spells.placed_argument {value = inner} value) =
+        arguments_as (sym (append-nil (expr_text inner))) refl (first_argument (placed_argument false (plain value).written))
+    argument_in (spells.spread_argument {value = inner} value dots) = dots_behind (first_argument (placed_argument false (plain value).written))
+
+    argument_behind : {i j : ℕ} {arg : Argument} {ks tokens : List Tok} {left : List ℕ}
+        → SpellsArgument source i j arg tokens → AreArguments false left ks
+        → AreArguments false (left ++ (codes ", " ++ argument_text arg)) (ks ++ again.sign terminals.Comma ∷ tokens)
+    argument_behind {ks = ks} {left = left} (spells.named_argument {i} {value = inner} {tokens = tokens} dollar name colon value) it =
+        let said = dollar_name (dashed (bytes_at source (suc i))) in
+        arguments_as
+        (three left (codes ", ") said (codes ": " ++ expr_text inner)
+        ∙ ap (λ (t : List ℕ). left ++ (codes ", " ++ t)) (named_text said (expr_text inner)))
+        (append_assoc ks (again.sign terminals.Comma ∷ again.sign terminals.DollarNamed
+        ∷ tok terminals.VariableName (again.Dashed (dashed (bytes_at source (suc i)))) ∷ []) (again.sign terminals.Colon ∷ tokens))
+        (colon_argument (further_argument it (name_argument true source (suc i) was name)) (value_argument true (plain value).written))
+    argument_behind {left = left} (spells.placed_argument {value = inner} value) it =
+        arguments_as (ap (λ (t : List ℕ). left ++ (codes ", " ++ t)) (sym (append-nil (expr_text inner)))) refl
+        (further_argument it (placed_argument true (plain value).written))
+    argument_behind {ks = ks} {left = left} (spells.spread_argument {value = inner} {tokens = tokens} value dots) it =
+        arguments_as (three left (codes ", ") (expr_text inner) (codes "..."))
+        (tokens_behind ks (again.sign terminals.Comma) (undollared tokens) (again.sign terminals.Ellipsis ∷ []))
+        (dots_behind (further_argument it (placed_argument true (plain value).written)))
+
+    more_in : {k j : ℕ} {ks others : List Tok} {args : List Argument} {left : List ℕ}
+        → SpellsMore source k j args others → AreArguments false left ks
+        → AreArguments false (left ++ with_commas false (map argument_text args)) (ks ++ others)
+    more_in {ks = ks} {left = left} spells.no_more it = arguments_as (sym (append-nil left)) (sym (append-nil ks)) it
+    more_in {ks = ks} {left = left}
+        (spells.more {arg = arg} {args = args} {tokens = tokens} {others = others} comma one rest) it =
+        arguments_as (three left (codes ", ") (argument_text arg) (with_commas false (map argument_text args)))
+        (tokens_behind ks (again.sign terminals.Comma) tokens others)
+        (more_in rest (argument_behind one it))
+
+    arguments_in : {i j : ℕ} {args : List Argument} {tokens : List Tok} → SpellsArguments source i j args tokens
+        → IsItems (with_commas true (map argument_text args)) tokens
+    arguments_in spells.no_arguments = no_arguments_written
+    arguments_in (spells.arguments one rest end) =
+        arguments_written (more_in rest (argument_in one))
+
+pub values_written : ValuesAreWritten
+values_written source was known i j value tokens spelt = row_in source was known value (either source was known spelt)
