@@ -223,6 +223,7 @@ pub fn put_pieces(out: &mut Vec<u8>, pieces: &[Piece], manner: Manner) -> Result
     Ok(())
 }
 
+/// Puts a piece.
 #[cycle(write)]
 #[tactic(auto, using(crate::proofs::Joins::appends, crate::proofs::Unrolled::said_is, crate::proofs::Unrolled::value_is))]
 pub fn put_piece(out: &mut Vec<u8>, piece: &Piece, manner: Manner) -> Result<(), Memory>

@@ -5,6 +5,7 @@ ghost use Rattle.sw_convert_written.specs.Names.{dollar_name};
 ghost use Rattle.sw_convert_written.specs.Expressions.{with_commas, expr_text};
 
 use crate::Manner;
+use crate::bytes::put;
 use crate::commas::put_comma;
 use crate::escapes::put_space;
 use crate::expr::{put_expr, put_parts, put_qualified};
@@ -14,14 +15,6 @@ use sw_tree::{
     Assignment, AtRule, Bounds, Custom, Declaration, Each, Expr, For, Level, Properties, Say, Text,
     Variable,
 };
-
-/// Ends a statement without a block.
-pub fn put_end(out: &mut Vec<u8>) -> Result<(), Memory>
-    ensures { OnOk result (out.new.items ≡ out.old.items ++ codes ";\n") }
-{
-    out.extend_from_slice(b";\n")?;
-    Ok(())
-}
 
 /// Puts the text of a name or a comment.
 pub fn put_plain(out: &mut Vec<u8>, text: &Text) -> Result<(), Memory>
@@ -85,8 +78,8 @@ pub fn put_flag(out: &mut Vec<u8>, from: usize, written: bool, flag: &[u8]) -> R
 
 /// Puts a declaration of a variable.
 #[tactic(auto, using(crate::proofs::Joins::appends))]
-pub fn put_variable(out: &mut Vec<u8>, variable: &Variable) -> Result<(), Memory>
-    ensures { OnOk result (out.new.items ≡ out.old.items ++ (variable_text variable.now ++ codes ";\n")) }
+pub fn put_variable(out: &mut Vec<u8>, variable: &Variable, end: &[u8]) -> Result<(), Memory>
+    ensures { OnOk result (out.new.items ≡ out.old.items ++ (variable_text variable.now ++ end.now)) }
 {
     let from = out.len();
     put_dollar_name(out, &variable.name)?;
@@ -94,13 +87,13 @@ pub fn put_variable(out: &mut Vec<u8>, variable: &Variable) -> Result<(), Memory
     put_expr(out, &variable.value)?;
     put_flag(out, from, variable.flags.default, b"!default")?;
     put_flag(out, from, variable.flags.global, b"!global")?;
-    put_end(out)
+    put(out, end)
 }
 
 /// Puts an assignment to a variable of another module.
 #[tactic(auto, using(crate::proofs::Joins::appends))]
-pub fn put_assignment(out: &mut Vec<u8>, assignment: &Assignment) -> Result<(), Memory>
-    ensures { OnOk result (out.new.items ≡ out.old.items ++ (assignment_text assignment.now ++ codes ";\n")) }
+pub fn put_assignment(out: &mut Vec<u8>, assignment: &Assignment, end: &[u8]) -> Result<(), Memory>
+    ensures { OnOk result (out.new.items ≡ out.old.items ++ (assignment_text assignment.now ++ end.now)) }
 {
     let from = out.len();
     put_qualified(out, &assignment.target)?;
@@ -108,27 +101,31 @@ pub fn put_assignment(out: &mut Vec<u8>, assignment: &Assignment) -> Result<(), 
     put_expr(out, &assignment.value)?;
     put_flag(out, from, assignment.flags.default, b"!default")?;
     put_flag(out, from, assignment.flags.global, b"!global")?;
-    put_end(out)
+    put(out, end)
 }
 
 /// Puts a declaration of a property.
-pub fn put_declaration(out: &mut Vec<u8>, declaration: &Declaration) -> Result<(), Memory>
-    ensures { OnOk result (out.new.items ≡ out.old.items ++ (declaration_text declaration.now ++ codes ";\n")) }
+pub fn put_declaration(
+    out: &mut Vec<u8>,
+    declaration: &Declaration,
+    end: &[u8],
+) -> Result<(), Memory>
+    ensures { OnOk result (out.new.items ≡ out.old.items ++ (declaration_text declaration.now ++ end.now)) }
 {
     put_plain(out, &declaration.property)?;
     out.extend_from_slice(b": ")?;
     put_expr(out, &declaration.value)?;
-    put_end(out)
+    put(out, end)
 }
 
 /// Puts a custom property.
-pub fn put_custom(out: &mut Vec<u8>, custom: &Custom) -> Result<(), Memory>
-    ensures { OnOk result (out.new.items ≡ out.old.items ++ (custom_text custom.now ++ codes ";\n")) }
+pub fn put_custom(out: &mut Vec<u8>, custom: &Custom, end: &[u8]) -> Result<(), Memory>
+    ensures { OnOk result (out.new.items ≡ out.old.items ++ (custom_text custom.now ++ end.now)) }
 {
     put_plain(out, &custom.property)?;
     out.push(b':')?;
     put_spaced_raw(out, &custom.value)?;
-    put_end(out)
+    put(out, end)
 }
 
 /// Puts what stands before the block of nested properties.
@@ -152,12 +149,12 @@ fn say_word(level: Level) -> &'static [u8]
 }
 
 /// Puts a `@warn`, a `@debug` or an `@error`.
-pub fn put_say(out: &mut Vec<u8>, say: &Say) -> Result<(), Memory>
-    ensures { OnOk result (out.new.items ≡ out.old.items ++ (say_text say.now ++ codes ";\n")) }
+pub fn put_say(out: &mut Vec<u8>, say: &Say, end: &[u8]) -> Result<(), Memory>
+    ensures { OnOk result (out.new.items ≡ out.old.items ++ (say_text say.now ++ end.now)) }
 {
     out.extend_from_slice(say_word(say.level))?;
     put_expr(out, &say.value)?;
-    put_end(out)
+    put(out, end)
 }
 
 fn put_dollar_names(out: &mut Vec<u8>, names: &[Name]) -> Result<(), Memory>
@@ -243,38 +240,45 @@ pub fn put_at_rule_head(out: &mut Vec<u8>, rule: &AtRule) -> Result<(), Memory>
 }
 
 /// Puts a `@return`.
-pub fn put_return(out: &mut Vec<u8>, value: &Expr) -> Result<(), Memory>
-    ensures { OnOk result (out.new.items ≡ out.old.items ++ ((codes "@return " ++ expr_text value.now) ++ codes ";\n")) }
+pub fn put_return(out: &mut Vec<u8>, value: &Expr, end: &[u8]) -> Result<(), Memory>
+    ensures { OnOk result (out.new.items ≡ out.old.items ++ ((codes "@return " ++ expr_text value.now) ++ end.now)) }
 {
     out.extend_from_slice(b"@return ")?;
     put_expr(out, value)?;
-    put_end(out)
+    put(out, end)
 }
 
 /// Puts an `@import`.
-pub fn put_import(out: &mut Vec<u8>, text: &Text) -> Result<(), Memory>
-    ensures { OnOk result (out.new.items ≡ out.old.items ++ ((codes "@import " ++ raw_text text.now) ++ codes ";\n")) }
+pub fn put_import(out: &mut Vec<u8>, text: &Text, end: &[u8]) -> Result<(), Memory>
+    ensures { OnOk result (out.new.items ≡ out.old.items ++ ((codes "@import " ++ raw_text text.now) ++ end.now)) }
 {
     out.extend_from_slice(b"@import ")?;
     put_raw(out, text)?;
-    put_end(out)
+    put(out, end)
 }
 
 /// Puts an `@extend`.
-pub fn put_extend(out: &mut Vec<u8>, text: &Text) -> Result<(), Memory>
-    ensures { OnOk result (out.new.items ≡ out.old.items ++ ((codes "@extend " ++ raw_text text.now) ++ codes ";\n")) }
+pub fn put_extend(out: &mut Vec<u8>, text: &Text, end: &[u8]) -> Result<(), Memory>
+    ensures { OnOk result (out.new.items ≡ out.old.items ++ ((codes "@extend " ++ raw_text text.now) ++ end.now)) }
 {
     out.extend_from_slice(b"@extend ")?;
     put_raw(out, text)?;
-    put_end(out)
+    put(out, end)
+}
+
+#[tactic(auto, using(crate::proofs::Joins::appends))]
+fn put_ended(out: &mut Vec<u8>, text: &[u8], end: &[u8]) -> Result<(), Memory>
+    ensures { OnOk result (out.new.items ≡ out.old.items ++ (text.now ++ end.now)) }
+{
+    put(out, text)?;
+    put(out, end)
 }
 
 /// Puts a `@charset`.
-pub fn put_charset(out: &mut Vec<u8>) -> Result<(), Memory>
-    ensures { OnOk result (out.new.items ≡ out.old.items ++ (codes "@charset \"UTF-8\"" ++ codes ";\n")) }
+pub fn put_charset(out: &mut Vec<u8>, end: &[u8]) -> Result<(), Memory>
+    ensures { OnOk result (out.new.items ≡ out.old.items ++ (codes "@charset \"UTF-8\"" ++ end.now)) }
 {
-    out.extend_from_slice(b"@charset \"UTF-8\"")?;
-    put_end(out)
+    put_ended(out, b"@charset \"UTF-8\"", end)
 }
 
 /// Puts a loud comment.

@@ -4,9 +4,10 @@ ghost use Rattle.sw_convert_spelling.specs.Strings.{string_text};
 ghost use Rattle.sw_convert_written.specs.Heads.{as_text, given_text, given_behind, use_text, prefix_text, member_text, filter_text, forward_text, default_text, param_text, comma_behind, rest_text, params_text, none_in, has_none, mixin_params, callable_head, given_arguments, include_text, using_behind, content_text};
 ghost use Rattle.sw_convert_written.specs.Expressions.{with_commas};
 
+use crate::bytes::put;
 use crate::commas::put_comma;
 use crate::expr::{put_arguments, put_expr, put_namespace};
-use crate::heads::{put_end, put_flag, put_word};
+use crate::heads::{put_flag, put_word};
 use crate::names::{put_dollar_name, put_name, put_text};
 use crate::strings::put_escaped;
 use sw_text::{Memory, Name};
@@ -81,15 +82,15 @@ fn put_configuration(out: &mut Vec<u8>, from: usize, givens: &[Given]) -> Result
 
 /// Puts a `@use`.
 #[tactic(auto, using(crate::proofs::Joins::appends))]
-pub fn put_use(out: &mut Vec<u8>, load: &Use) -> Result<(), Memory>
-    ensures { OnOk result (out.new.items ≡ out.old.items ++ (use_text load.now ++ codes ";\n")) }
+pub fn put_use(out: &mut Vec<u8>, load: &Use, end: &[u8]) -> Result<(), Memory>
+    ensures { OnOk result (out.new.items ≡ out.old.items ++ (use_text load.now ++ end.now)) }
 {
     let from = out.len();
     out.extend_from_slice(b"@use ")?;
     put_string(out, &load.url.text)?;
     put_as(out, &load.namespace)?;
     put_configuration(out, from, load.configuration.as_slice())?;
-    put_end(out)
+    put(out, end)
 }
 
 fn put_prefix(out: &mut Vec<u8>, prefix: &Option<Name>) -> Result<(), Memory>
@@ -145,8 +146,8 @@ fn put_filter(out: &mut Vec<u8>, filter: &Filter) -> Result<(), Memory>
 
 /// Puts a `@forward`.
 #[tactic(auto, using(crate::proofs::Joins::appends))]
-pub fn put_forward(out: &mut Vec<u8>, load: &Forward) -> Result<(), Memory>
-    ensures { OnOk result (out.new.items ≡ out.old.items ++ (forward_text load.now ++ codes ";\n")) }
+pub fn put_forward(out: &mut Vec<u8>, load: &Forward, end: &[u8]) -> Result<(), Memory>
+    ensures { OnOk result (out.new.items ≡ out.old.items ++ (forward_text load.now ++ end.now)) }
 {
     let from = out.len();
     out.extend_from_slice(b"@forward ")?;
@@ -154,7 +155,7 @@ pub fn put_forward(out: &mut Vec<u8>, load: &Forward) -> Result<(), Memory>
     put_prefix(out, &load.prefix)?;
     put_filter(out, &load.filter)?;
     put_configuration(out, from, load.configuration.as_slice())?;
-    put_end(out)
+    put(out, end)
 }
 
 fn put_default(out: &mut Vec<u8>, value: &Option<Expr>) -> Result<(), Memory>
@@ -307,10 +308,10 @@ pub fn put_using(out: &mut Vec<u8>, from: usize, params: &Params) -> Result<(), 
 }
 
 /// Puts a `@content`.
-pub fn put_content(out: &mut Vec<u8>, call: &ContentCall) -> Result<(), Memory>
-    ensures { OnOk result (out.new.items ≡ out.old.items ++ (content_text call.now ++ codes ";\n")) }
+pub fn put_content(out: &mut Vec<u8>, call: &ContentCall, end: &[u8]) -> Result<(), Memory>
+    ensures { OnOk result (out.new.items ≡ out.old.items ++ (content_text call.now ++ end.now)) }
 {
     out.extend_from_slice(b"@content")?;
     put_given_arguments(out, call.arguments.as_slice())?;
-    put_end(out)
+    put(out, end)
 }

@@ -173,13 +173,15 @@ fn is_at(piece: &Piece) -> bool
     }
 }
 
-fn is_cut(pieces: &[Piece], first: &Piece) -> bool
+/// Whether pieces that begin with this one would begin no rule.
+pub fn is_cut(pieces: &[Piece], first: &Piece) -> bool
     ensures { result ≡ is_cut (piece_written first.now) (map piece_written pieces.now) }
 {
     is_at(first) || declares(behind_pieces(begins_dashed(first), pieces))
 }
 
-fn has_more(rest: &[Piece]) -> bool
+/// Whether any piece comes behind.
+pub fn has_more(rest: &[Piece]) -> bool
     ensures { result ≡ has_more (map piece_written rest.now) }
 {
     match rest {

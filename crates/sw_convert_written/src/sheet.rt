@@ -18,8 +18,9 @@ pub fn scss_text(alloc: Global, sheet: &Sheet) -> Result<List<u8>, Memory>
     put_mark(alloc, out)
 }
 
+/// Whether a statement has a block.
 #[tactic(auto, using(crate::proofs::UnrolledStatements::variable_flat, crate::proofs::UnrolledStatements::assignment_flat, crate::proofs::UnrolledStatements::declaration_flat, crate::proofs::UnrolledStatements::custom_flat, crate::proofs::UnrolledStatements::use_flat, crate::proofs::UnrolledStatements::forward_flat, crate::proofs::UnrolledStatements::content_flat, crate::proofs::UnrolledStatements::return_flat, crate::proofs::UnrolledStatements::say_flat, crate::proofs::UnrolledStatements::import_flat, crate::proofs::UnrolledStatements::extend_flat, crate::proofs::UnrolledStatements::charset_flat, crate::proofs::UnrolledStatements::comment_flat, crate::proofs::UnrolledStatements::callable_nests, crate::proofs::UnrolledStatements::at_root_nests, crate::proofs::UnrolledStatements::each_nests, crate::proofs::UnrolledStatements::for_nests, crate::proofs::UnrolledStatements::media_nests, crate::proofs::UnrolledStatements::properties_nests, crate::proofs::UnrolledStatements::rule_nests, crate::proofs::UnrolledStatements::supports_nests, crate::proofs::UnrolledStatements::while_nests, crate::proofs::UnrolledStatements::at_rule_block, crate::proofs::UnrolledStatements::include_block, crate::proofs::UnrolledStatements::if_nests))]
-fn has_block(statement: &Statement) -> bool
+pub fn has_block(statement: &Statement) -> bool
     ensures { result ≡ (statement_shown statement.now).block }
 {
     match statement {
@@ -79,8 +80,9 @@ fn begins_marked(text: &[u8]) -> bool
     }
 }
 
-// A sheet's first byte order mark is no part of it, so a text that begins with one gets another.
-fn put_mark(alloc: Global, text: Vec<u8>) -> Result<List<u8>, Memory>
+/// A text as the text of a sheet: a sheet's first byte order mark is no part of it, so a text that begins with one gets
+/// another.
+pub fn put_mark(alloc: Global, text: Vec<u8>) -> Result<List<u8>, Memory>
     ensures { IfOk result (λ whole. whole ≡ marked text.items) }
 {
     if !begins_marked(text.as_slice()) {

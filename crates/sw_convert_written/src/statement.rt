@@ -8,7 +8,7 @@ use crate::escapes::put_space;
 use crate::expr::put_expr;
 use crate::heads::{
     put_assignment, put_at_root_head, put_at_rule_head, put_charset, put_comment, put_custom,
-    put_declaration, put_each_head, put_end, put_extend, put_for_head, put_import, put_media_head,
+    put_declaration, put_each_head, put_extend, put_for_head, put_import, put_media_head,
     put_properties_head, put_return, put_say, put_supports_head, put_variable, put_while_head,
 };
 use crate::members::{
@@ -61,28 +61,28 @@ pub fn put_statement(out: &mut Vec<u8>, level: usize, statement: &Statement) -> 
 {
     let from = out.len();
     match statement {
-        Statement::Variable(x) => put_variable(out, x),
-        Statement::Assignment(x) => put_assignment(out, x),
-        Statement::Declaration(x) => put_declaration(out, x),
+        Statement::Variable(x) => put_variable(out, x, b";\n"),
+        Statement::Assignment(x) => put_assignment(out, x, b";\n"),
+        Statement::Declaration(x) => put_declaration(out, x, b";\n"),
         Statement::Properties(x) => {
             put_properties_head(out, x)?;
             put_block(out, level, from, x.block.as_slice())
         }
-        Statement::Custom(x) => put_custom(out, x),
+        Statement::Custom(x) => put_custom(out, x, b";\n"),
         Statement::Rule(x) => {
             put_selector(out, &x.selector)?;
             put_block(out, level, from, x.block.as_slice())
         }
-        Statement::Use(x) => put_use(out, x),
-        Statement::Forward(x) => put_forward(out, x),
+        Statement::Use(x) => put_use(out, x, b";\n"),
+        Statement::Forward(x) => put_forward(out, x, b";\n"),
         Statement::Callable(x) => {
             put_callable_head(out, x.get())?;
             put_block(out, level, from, x.get().block.as_slice())
         }
         Statement::Include { mixin, content, .. } => put_included(out, level, mixin, content),
-        Statement::Content(x) => put_content(out, x),
-        Statement::Return(x) => put_return(out, &x.value),
-        Statement::Say(x) => put_say(out, x),
+        Statement::Content(x) => put_content(out, x, b";\n"),
+        Statement::Return(x) => put_return(out, &x.value, b";\n"),
+        Statement::Say(x) => put_say(out, x, b";\n"),
         Statement::If {
             branches,
             otherwise,
@@ -118,9 +118,9 @@ pub fn put_statement(out: &mut Vec<u8>, level: usize, statement: &Statement) -> 
             put_at_root_head(out, &x.selector)?;
             put_block(out, level, from, x.block.as_slice())
         }
-        Statement::Charset(_) => put_charset(out),
-        Statement::Import(x) => put_import(out, &x.text),
-        Statement::Extend(x) => put_extend(out, &x.text),
+        Statement::Charset(_) => put_charset(out, b";\n"),
+        Statement::Import(x) => put_import(out, &x.text, b";\n"),
+        Statement::Extend(x) => put_extend(out, &x.text, b";\n"),
         Statement::AtRule(x) => put_at_rule(out, level, x),
         Statement::Comment(x) => put_comment(out, x),
     }
@@ -170,7 +170,7 @@ fn put_included(
     let from = out.len();
     put_include(out, mixin)?;
     match content {
-        None => put_end(out),
+        None => put(out, b";\n"),
         Some(content) => {
             put_using(out, from, &content.get().params)?;
             put_block(out, level, from, content.get().block.as_slice())
@@ -187,7 +187,7 @@ fn put_at_rule(out: &mut Vec<u8>, level: usize, rule: &AtRule) -> Result<(), Mem
     let from = out.len();
     put_at_rule_head(out, rule)?;
     match &rule.block {
-        None => put_end(out),
+        None => put(out, b";\n"),
         Some(block) => put_block(out, level, from, block.as_slice()),
     }
 }

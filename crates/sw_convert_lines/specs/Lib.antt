@@ -1,0 +1,6 @@
+pub mod Opens
+pub mod RawTexts
+pub mod Comments
+pub mod Held
+pub mod Layout
+pub mod Lines
