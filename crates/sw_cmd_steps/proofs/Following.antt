@@ -5,7 +5,7 @@ use Rattle.sw_wire.specs.declared.request.StepRequest.{StepRequest}
 use Rattle.sw_wire.specs.declared.request.StepRequest.TheVariants as line
 use Rattle.sw_wire.specs.Requests.{step_request_of}
 use Rattle.sw_modules.specs.Fresh.{Setting}
-use Rattle.sw_step.specs.Stepping.{Step}
+use Rattle.sw_step_bodies.specs.Stepping.{Step}
 use Rattle.sw_step.specs.Joint.{Joint, UnderWay}
 use Rattle.std.specs.Map.{lookup}
 use Rattle.sw_cmd_protocol.specs.declared.stop.Stop.{Stop}

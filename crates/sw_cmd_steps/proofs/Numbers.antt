@@ -3,7 +3,7 @@ use Rattle.std.proofs.Common.{◌≡◌, ℕ, suc, ◌+◌, ◌≤◌, nat_eq, L
 use Rattle.std.specs.declared.option.Option.{Option}
 use Rattle.std.specs.Map.{lookup}
 use Rattle.sw_modules.specs.Fresh.{Setting}
-use Rattle.sw_step.specs.Stepping.{Step, Loading, Finished, Ended}
+use Rattle.sw_step_bodies.specs.Stepping.{Step, Loading, Finished, Ended}
 use Rattle.sw_step.specs.Joint.{Joint, UnderWay}
 use Rattle.sw_cmd_protocol.specs.Transcript.{turns, held_after}
 use Rattle.sw_cmd_steps.specs.Script.{Event, Put, Remove, Start, Step as Step_event}

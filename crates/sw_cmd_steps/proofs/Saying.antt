@@ -12,11 +12,12 @@ use Rattle.sw_world.specs.declared.question.Saying.{Saying}
 use Rattle.sw_modules.specs.Fresh.{Setting}
 use Rattle.sw_record.specs.declared.reply.Outcome.{Outcome}
 use Rattle.sw_record.specs.declared.reply.Reply.{Reply}
-use Rattle.sw_step.specs.declared.stepped.StepReply.{StepReply}
-use Rattle.sw_step.specs.declared.stepped.Stepped.{Stepped}
-use Rattle.sw_step.specs.declared.stepped.Stepped.TheVariants as answer
-use Rattle.sw_step.specs.Stepping.{Step}
-use Rattle.sw_step.specs.Joint.{Joint, UnderWay, started, stepped, step_of, ended_in, IsReply, RepliesWell, Answers as AnswersStep}
+use Rattle.sw_step_bodies.specs.declared.stepped.StepReply.{StepReply}
+use Rattle.sw_step_bodies.specs.declared.stepped.Stepped.{Stepped}
+use Rattle.sw_step_bodies.specs.declared.stepped.Stepped.TheVariants as answer
+use Rattle.sw_step_bodies.specs.Stepping.{Step}
+use Rattle.sw_step_bodies.specs.Steps.{step_of, ended_in}
+use Rattle.sw_step.specs.Joint.{Joint, UnderWay, started, stepped, IsReply, RepliesWell, Answers as AnswersStep}
 use Rattle.sw_cmd_protocol.specs.declared.stop.Stop.{Stop}
 use Rattle.sw_cmd_protocol.specs.declared.stop.Stop.TheVariants.{SinkFailed}
 use Rattle.sw_cmd_protocol.specs.Protocol.{Turn}

@@ -7,12 +7,13 @@ use Rattle.sw_wire.specs.Replies.{memory_text}
 use Rattle.sw_wire.specs.StepReplies.{started_text, loading_text, finished_text, steps_text, no_compile_text}
 use Rattle.sw_modules.specs.Fresh.{Setting}
 use Rattle.sw_record.specs.declared.reply.Reply.{Reply}
-use Rattle.sw_step.specs.declared.stepped.StepReply.{StepReply}
-use Rattle.sw_step.specs.declared.stepped.Stepped.{Stepped}
-use Rattle.sw_step.specs.declared.stepped.Stepped.TheVariants as answer
-use Rattle.sw_step.specs.Compiled.{compiled}
-use Rattle.sw_step.specs.Stepping.{Step, Loading, Finished, Ended as Ended_step, stepping}
-use Rattle.sw_step.specs.Joint.{Joint, UnderWay, started, stepped, ended_in}
+use Rattle.sw_step_bodies.specs.declared.stepped.StepReply.{StepReply}
+use Rattle.sw_step_bodies.specs.declared.stepped.Stepped.{Stepped}
+use Rattle.sw_step_bodies.specs.declared.stepped.Stepped.TheVariants as answer
+use Rattle.sw_step_bodies.specs.Compiled.{compiled}
+use Rattle.sw_step_bodies.specs.Stepping.{Step, Loading, Finished, Ended as Ended_step, stepping}
+use Rattle.sw_step_bodies.specs.Steps.{ended_in}
+use Rattle.sw_step.specs.Joint.{Joint, UnderWay, started, stepped}
 use Rattle.sw_cmd_protocol.specs.declared.stop.Stop.{Stop}
 use Rattle.sw_cmd_protocol.specs.declared.stop.Stop.TheVariants.{Ended, Wrong, CutOff, SourceFailed, SinkFailed, Memory, OutsideFailed, Over}
 use Rattle.sw_cmd_protocol.specs.Protocol.{Protocol, Turn}

@@ -14,7 +14,8 @@ use std::alloc::Global;
 use sw_cmd_protocol::{Stop, answer};
 use sw_io::Sink;
 use sw_modules::Reader;
-use sw_step::{StartFault, StepFault, Stepped};
+use sw_step::{StartFault, StepFault};
+use sw_step_bodies::Stepped;
 use sw_text::{List, Memory, Name};
 use sw_wire::{
     memory_reply, no_compile_reply, write_finished, write_loading, write_started, write_steps,

@@ -1,20 +1,16 @@
 -- A compile under way, before and after a step.
-use Rattle.std.proofs.Common.{◌≡◌, List, [], ◌∷◌, ◌++◌, Option, None, Some, Result, Ok, Err, IfOk, OnErr, refl, sym, ◌∙◌, ap, subst, append_assoc}
-use Rattle.std.specs.FinMap.{empty}
-use Rattle.sw_folder.specs.Files.{Files}
+use Rattle.std.proofs.Common.{◌≡◌, List, [], ◌∷◌, ◌++◌, Option, None, Some, Result, Ok, Err, refl, sym, ◌∙◌, ap, subst, append_assoc}
 use Rattle.sw_text.specs.declared.Memory.{Memory}
 use Rattle.sw_modules.specs.Fresh.{Setting}
-use Rattle.sw_step.specs.declared.stepped.StepReply.{StepReply}
-use Rattle.sw_step.specs.declared.stepped.Stepped.{Stepped}
-use Rattle.sw_step.specs.declared.stepped.Stepped.TheVariants as S
-use Rattle.sw_step.specs.declared.compile.Start.{Start}
-use Rattle.sw_step.specs.declared.going.Came.{Came}
-use Rattle.sw_step.specs.declared.going.Came.TheVariants as C
-use Rattle.sw_step.specs.Stepping.{Step, Loading, Finished, Ended}
-use Rattle.sw_step.specs.Standing.{Rest, Moment, behind, left_at, whole}
+use Rattle.sw_step_bodies.specs.declared.begun.Start.{Start}
+use Rattle.sw_step_bodies.specs.declared.stepped.StepReply.{StepReply}
+use Rattle.sw_step_bodies.specs.declared.stepped.Stepped.{Stepped}
+use Rattle.sw_step_bodies.specs.declared.stepped.Stepped.TheVariants as S
+use Rattle.sw_step_bodies.specs.Stepping.{Step, Loading, Finished, Ended}
+use Rattle.sw_step_bodies.specs.Standing.{Rest, Moment, behind, whole}
+use Rattle.sw_step_bodies.specs.Under.{left_of, DidGo}
 use Rattle.sw_step.specs.Joint.{UnderWay}
-use Rattle.sw_step.specs.Moves.{Comes}
-use Rattle.sw_step.specs.Under.{over_folder, left_of, under_way_of, IsStanding, IsNext, IsWent, DidGo}
+use Rattle.sw_step.specs.Under.{under_way_of, IsStanding, IsNext}
 
 -- nothing has begun
 pub none_standing : (setting : Setting) (start : Start) → IsStanding setting start None
@@ -55,27 +51,3 @@ module _ (setting : Setting) (start : Start) (old : Option Moment) (begun : Mome
   went_standing now (Ok (S.Ended reply)) did = subst (IsStanding setting start) (sym did.0) (none_standing setting start)
   went_standing now (Err memory) did =
       subst (IsStanding setting start) (sym did.1) (same_standing setting start old standing (Some did.0) (did.2 ∙ same))
-
--- a moment over the folder that it has
-pub over_same : (folder : Files) (m : Moment) → m.live.folder ≡ folder → over_folder folder (over_folder empty m) ≡ m
-over_same folder m e = ap (λ (f : Files). over_folder f m) (sym e)
-
-pub did_go : (setting : Setting) (folder : Files) (old m : Moment) (came : Result Came Memory) (now : Option Moment) (answer : Result Stepped Memory)
-    → m.live.folder ≡ folder → IsWent came m now answer
-    → IfOk came (λ c. Comes setting c (over_folder folder old) m) → OnErr came (left_at setting m ≡ left_at setting (over_folder folder old))
-    → DidGo setting folder old now answer
-did_go setting folder old m (Ok (C.Loading body opened)) now answer same went comes stays =
-    subst (DidGo setting folder old now) (sym went.1)
-    (over_folder empty m, went.0, comes ∙ ap (λ (x : Moment). behind (Loading body opened ∷ []) (left_at setting x)) (sym (over_same folder m same)))
-did_go setting folder old m (Ok (C.Finished body)) now answer same went comes stays =
-    subst (DidGo setting folder old now) (sym went.1)
-    (over_folder empty m, went.0, comes ∙ ap (λ (x : Moment). behind (Finished body ∷ []) (left_at setting x)) (sym (over_same folder m same)))
-did_go setting folder old m (Ok (C.Over outcome)) now answer same went comes stays =
-    subst (DidGo setting folder old now) (sym went.1) (went.0, comes)
-did_go setting folder old m (Err memory) now answer same went comes stays =
-    subst (DidGo setting folder old now) (sym went.1)
-    (over_folder empty m, went.0, ap (left_at setting) (over_same folder m same) ∙ stays)
-
-pub on_err : {T E P : Type 0} → (r : Result T E) → P → OnErr r P
-on_err (Ok x) p = tt
-on_err (Err x) p = p

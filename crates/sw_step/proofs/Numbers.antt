@@ -3,8 +3,8 @@ use Rattle.std.proofs.Common.{◌≡◌, ℕ, suc, ◌≤◌, nat_eq, Bool, true
 use Rattle.std.specs.Map.{lookup, set_value, remove_entry}
 use Rattle.std.proofs.lemmas.Bool.Decides.{nat_tests}
 use Rattle.sw_modules.specs.Fresh.{Setting}
-use Rattle.sw_step.specs.declared.stepped.StepReply.{StepReply}
-use Rattle.sw_step.specs.declared.stepped.Stepped.TheVariants as S
+use Rattle.sw_step_bodies.specs.declared.stepped.StepReply.{StepReply}
+use Rattle.sw_step_bodies.specs.declared.stepped.Stepped.TheVariants as S
 use Rattle.sw_step.specs.Joint.{Joint, UnderWay, Answers}
 use Rattle.sw_step.specs.Under.{IsNext, NoneFrom}
 

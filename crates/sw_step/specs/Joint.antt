@@ -1,13 +1,14 @@
 -- Several compiles under way over one folder that goes on changing (this project's own rule).
-use Rattle.std.specs.Prelude.{◌≡◌, ℕ, suc, ◌-◌, nat_eq, List, [], ◌∷◌, ◌++◌, length, drop, map, Some}
+use Rattle.std.specs.Prelude.{◌≡◌, ℕ, suc, nat_eq, List, [], ◌∷◌, ◌++◌, Some}
 use Rattle.std.specs.Map.{lookup, set_value, remove_entry}
 use Rattle.sw_folder.specs.Files.{Files}
 use Rattle.sw_modules.specs.Fresh.{Setting}
-use Rattle.sw_step.specs.declared.stepped.StepReply.{StepReply}
-use Rattle.sw_step.specs.declared.stepped.Stepped.{Stepped}
-use Rattle.sw_step.specs.declared.stepped.Stepped.TheVariants as S
-use Rattle.sw_step.specs.Compiled.{compiled}
-use Rattle.sw_step.specs.Stepping.{Step, Loading, Finished, Ended, stepping, steps_of}
+use Rattle.sw_step_bodies.specs.declared.stepped.StepReply.{StepReply}
+use Rattle.sw_step_bodies.specs.declared.stepped.Stepped.{Stepped}
+use Rattle.sw_step_bodies.specs.declared.stepped.Stepped.TheVariants as S
+use Rattle.sw_step_bodies.specs.Compiled.{compiled}
+use Rattle.sw_step_bodies.specs.Stepping.{Step, stepping, steps_of}
+use Rattle.sw_step_bodies.specs.Steps.{step_of}
 
 -- a compile under way: its entry, its load paths, the folder as it was when it began, and the steps that are left
 pub record UnderWay : Type 0 where
@@ -33,27 +34,12 @@ started setting entry paths joint = record joint {
   under_way = joint.under_way ++ (joint.given, at_start setting joint.folder paths entry) ∷ [];
 }
 
-abbrev pub step_of : Stepped → Step
-step_of (S.Loading body opened) = Loading body opened
-step_of (S.Finished body) = Finished body
-step_of (S.Ended reply) = Ended
-
 -- what is left of a compile after a step: it goes on, or it is under way no more
 abbrev pub stepped : ℕ → UnderWay → Stepped → List Step → Joint → Joint
 stepped number compile (S.Ended reply) left joint =
     record joint { under_way = remove_entry (nat_eq number) joint.under_way }
 stepped number compile _ left joint =
     record joint { under_way = set_value (nat_eq number) joint.under_way (record compile { left = left }) }
-
--- the body that ended last
-abbrev pub last_ended : List (List ℕ × ℕ) → List (List ℕ)
-last_ended times = map (λ one. one.0) (drop (length times - 1) times)
-
--- the body that ended in a step, where one did
-abbrev pub ended_in : Stepped → List (List ℕ)
-ended_in (S.Loading body opened) = []
-ended_in (S.Finished body) = body ∷ []
-ended_in (S.Ended reply) = last_ended reply.times
 
 -- the last step replies what the compile gives from nothing, over its own folder, and how many steps ran each body of it
 pub record IsReply (setting : Setting) (compile : UnderWay) (reply : StepReply) : Type 0 where

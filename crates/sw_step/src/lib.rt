@@ -2,14 +2,9 @@
 //! steps flow in; how far a compile came, and at its end its messages with the CSS or the fault, flow out.
 #![tactic(auto)]
 
-mod body;
 mod compile;
-mod going;
-mod loading;
-mod outcome;
-mod outside;
-mod stepped;
+mod fault;
 mod steps;
 
-pub use stepped::{StartFault, StepFault, StepReply, Stepped};
+pub use fault::{StartFault, StepFault};
 pub use steps::Steps;

@@ -4,17 +4,18 @@ ghost use Rattle.std.specs.Map.{lookup};
 ghost use Rattle.std.specs.FinMap as files;
 ghost use Rattle.sw_folder.specs.Edits.{after_put, after_removal, IsFaultOf};
 ghost use Rattle.sw_modules.specs.Settings.{hostless};
-ghost use Rattle.sw_step.specs.Joint.{started, ended_in, Answers};
+ghost use Rattle.sw_step_bodies.specs.Steps.{ended_in};
+ghost use Rattle.sw_step.specs.Joint.{started, Answers};
 ghost use Rattle.sw_step.specs.Under.{IsStartFault, IsStepFault};
 
 use crate::compile::Compile;
-use crate::outside::Within;
-use crate::{StartFault, StepFault, Stepped};
+use crate::{StartFault, StepFault};
 use indexmap::IndexMap;
 use std::alloc::Global;
 use std::marker::Model;
 use sw_folder::{EditFault, Folder};
 use sw_modules::Reader;
+use sw_step_bodies::{Stepped, Within};
 use sw_text::{Memory, Name};
 use sw_world::Engine;
 

@@ -3,11 +3,12 @@ use Rattle.sw_text.specs.declared.fault.Fault.{Fault}
 use Rattle.sw_world.specs.declared.question.Saying.{Saying}
 use Rattle.sw_record.specs.declared.reply.Outcome.TheVariants.{Error}
 use Rattle.sw_modules.specs.Settings.{hostless}
-use Rattle.sw_step.specs.declared.stepped.StepReply.{StepReply}
-use Rattle.sw_step.specs.Stepping.{Ended}
-use Rattle.sw_step.specs.Standing.{Moment}
+use Rattle.sw_step_bodies.specs.declared.stepped.StepReply.{StepReply}
+use Rattle.sw_step_bodies.specs.Stepping.{Ended}
+use Rattle.sw_step_bodies.specs.Standing.{Moment}
 use Rattle.sw_step.specs.Joint.{UnderWay, IsReply}
-use Rattle.sw_step.specs.Under.{IsStanding, IsBegun, left_of}
+use Rattle.sw_step_bodies.specs.Under.{IsBegun, left_of}
+use Rattle.sw_step.specs.Under.{IsStanding}
 use Rattle.sw_step.proofs.Nexts.{none_standing, ended_next, went_standing}
 use Rattle.sw_step.proofs.compile.Compile.step.Goals as goal
 

@@ -1,8 +1,8 @@
 use Rattle.std.proofs.Common.{ℕ, nat_eq, List, sym, ap, subst, ◌∙◌}
 use Rattle.std.specs.Map.{set_value, remove_entry}
 use Rattle.sw_modules.specs.Settings.{hostless}
-use Rattle.sw_step.specs.declared.stepped.Stepped.{Stepped}
-use Rattle.sw_step.specs.declared.stepped.Stepped.TheVariants as S
+use Rattle.sw_step_bodies.specs.declared.stepped.Stepped.{Stepped}
+use Rattle.sw_step_bodies.specs.declared.stepped.Stepped.TheVariants as S
 use Rattle.sw_step.specs.Joint.{Joint, UnderWay, Answers}
 use Rattle.sw_step.specs.Under.{IsNext, NoneFrom}
 use Rattle.sw_step.proofs.Numbers.{set_same, none_changed, none_left, answers_loading, answers_finished, answers_ended}

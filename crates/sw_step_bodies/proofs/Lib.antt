@@ -1,0 +1,14 @@
+pub mod Ends
+pub mod Pairs
+pub mod Asked
+pub mod Plain
+pub mod Answered
+pub mod Levels
+pub mod Folders
+pub mod Loads
+pub mod Moments
+pub mod Nexts
+pub mod Begins
+pub mod Places
+pub mod Reaching
+pub mod Printing
