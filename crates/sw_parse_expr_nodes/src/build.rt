@@ -109,7 +109,7 @@ fn paren_of(alloc: Global, value: Expr, span: Span) -> Result<Expr, Memory>
 fn in_parens(alloc: Global, value: Expr, span: Span) -> Result<Expr, Memory>
     ensures { IfOk result (λ enclosed. enclosed ≡ in_parens span value) }
 {
-    let (kind, own) = value.into_parts();
+    let Expr { kind, span: own } = value;
     match kind {
         ExprKind::List {
             items,
@@ -158,7 +158,7 @@ pub fn enclosed(alloc: Global, inner: Inner, span: Span) -> Result<Expr, Memory>
 fn in_brackets(alloc: Global, value: Expr, span: Span) -> Result<Expr, Memory>
     ensures { IfOk result (λ bracketed. bracketed ≡ in_brackets span value) }
 {
-    let (kind, own) = value.into_parts();
+    let Expr { kind, span: own } = value;
     match kind {
         ExprKind::List {
             items,

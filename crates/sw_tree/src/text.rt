@@ -13,6 +13,7 @@ pub struct Text {
 
 /// What a text is made of.
 #[cycle(tree)]
+#[derive(Drop)]
 pub enum Parts {
     /// One text. Of a quoted string it is the text that it stands for, else as the sheet writes it.
     Plain(Name),
@@ -20,18 +21,9 @@ pub enum Parts {
     Mixed(List<Piece>),
 }
 
-impl Drop for Parts {
-    #[cycle(tree)]
-    fn drop(self) {
-        match self {
-            Parts::Plain(_) => {}
-            Parts::Mixed(_) => {}
-        }
-    }
-}
-
 /// A piece of a text.
 #[cycle(tree)]
+#[derive(Drop)]
 pub enum Piece {
     /// A text that isn't empty.
     Text(Name),
@@ -39,15 +31,4 @@ pub enum Piece {
     Inserted(Expr),
     /// A number, a variable or a call in the text of a special function, or a value in a media query.
     Value(Expr),
-}
-
-impl Drop for Piece {
-    #[cycle(tree)]
-    fn drop(self) {
-        match self {
-            Piece::Text(_) => {}
-            Piece::Inserted(_) => {}
-            Piece::Value(_) => {}
-        }
-    }
 }

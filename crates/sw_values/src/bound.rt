@@ -3,12 +3,7 @@ use crate::Value;
 use sw_text::{List, Name};
 
 /// The parameters of a call, in their order, each with its value.
+#[derive(Drop)]
 pub struct Bound {
     pub values: List<(Name, Value)>,
-}
-
-impl Drop for Bound {
-    fn drop(self) {
-        let Bound { values: _ } = self;
-    }
 }

@@ -30,21 +30,11 @@ use sw_units::Number;
 
 /// A value, which weighs at most 1,048,576 and nests at most 1,000 deep.
 #[cycle(value)]
+#[derive(Drop)]
 pub struct Value {
     node: Node,
     weight: u32,
     nesting: u16,
-}
-
-impl Drop for Value {
-    #[cycle(value)]
-    fn drop(self) {
-        let Value {
-            node: _,
-            weight: _,
-            nesting: _,
-        } = self;
-    }
 }
 
 /// What a value is.

@@ -9,15 +9,10 @@ use std::marker::Model;
 use sw_text::Memory;
 
 /// A text while it is written: its bytes, or that it has become too long for a value and isn't held any more.
+#[derive(Drop)]
 pub struct Written {
     text: String,
     long: bool,
-}
-
-impl Drop for Written {
-    fn drop(self) {
-        let Written { text: _, long: _ } = self;
-    }
 }
 
 impl Model for Written {

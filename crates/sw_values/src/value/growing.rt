@@ -47,11 +47,7 @@ impl Value {
     {
         let weight = self.weight() + item.weight();
         let nesting = self.nesting().max(item.nesting() + 1);
-        let Value {
-            node,
-            weight: _,
-            nesting: _,
-        } = self;
+        let Value { node, .. } = self;
         match parts_of(node) {
             None => unreachable!(),
             Some((items, bracketed)) => match with_last(alloc, items, item) {
@@ -97,11 +93,7 @@ impl Value {
     {
         let weight = self.weight() + key.weight() + value.weight();
         let nesting = self.nesting().max(key.nesting().max(value.nesting()) + 1);
-        let Value {
-            node,
-            weight: _,
-            nesting: _,
-        } = self;
+        let Value { node, .. } = self;
         match pairs_in(node) {
             None => unreachable!(),
             Some(pairs) => set_in(alloc, pairs, key, value, weight, nesting),
