@@ -8,7 +8,7 @@ use Rattle.sw_text_scan.proofs.Bounds.{if_true, if_false, and_left, and_right}
 use Rattle.sw_text_scan.proofs.PieceLemmas.{trimmed_more, trimmed_stop}
 use Rattle.sw_text_scan.proofs.Progress.{either}
 use Rattle.sw_selector.specs.Simples.{argument_end}
-use Rattle.sw_selector.proofs.Kept.{Alike}
+use Rattle.sw_text_locality.proofs.Kept.{Alike}
 use Rattle.sw_selector.proofs.Local.{white_slash}
 use Rattle.sw_selector.proofs.Raw.{Trimmed}
 

@@ -10,16 +10,16 @@ use Rattle.sw_text_scan.specs.Pieces.{is_cut}
 use Rattle.sw_text_scan.proofs.Bounds.{if_true, if_false, byte_past, run_step, run_stop}
 use Rattle.sw_selector.specs.declared.reader.TheConstants.{LEVELS, MOST_SELECTORS}
 use Rattle.sw_selector.specs.declared.selector.Part.{Part}
-use Rattle.sw_selector.specs.Attributes.{white}
+use Rattle.sw_text_locality.specs.Names.{white}
 use Rattle.sw_selector.specs.Reading.{ends_complex, commas_end, selectors_of}
 use Rattle.sw_selector.specs.Writing.{parts_text, list_text}
 use Rattle.sw_selector.specs.Grammar as g
 use Rattle.sw_selector.specs.Grammar.{Inner, IsComplex, Argument, Listed, Arguments, IsSelectorList}
 use Rattle.sw_selector.specs.Laws.{is_shown, IsReadAs, ReadsBack}
-use Rattle.sw_selector.proofs.Lexical.{white_none}
+use Rattle.sw_text_locality.proofs.Lexical.{white_none}
 use Rattle.sw_selector.proofs.Others.{writes_others}
 use Rattle.sw_selector.proofs.Whole.{reads_lists}
-use Rattle.sw_selector.proofs.Stands.{Stands, stands_first, stands_byte, stands_left, stands_right}
+use Rattle.sw_text_locality.proofs.Stands.{Stands, stands_first, stands_byte, stands_left, stands_right}
 use Rattle.sw_selector.proofs.Cuts.{Whole, whole_text, commas_cut}
 use Rattle.sw_selector.proofs.Compounds.{white_one}
 use Rattle.sw_selector.proofs.Joints.{complex_back, complex_start}

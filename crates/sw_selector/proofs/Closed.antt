@@ -6,9 +6,11 @@ use Rattle.sw_text_scan.specs.Bytes.{sign, byte, is_letter}
 use Rattle.sw_text_scan.specs.Runs.{begins_name}
 use Rattle.sw_text_scan.proofs.Bounds.{if_true}
 use Rattle.sw_text_scan.proofs.Progress.{either}
-use Rattle.sw_selector.specs.Attributes.{white, name_end, word_end, prefix_end, operator_end, value_end, bracket_end, modifier_end, valued_end, operated_end, matched_end, named_end, attribute_end}
-use Rattle.sw_selector.proofs.Lexical.{equal, split, name_forward, white_forward, prefix_forward, name_further}
-use Rattle.sw_selector.proofs.Kept.{Alike}
+use Rattle.sw_selector.specs.Attributes.{word_end, prefix_end, operator_end, value_end, bracket_end, modifier_end, valued_end, operated_end, matched_end, named_end, attribute_end}
+use Rattle.sw_text_locality.specs.Names.{white, name_end}
+use Rattle.sw_selector.proofs.Lexical.{prefix_forward}
+use Rattle.sw_text_locality.proofs.Lexical.{equal, split, name_forward, white_forward, name_further}
+use Rattle.sw_text_locality.proofs.Kept.{Alike}
 use Rattle.sw_selector.proofs.Local.{some_is, at, same, same_on, white_at, name_at, begins_at, named_at, prefix_at, prefix_stays, word_name}
 
 -- the last byte of an attribute is its bracket

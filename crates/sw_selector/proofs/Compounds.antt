@@ -9,17 +9,18 @@ use Rattle.sw_text_scan.proofs.Bounds.{if_true, run_step}
 use Rattle.sw_text_scan.proofs.Progress.{name_taken}
 use Rattle.sw_selector.specs.declared.selector.Part.{Part}
 use Rattle.sw_selector.specs.declared.selector.Part.TheVariants as parts
-use Rattle.sw_selector.specs.Attributes.{white, name_end, prefix_end}
-use Rattle.sw_selector.specs.Names.{name_text}
+use Rattle.sw_selector.specs.Attributes.{prefix_end}
+use Rattle.sw_text_locality.specs.Names.{white, name_end, name_text}
 use Rattle.sw_text_scan.specs.declared.brackets.Stops.TheVariants as stops
 use Rattle.sw_text_scan.specs.Brackets.{stop_at}
 use Rattle.sw_selector.specs.Simples.{colons_end, argument_text, with_argument, takes_selectors}
 use Rattle.sw_selector.specs.Writing.{part_text, parts_text, list_text}
 use Rattle.sw_selector.specs.Grammar as g
 use Rattle.sw_selector.specs.Grammar.{Inner, Name, pseudo_name, Simple, Head, Simples, Compound, Joint, Compounds, Ends, IsComplex}
-use Rattle.sw_selector.proofs.Lexical.{equal, white_none, prefix_forward, attribute_further, colons_forward}
+use Rattle.sw_selector.proofs.Lexical.{prefix_forward, attribute_further, colons_forward}
+use Rattle.sw_text_locality.proofs.Lexical.{equal, white_none}
 use Rattle.sw_selector.proofs.Unrolled.{text_pseudo, text_parent, text_placeholder, text_named, text_closed}
-use Rattle.sw_selector.proofs.Stands.{Stands, stands_first, stands_left, name_some, name_first}
+use Rattle.sw_text_locality.proofs.Stands.{Stands, stands_first, stands_left, name_some, name_first}
 use Rattle.sw_selector.proofs.Cuts.{Whole}
 use Rattle.sw_selector.proofs.Closed.{attribute_shut}
 use Rattle.sw_selector.proofs.Parts.{cut_before, piece_first, Back, HeadBack, class_back, id_back, placeholder_back, attribute_back, pseudo_back, type_back, any_back}

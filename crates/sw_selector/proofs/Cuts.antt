@@ -12,9 +12,9 @@ use Rattle.sw_text_scan.specs.Bytes.{sign, byte, continues, is_white}
 use Rattle.sw_text_scan.specs.Runs.{next, run_end}
 use Rattle.sw_text_scan.specs.Pieces.{is_cut}
 use Rattle.sw_text_scan.proofs.Bounds.{byte_past, run_step, run_stop, run_forward}
-use Rattle.sw_selector.specs.Attributes.{white}
-use Rattle.sw_selector.proofs.Written.{byte_get}
-use Rattle.sw_selector.proofs.Stands.{cut_at}
+use Rattle.sw_text_locality.specs.Names.{white}
+use Rattle.sw_text_locality.proofs.Written.{byte_get}
+use Rattle.sw_text_locality.proofs.Stands.{cut_at}
 
 -- the characters of the text are whole
 pub record Whole (bs : List ℕ) : Type 0 where

@@ -15,14 +15,15 @@ use Rattle.sw_selector.specs.declared.selector.Combinator.TheVariants as combina
 use Rattle.sw_selector.specs.declared.turn.Before.{Before}
 use Rattle.sw_selector.specs.declared.turn.Before.TheVariants as befores
 use Rattle.sw_selector.specs.declared.turn.Turn.TheVariants as turns
-use Rattle.sw_selector.specs.Attributes.{white, name_end, prefix_end, attribute_end}
-use Rattle.sw_selector.specs.Names.{name_text}
+use Rattle.sw_selector.specs.Attributes.{prefix_end, attribute_end}
+use Rattle.sw_text_locality.specs.Names.{white, name_end, name_text}
 use Rattle.sw_selector.specs.Simples.{text_at, as_part, class_at, placeholder_at, type_behind, type_at, attribute_by, attribute_at, parent_at, takes_selectors, with_argument, argument_text, raw_by, raw_at, colons_end}
 use Rattle.sw_selector.specs.Reading.{Lists, closed_by, argument_at, pseudo_behind, pseudo_at, is_simple, is_joined, head_at, simple_at, combinator_of, ends_complex, simple_turn, plain_turn, joined_turn, spaced_turn, turn_at, complex_from, complex_at}
 use Rattle.sw_selector.specs.Grammar as g
 use Rattle.sw_selector.specs.Grammar.{Inner, Name, pseudo_name, Simple, Head, Simples, Compound, Joint, Compounds, Ends, IsComplex}
 use Rattle.sw_selector.proofs.Loops.{complex_takes, complex_stops}
-use Rattle.sw_selector.proofs.Lexical.{equal, split, begins_simple, begins_word, begins_type, begins_part, in_or, not_white, not_end, not_sign, sign_not_end, stands, white_forward, white_none, white_twice, name_first, name_forward, name_further, prefix_forward, type_first, any_first, colons_forward, attribute_further}
+use Rattle.sw_selector.proofs.Lexical.{begins_simple, begins_word, begins_type, begins_part, not_white, not_end, not_sign, sign_not_end, stands, name_first, prefix_forward, type_first, any_first, colons_forward, attribute_further}
+use Rattle.sw_text_locality.proofs.Lexical.{equal, split, in_or, white_forward, white_none, white_twice, name_forward, name_further}
 
 -- what is read in arguments is what the grammar has there
 pub record Fits (bs : List ℕ) (deeper : Lists) (inner : Inner) : Type 0 where

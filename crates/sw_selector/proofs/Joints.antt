@@ -11,14 +11,15 @@ use Rattle.sw_selector.specs.declared.selector.Combinator.{Combinator}
 use Rattle.sw_selector.specs.declared.selector.Combinator.TheVariants as combinators
 use Rattle.sw_selector.specs.declared.selector.Part.{Part}
 use Rattle.sw_selector.specs.declared.selector.Part.TheVariants as parts
-use Rattle.sw_selector.specs.Attributes.{white}
+use Rattle.sw_text_locality.specs.Names.{white}
 use Rattle.sw_selector.specs.Reading.{combinator_of, ends_complex}
 use Rattle.sw_selector.specs.Writing.{combinator_text, part_text, parts_text, list_text}
 use Rattle.sw_selector.specs.Grammar as g
 use Rattle.sw_selector.specs.Grammar.{Inner, Simple, Head, Simples, Compound, Joint, Compounds, Ends, IsComplex}
-use Rattle.sw_selector.proofs.Lexical.{equal, begins_simple, begins_type, begins_part, not_white, white_none, type_first, any_first, in_or, split}
+use Rattle.sw_selector.proofs.Lexical.{begins_simple, begins_type, begins_part, not_white, type_first, any_first}
+use Rattle.sw_text_locality.proofs.Lexical.{equal, white_none, in_or, split}
 use Rattle.sw_selector.proofs.Unrolled.{text_pseudo, text_parent, text_placeholder, text_combinator, text_named, text_closed}
-use Rattle.sw_selector.proofs.Stands.{Stands, stands_byte, stands_first, stands_left, stands_right}
+use Rattle.sw_text_locality.proofs.Stands.{Stands, stands_byte, stands_first, stands_left, stands_right}
 use Rattle.sw_selector.proofs.Cuts.{Whole, white_cut}
 use Rattle.sw_selector.proofs.Parts.{goes_behind}
 use Rattle.sw_selector.proofs.Compounds.{white_one, parts_append, simple_back, head_back, simple_start, head_start}

@@ -10,17 +10,11 @@ use Rattle.sw_text_scan.specs.Brackets.{string_end}
 use Rattle.sw_text_scan.proofs.Bounds.{in_text, run_forward, run_stop, if_false}
 use Rattle.sw_text_scan.proofs.Progress.{either, name_taken, run_on, run_stops}
 use Rattle.sw_selector.specs.declared.selector.Combinator.{Combinator}
-use Rattle.sw_selector.specs.Attributes.{white, name_end, word_end, prefix_end, is_operator_sign, operator_end, value_end, bracket_end, modifier_end, valued_end, operated_end, matched_end, named_end, attribute_end}
+use Rattle.sw_selector.specs.Attributes.{word_end, prefix_end, is_operator_sign, operator_end, value_end, bracket_end, modifier_end, valued_end, operated_end, matched_end, named_end, attribute_end}
+use Rattle.sw_text_locality.specs.Names.{white, name_end}
+use Rattle.sw_text_locality.proofs.Lexical.{equal, split, in_or, white_forward, white_none, white_twice, name_forward, name_further}
 use Rattle.sw_selector.specs.Simples.{colons_end}
 use Rattle.sw_selector.specs.Reading.{combinator_of, ends_complex}
-
-pub equal : (b n : ℕ) → (b == n) ≡ true → b ≡ n
-equal b n e = grind (arith, nat_tests)
-
--- an equation of a choice, by its test
-pub split : {A P : Type 0} (b : Bool) (x y r : A) → (b ≡ true → x ≡ r → P) → (b ≡ false → y ≡ r → P) → (if b then x else y) ≡ r → P
-split true x y r f g e = f refl e
-split false x y r f g e = g refl e
 
 -- with which bytes a simple selector begins that may stand behind another
 abbrev pub begins_simple : ℕ → Bool
@@ -50,10 +44,6 @@ or_left false b e = refl
 pub or_right : (a b : Bool) → (a || b) ≡ false → b ≡ false
 or_right true b e = absurd (cc)
 or_right false b e = e
-
-pub in_or : (a b : Bool) → b ≡ true → (a || b) ≡ true
-in_or true b e = refl
-in_or false b e = e
 
 module _ (b : ℕ) (e : begins_part b ≡ true) where
   pub not_white : is_white b ≡ false
@@ -89,20 +79,6 @@ module _ (bs : List ℕ) where
   pub stands : (i : ℕ) (f : ℕ → Bool) → f END ≡ false → f (byte bs i) ≡ true → i < length bs
   stands i f e m = in_text f bs i e m
 
-  -- white space
-  pub white_forward : (i : ℕ) → i ≤ white bs i
-  white_forward i = run_forward bs classes.White i
-
-  pub white_none : (i : ℕ) → is_white (byte bs i) ≡ false → white bs i ≡ i
-  white_none i e = run_stop bs classes.White i (at (is_white (byte bs i)) e)
-    where
-      at : (t : Bool) → t ≡ false → (if t then i + 1 else i) ≤ i
-      at true f = absurd (cc)
-      at false f = omega arith
-
-  pub white_twice : (i : ℕ) → white bs (white bs i) ≡ white bs i
-  white_twice i = run_stop bs classes.White (white bs i) (run_stops bs classes.White i)
-
   -- names
   pub name_first : (i : ℕ) → begins_name bs i ≡ true → begins_word (byte bs i) ≡ true
   unfolding begins_name escape_end
@@ -115,16 +91,10 @@ module _ (bs : List ℕ) where
       go false false true more end e = refl
       go false false false more end e = grind (arith, nat_tests)
 
-  pub name_forward : (i : ℕ) → i ≤ name_end bs i
-  name_forward i = run_forward bs classes.Name i
-
-  pub name_further : (i : ℕ) → begins_name bs i ≡ true → i < name_end bs i
-  name_further i m = run_on bs classes.Name i (name_taken bs i m)
-
   pub word_forward : (i : ℕ) → i ≤ word_end bs i
   word_forward i =
       either (λ j. i ≤ j) (byte bs i == sign "*") (i + 1) _ (λ _. omega arith)
-      (λ _. either (λ j. i ≤ j) (begins_name bs i) (name_end bs i) i (λ _. name_forward i) (λ _. omega arith))
+      (λ _. either (λ j. i ≤ j) (begins_name bs i) (name_end bs i) i (λ _. name_forward bs i) (λ _. omega arith))
 
   pub prefix_forward : (i : ℕ) → i ≤ prefix_end bs i
   unfolding prefix_end
@@ -201,7 +171,7 @@ module _ (bs : List ℕ) where
   unfolding modifier_end
   modifier_ahead i =
       either (Ahead i) (is_letter (byte bs i)) (bracket_end bs (white bs (i + 1))) (bracket_end bs i)
-      (λ _. let on = white_forward (i + 1) in further_ahead (omega arith) (bracket_ahead (white bs (i + 1)))) (λ _. bracket_ahead i)
+      (λ _. let on = white_forward bs (i + 1) in further_ahead (omega arith) (bracket_ahead (white bs (i + 1)))) (λ _. bracket_ahead i)
 
   pub string_ahead : (q i : ℕ) → Ahead i (string_end bs q i)
   unfolding string_end
@@ -214,16 +184,16 @@ module _ (bs : List ℕ) where
   unfolding value_end
   value_ahead i =
       either (Ahead i) (is_quote (byte bs i)) (string_end bs (byte bs i) i) _ (λ _. string_ahead (byte bs i) i)
-      (λ _. either (Ahead i) (begins_name bs i) (Some (name_end bs i)) None (λ _. some_ahead (name_forward i)) (λ _. none_ahead))
+      (λ _. either (Ahead i) (begins_name bs i) (Some (name_end bs i)) None (λ _. some_ahead (name_forward bs i)) (λ _. none_ahead))
 
   pub valued_ahead : (i : ℕ) (o : Option ℕ) → Ahead i o → Ahead i (valued_end bs o)
   valued_ahead i None a = none_ahead
-  valued_ahead i (Some k) a = let on = a k refl in let w = white_forward k in further_ahead (omega arith) (modifier_ahead (white bs k))
+  valued_ahead i (Some k) a = let on = a k refl in let w = white_forward bs k in further_ahead (omega arith) (modifier_ahead (white bs k))
 
   pub operated_ahead : (i : ℕ) (o : Option ℕ) → Ahead i o → Ahead i (operated_end bs o)
   operated_ahead i None a = none_ahead
   operated_ahead i (Some k) a =
-      let on = a k refl in let w = white_forward k in
+      let on = a k refl in let w = white_forward bs k in
       further_ahead (omega arith) (valued_ahead (white bs k) (value_end bs (white bs k)) (value_ahead (white bs k)))
 
   pub operator_ahead : (i : ℕ) → Ahead i (operator_end bs i)
@@ -242,11 +212,11 @@ module _ (bs : List ℕ) where
   pub named_ahead : (i : ℕ) → Ahead i (named_end bs i)
   named_ahead i =
       either (Ahead i) (begins_name bs i) (matched_end bs (white bs (name_end bs i))) None
-      (λ _. let a = name_forward i in let b = white_forward (name_end bs i) in
+      (λ _. let a = name_forward bs i in let b = white_forward bs (name_end bs i) in
       further_ahead (omega arith) (matched_ahead (white bs (name_end bs i)))) (λ _. none_ahead)
 
   pub attribute_further : (i j : ℕ) → attribute_end bs i ≡ Some j → i < j
   unfolding attribute_end
   attribute_further i j e =
-      let a = white_forward (i + 1) in let b = prefix_forward (white bs (i + 1)) in
+      let a = white_forward bs (i + 1) in let b = prefix_forward (white bs (i + 1)) in
       let on = named_ahead (prefix_end bs (white bs (i + 1))) j e in omega arith

@@ -2,13 +2,6 @@ pub mod Loops
 pub mod Turns
 pub mod Pairs
 pub mod Lexical
-pub mod Unclosed
-pub mod Characters
-pub mod Kept
-pub mod Begins
-pub mod Written
-pub mod Stands
-pub mod Runs
 pub mod Local
 pub mod Closed
 pub mod Scans

@@ -14,12 +14,13 @@ use Rattle.sw_selector.specs.declared.turn.Before.{Before}
 use Rattle.sw_selector.specs.declared.turn.Before.TheVariants as befores
 use Rattle.sw_selector.specs.declared.turn.Turn.{Turn}
 use Rattle.sw_selector.specs.declared.turn.Turn.TheVariants as turns
-use Rattle.sw_selector.specs.Attributes.{white}
+use Rattle.sw_text_locality.specs.Names.{white}
 use Rattle.sw_selector.specs.Reading.{Lists, is_simple, is_joined, simple_at, combinator_of, ends_complex, simple_turn, plain_turn, joined_turn, last_turn, spaced_turn, turn_at, complex_by, complex_from, complex_at, list_by, list_from, list_at, selectors_in, commas_end, whole_by, whole_from, complexes_of}
 use Rattle.sw_selector.specs.Grammar as g
 use Rattle.sw_selector.specs.Grammar.{Inner, Simple, Head, Simples, Compound, Joint, Compounds, Ends, IsComplex, Argument, Listed, Arguments, IsSelectorList}
 use Rattle.sw_selector.proofs.Loops.{list_ends, list_goes, whole_ends, whole_goes}
-use Rattle.sw_selector.proofs.Lexical.{equal, split, begins_part, stands, white_forward, white_none, white_twice}
+use Rattle.sw_selector.proofs.Lexical.{begins_part, stands}
+use Rattle.sw_text_locality.proofs.Lexical.{equal, split, white_forward, white_none, white_twice}
 use Rattle.sw_selector.proofs.Derives.{Fits, Found, found_simple, found_head, same_first, same_second, part_told, compounds_begin, simple_further, head_further, complex_found}
 
 module _ (bs : List ℕ) (deeper : Lists) (inner : Inner) (fits : Fits bs deeper inner) where

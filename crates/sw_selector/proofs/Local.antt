@@ -9,12 +9,14 @@ use Rattle.sw_text_scan.specs.Runs.{next, run_end, begins_name}
 use Rattle.sw_text_scan.specs.Brackets.{string_end}
 use Rattle.sw_text_scan.proofs.Bounds.{if_true, if_false, and_left, and_right, run_forward}
 use Rattle.sw_text_scan.proofs.Progress.{run_stops}
-use Rattle.sw_selector.specs.Attributes.{white, name_end, word_end, prefix_end, is_operator_sign, operator_end, value_end, bracket_end, modifier_end, valued_end, operated_end, matched_end, named_end}
-use Rattle.sw_selector.proofs.Lexical.{split, begins_word, name_none, white_none, white_forward, name_forward, value_ahead, operator_ahead}
-use Rattle.sw_selector.proofs.Begins.{begins_kept}
-use Rattle.sw_selector.proofs.Kept.{Alike}
-use Rattle.sw_selector.proofs.Written.{no_name}
-use Rattle.sw_selector.proofs.Runs.{name_stops, white_stops, text_stops, Steps, white_steps, name_steps, text_steps, run_again}
+use Rattle.sw_selector.specs.Attributes.{word_end, prefix_end, is_operator_sign, operator_end, value_end, bracket_end, modifier_end, valued_end, operated_end, matched_end, named_end}
+use Rattle.sw_text_locality.specs.Names.{white, name_end}
+use Rattle.sw_selector.proofs.Lexical.{begins_word, name_none, value_ahead, operator_ahead}
+use Rattle.sw_text_locality.proofs.Lexical.{split, white_none, white_forward, name_forward}
+use Rattle.sw_text_locality.proofs.Begins.{begins_kept}
+use Rattle.sw_text_locality.proofs.Kept.{Alike}
+use Rattle.sw_text_locality.proofs.Written.{no_name}
+use Rattle.sw_text_locality.proofs.Runs.{name_stops, white_stops, text_stops, Steps, white_steps, name_steps, text_steps, run_again}
 
 pub some_is : {k j : ℕ} → Some k ≡ Some j → k ≡ j
 some_is e = cc

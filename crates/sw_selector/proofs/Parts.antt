@@ -10,17 +10,17 @@ use Rattle.sw_text_scan.proofs.Bounds.{if_true, if_false, and_left}
 use Rattle.sw_text_scan.proofs.Progress.{name_taken}
 use Rattle.sw_selector.specs.declared.selector.Part.{Part}
 use Rattle.sw_selector.specs.declared.selector.Part.TheVariants as parts
-use Rattle.sw_selector.specs.Attributes.{name_end, prefix_end, attribute_end}
-use Rattle.sw_selector.specs.Names.{name_text}
+use Rattle.sw_selector.specs.Attributes.{prefix_end, attribute_end}
+use Rattle.sw_text_locality.specs.Names.{name_end, name_text, parts_names}
 use Rattle.sw_selector.specs.Simples.{colons_end}
-use Rattle.sw_selector.specs.Laws.{parts_names}
 use Rattle.sw_selector.specs.Reading.{ends_complex}
 use Rattle.sw_selector.specs.Grammar as g
 use Rattle.sw_selector.specs.Grammar.{Inner, Name, Simple, Head, pseudo_name}
-use Rattle.sw_selector.proofs.Lexical.{equal, begins_simple, stands, name_further, attribute_further, prefix_forward}
-use Rattle.sw_selector.proofs.Kept.{Alike}
-use Rattle.sw_selector.proofs.Written.{byte_range, length_range}
-use Rattle.sw_selector.proofs.Stands.{Stands, stands_byte, piece_is, piece_again, cut_at, cut_byte, parts_cut, name_alike, name_end_again, name_begins_again, name_first_again, name_text_again}
+use Rattle.sw_selector.proofs.Lexical.{begins_simple, stands, attribute_further, prefix_forward}
+use Rattle.sw_text_locality.proofs.Lexical.{equal, name_further}
+use Rattle.sw_text_locality.proofs.Kept.{Alike}
+use Rattle.sw_text_locality.proofs.Written.{byte_range, length_range}
+use Rattle.sw_text_locality.proofs.Stands.{Stands, stands_byte, piece_is, piece_again, cut_at, cut_byte, parts_cut, name_alike, name_end_again, name_begins_again, name_first_again, name_text_again}
 use Rattle.sw_selector.proofs.Cuts.{Whole}
 use Rattle.sw_selector.proofs.Local.{prefix_at, prefix_stays, word_name}
 use Rattle.sw_selector.proofs.Closed.{attribute_again, attribute_shut}

@@ -12,18 +12,16 @@ use Rattle.sw_text_scan.proofs.Bounds.{if_true, if_false, run_step, run_stop, ru
 use Rattle.sw_text_scan.proofs.StopLemmas.{stops_by_step}
 use Rattle.sw_selector.specs.declared.selector.Part.{Part}
 use Rattle.sw_selector.specs.declared.selector.Part.TheVariants as parts
-use Rattle.sw_selector.specs.Attributes.{white, name_end}
-use Rattle.sw_selector.specs.Names.{name_text, unclosed_from, ends_unclosed}
+use Rattle.sw_text_locality.specs.Names.{white, name_end, name_text, unclosed_from, ends_unclosed, parts_names}
 use Rattle.sw_selector.specs.Simples.{colons_end, takes_selectors, with_argument, argument_end, argument_text}
-use Rattle.sw_selector.specs.Laws.{parts_names}
 use Rattle.sw_selector.specs.Writing.{list_text}
 use Rattle.sw_selector.specs.Grammar as g
 use Rattle.sw_selector.specs.Grammar.{Inner, Name, Simple, Head, pseudo_name}
-use Rattle.sw_selector.proofs.Lexical.{white_none}
-use Rattle.sw_selector.proofs.Unclosed.{unclosed_stop}
-use Rattle.sw_selector.proofs.Kept.{Alike}
-use Rattle.sw_selector.proofs.Written.{parted}
-use Rattle.sw_selector.proofs.Stands.{Stands, stands_first, stands_left, stands_right, name_end_again, name_text_again}
+use Rattle.sw_text_locality.proofs.Lexical.{white_none}
+use Rattle.sw_text_locality.proofs.Unclosed.{unclosed_stop}
+use Rattle.sw_text_locality.proofs.Kept.{Alike}
+use Rattle.sw_text_locality.proofs.Written.{parted}
+use Rattle.sw_text_locality.proofs.Stands.{Stands, stands_first, stands_left, stands_right, name_end_again, name_text_again}
 use Rattle.sw_selector.proofs.Cuts.{Whole, white_cut}
 use Rattle.sw_selector.proofs.Local.{white_ends}
 use Rattle.sw_selector.proofs.Raw.{Trimmed, white_step, white_byte, scan_again}

@@ -8,10 +8,10 @@ use Rattle.sw_text_scan.specs.Bytes.{sign, byte, is_break, is_white, is_hex_digi
 use Rattle.sw_text_scan.specs.Runs.{escape_end, hex_end}
 use Rattle.sw_text_scan.specs.Brackets.{stops_by, closing, is_closing, over, string_end, Scan, at_place, scan_step, stopped, stop_behind}
 use Rattle.sw_text_scan.proofs.Bounds.{if_false, and_left}
-use Rattle.sw_selector.proofs.Lexical.{equal}
-use Rattle.sw_selector.proofs.Characters.{Character, Known, known, slash_next, character_next, hex_some, hex_last, hex_not_white, name_not_slash}
-use Rattle.sw_selector.proofs.Kept.{Alike, fewer, later, character_kept, hex_end_alike}
-use Rattle.sw_selector.proofs.Begins.{escape_goes}
+use Rattle.sw_text_locality.proofs.Lexical.{equal}
+use Rattle.sw_text_locality.proofs.Characters.{Character, Known, known, slash_next, character_next, hex_some, hex_last, hex_not_white, name_not_slash}
+use Rattle.sw_text_locality.proofs.Kept.{Alike, fewer, later, character_kept, hex_end_alike}
+use Rattle.sw_text_locality.proofs.Begins.{escape_goes}
 use Rattle.sw_selector.proofs.Local.{at, same, same_on, string_at}
 use Rattle.sw_selector.proofs.Scans.{NO_BRACKET, over_goes, string_is, step_forward, stop_forward, stop_step, stop_found, stop_on, over_plain, over_escape, over_broken, step_again}
 

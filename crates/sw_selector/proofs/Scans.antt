@@ -11,8 +11,8 @@ use Rattle.sw_text_scan.specs.Brackets.{closing, is_closing, innermost, over, st
 use Rattle.sw_text_scan.proofs.Bounds.{if_true, if_false, run_forward}
 use Rattle.sw_text_scan.proofs.Progress.{either}
 use Rattle.sw_text_scan.proofs.StopLemmas.{stops_by_step}
-use Rattle.sw_selector.proofs.Lexical.{split}
-use Rattle.sw_selector.proofs.Characters.{escape_none}
+use Rattle.sw_text_locality.proofs.Lexical.{split}
+use Rattle.sw_text_locality.proofs.Characters.{escape_none}
 use Rattle.sw_selector.proofs.Local.{some_is}
 
 -- what stands for no bracket in a scan

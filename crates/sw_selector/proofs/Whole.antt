@@ -9,7 +9,7 @@ use Rattle.sw_selector.specs.declared.selector.Part.{Part}
 use Rattle.sw_selector.specs.Grammar.{IsSelectorList}
 use Rattle.sw_selector.specs.Reading.{complexes_of, within_limit, limited, selectors_of}
 use Rattle.sw_selector.specs.Laws.{ReadsLists}
-use Rattle.sw_selector.proofs.Lexical.{split}
+use Rattle.sw_text_locality.proofs.Lexical.{split}
 use Rattle.sw_selector.proofs.Lists.{list_found, list_told}
 
 some_is : {x y : List (List Part)} → Some x ≡ Some y → x ≡ y

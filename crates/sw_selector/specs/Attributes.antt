@@ -2,16 +2,9 @@
 use Rattle.std.specs.Prelude.{ℕ, ◌+◌, List, Option, Some, None, Bool, not, ◌&&◌, ◌||◌, ◌==◌, if◌then◌else◌}
 use Rattle.sw_text_scan.specs.declared.runs.Class.TheVariants as classes
 use Rattle.sw_text_scan.specs.Bytes.{sign, is_quote, byte, is_letter}
+use Rattle.sw_text_locality.specs.Names.{white, name_end}
 use Rattle.sw_text_scan.specs.Runs.{run_end, begins_name}
 use Rattle.sw_text_scan.specs.Brackets.{string_end}
-
--- behind white space
-abbrev pub white : List ℕ → ℕ → ℕ
-white bs i = run_end classes.White bs i
-
--- behind a name
-abbrev pub name_end : List ℕ → ℕ → ℕ
-name_end bs i = run_end classes.Name bs i
 
 -- behind `*` or a name, if one stands there
 abbrev pub word_end : List ℕ → ℕ → ℕ

@@ -11,8 +11,8 @@ use Rattle.sw_selector.specs.declared.selector.Part.{Part}
 use Rattle.sw_selector.specs.declared.selector.Part.TheVariants as parts
 use Rattle.sw_selector.specs.declared.selector.Combinator.{Combinator}
 use Rattle.sw_selector.specs.declared.selector.Combinator.TheVariants as combinators
-use Rattle.sw_selector.specs.Attributes.{white, name_end, prefix_end, attribute_end}
-use Rattle.sw_selector.specs.Names.{name_text}
+use Rattle.sw_selector.specs.Attributes.{prefix_end, attribute_end}
+use Rattle.sw_text_locality.specs.Names.{white, name_end, name_text}
 use Rattle.sw_selector.specs.Simples.{takes_selectors, with_argument, argument_text, colons_end}
 use Rattle.sw_selector.specs.Reading.{combinator_of, ends_complex, commas_end}
 

@@ -10,9 +10,8 @@ use Rattle.sw_selector.specs.declared.fault.SelectorFault.TheVariants.{BadSelect
 use Rattle.sw_selector.specs.declared.holds.Sought.TheVariants as soughts
 use Rattle.sw_selector.specs.declared.reader.TheConstants.{LEVELS, MOST_SELECTORS}
 use Rattle.sw_selector.specs.declared.selector.Part.{Part}
-use Rattle.sw_selector.specs.Attributes.{name_end}
+use Rattle.sw_text_locality.specs.Names.{name_end, name_text}
 use Rattle.sw_selector.specs.Grammar.{IsSelectorList}
-use Rattle.sw_selector.specs.Names.{name_text}
 use Rattle.sw_selector.specs.Reading.{selectors_of}
 use Rattle.sw_selector.specs.Holds.{complex_holds}
 use Rattle.sw_selector.specs.Nesting.{prepared, nested, all_nested}
@@ -31,21 +30,6 @@ pub record ReadsLists (text : List ℕ) : Type 0 where
   pub bad : (selectors_of text ≡ Err BadSelector) ↔ ((list : List (List Part)) → ¬ IsSelectorList LEVELS text list)
   pub large : (selectors_of text ≡ Err TooLarge)
       ↔ ((list : List (List Part)) × IsSelectorList LEVELS text list × (MOST_SELECTORS < length list))
-
--- what goes on no name: no name character, no `\` and no line feed
-abbrev pub parts_names : ℕ → Bool
-parts_names b = not (is_name_byte b || ((b == sign "\\") || (b == LINE_FEED)))
-
--- the name that begins at a place, as it's kept
-abbrev pub kept_name : List ℕ → ℕ → List ℕ
-kept_name text i = name_text text i i (name_end text i)
-
--- a name that is kept is a name, and no more than it, wherever it's written before what goes on no name
-abbrev pub KeepsName : List ℕ → ℕ → Type 0
-KeepsName text i =
-    begins_name text i ≡ true → is_cut text i ≡ true → (before after : List ℕ) → parts_names (byte after 0) ≡ true
-    → (begins_name (before ++ (kept_name text i ++ after)) (length before) ≡ true)
-    × (name_end (before ++ (kept_name text i ++ after)) (length before) ≡ length before + length (kept_name text i))
 
 -- for each parent, each child
 abbrev pub NestsInOrder : Bool → List (List Part) → List (List Part) → Type 0

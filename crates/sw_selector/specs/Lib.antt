@@ -2,7 +2,6 @@ pub mod Attributes
 pub mod Depth
 pub mod Holds
 pub mod Laws
-pub mod Names
 pub mod Nesting
 pub mod Reading
 pub mod Simples

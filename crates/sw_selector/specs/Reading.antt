@@ -18,8 +18,7 @@ use Rattle.sw_selector.specs.declared.turn.Before.{Before}
 use Rattle.sw_selector.specs.declared.turn.Before.TheVariants as befores
 use Rattle.sw_selector.specs.declared.turn.Turn.{Turn}
 use Rattle.sw_selector.specs.declared.turn.Turn.TheVariants as turns
-use Rattle.sw_selector.specs.Attributes.{white, name_end}
-use Rattle.sw_selector.specs.Names.{name_text}
+use Rattle.sw_text_locality.specs.Names.{white, name_end, name_text}
 use Rattle.sw_selector.specs.Simples.{class_at, placeholder_at, attribute_at, type_at, parent_at, takes_selectors, raw_at, colons_end}
 
 -- complex selectors and the place behind them, from a place on

@@ -9,8 +9,8 @@ use Rattle.sw_selector.specs.declared.fault.SelectorFault.{SelectorFault}
 use Rattle.sw_selector.specs.declared.fault.SelectorFault.TheVariants.{BadSelector, NoParent, TooLarge, Memory}
 use Rattle.sw_selector.specs.declared.selector.Part.{Part}
 use Rattle.sw_selector.specs.declared.selector.Part.TheVariants as parts
-use Rattle.sw_selector.specs.Attributes.{white, name_end, prefix_end, attribute_end}
-use Rattle.sw_selector.specs.Names.{name_text}
+use Rattle.sw_selector.specs.Attributes.{prefix_end, attribute_end}
+use Rattle.sw_text_locality.specs.Names.{white, name_end, name_text}
 
 -- what was read is what the definition says, and nothing was read exactly where it says none, or for want of memory
 abbrev pub IsRead : {T : Type 0} → Result T SelectorFault → Option T → Type 0

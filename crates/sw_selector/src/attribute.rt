@@ -1,6 +1,7 @@
 // Where attribute selectors and namespace prefixes end.
 ghost use Rattle.std.specs.Prelude.{◌≡◌, ◌<◌, length};
-ghost use Rattle.sw_selector.specs.Attributes.{white, name_end, word_end, prefix_end, is_operator_sign, operator_end, value_end, bracket_end, modifier_end, matched_end, named_end, attribute_end};
+ghost use Rattle.sw_selector.specs.Attributes.{word_end, prefix_end, is_operator_sign, operator_end, value_end, bracket_end, modifier_end, matched_end, named_end, attribute_end};
+ghost use Rattle.sw_text_locality.specs.Names.{white, name_end};
 
 use sw_text_scan::{Class, begins_name, byte_at, is_letter, is_quote, run_end, signs, string_end};
 

@@ -2,7 +2,7 @@
 ghost use Rattle.std.specs.Prelude.{◌≤◌, List, Bool, ℕ};
 ghost use Rattle.sw_selector.specs.declared.selector.Part.{Part};
 ghost use Rattle.sw_selector.specs.Depth.{list_depth};
-ghost use Rattle.sw_selector.specs.Laws.{IsOneList, ReadsLists, KeepsName, NestsInOrder, NestsEachPair, WritesOthers, ReadsBack};
+ghost use Rattle.sw_selector.specs.Laws.{IsOneList, ReadsLists, NestsInOrder, NestsEachPair, WritesOthers, ReadsBack};
 
 use crate::Selectors;
 use crate::reader::LEVELS;
@@ -12,12 +12,6 @@ use crate::reader::LEVELS;
 pub fn reads_the_grammar()
     ensures one { (text : List ℕ) → IsOneList text }
     ensures read { (text : List ℕ) → ReadsLists text }
-{}
-
-/// A law: a name that is read, with the space that closes a hexadecimal escape at its end, is read again as that name,
-/// and as no more than it, wherever it's written before what goes on no name.
-pub fn keeps_names()
-    ensures { (text : List ℕ) (place : ℕ) → KeepsName text place }
 {}
 
 /// A law: the nested selectors are, for each parent, each child, in this order.

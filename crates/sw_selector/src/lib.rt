@@ -8,7 +8,6 @@ mod fault;
 mod holds;
 mod laws;
 mod misfits;
-mod name;
 mod nesting;
 mod parents;
 mod prepare;
@@ -23,8 +22,7 @@ mod write;
 
 pub use fault::SelectorFault;
 pub use laws::{
-    keeps_names, nests_in_order, never_too_deep, reads_the_grammar, writes_all_others,
-    written_reads_back,
+    nests_in_order, never_too_deep, reads_the_grammar, writes_all_others, written_reads_back,
 };
 pub use nesting::nest;
 pub use reader::{LEVELS, MOST_SELECTORS, read};

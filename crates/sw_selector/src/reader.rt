@@ -5,7 +5,6 @@ ghost use Rattle.sw_selector.specs.Simples.{IsRead};
 ghost use Rattle.sw_selector.specs.Reading.{closed_by, argument_at, pseudo_behind, pseudo_at, head_at, simple_at, simple_turn, plain_turn, combinator_turn, spaced_turn, turn_at, last_turn, complex_at, list_at, selectors_in, commas_end, complexes_of, selectors_of, within_limit, IsAnswer};
 
 use crate::attribute::{name_end, white};
-use crate::name::name_text;
 use crate::simple::{
     attribute_at, class_at, colons_end, parent_at, placeholder_at, raw_at, takes_selectors, type_at,
 };
@@ -13,6 +12,7 @@ use crate::turn::{Before, Turn, combinator_of, ends_complex, is_joined, is_simpl
 use crate::{Combinator, Complex, Part, SelectorFault, Selectors};
 use std::alloc::Global;
 use sw_text::{List, Name, Shared};
+use sw_text_locality::name_text;
 use sw_text_scan::{Class, begins_name, byte_at, run_end, signs};
 
 /// At most so many pseudos with selectors stand in each other.

@@ -4,10 +4,10 @@ ghost use Rattle.std.specs.String.{string_bytes};
 ghost use Rattle.sw_selector.specs.Simples.{IsRead, text_at, class_at, placeholder_at, type_behind, type_at, attribute_at, parent_at, takes_list, takes_scope, takes_selectors, with_argument, argument_end, argument_text, raw_by, raw_at, colons_end};
 
 use crate::attribute::{attribute_end, name_end, prefix_end, white};
-use crate::name::{name_text, text_of};
 use crate::{Part, SelectorFault};
 use std::alloc::Global;
 use sw_text::{Memory, Name};
+use sw_text_locality::{name_text, text_of};
 use sw_text_scan::{Stops, begins_name, byte_at, piece, signs, stop_at, trimmed_end};
 
 #[tactic(auto, unfolding(crate::specs::Simples::text_at))]
