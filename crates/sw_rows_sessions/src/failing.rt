@@ -22,7 +22,8 @@ pub struct Failing {
     pub call: u32,
 }
 
-/// The calls of an object that fail: these, and the one that is made to. An error exactly where no memory was found.
+/// The calls of an object that fail: these, and the one that is made to with the one behind it, so that an object which
+/// gave a fault and is asked again gives another. An error exactly where no memory was found.
 pub fn failing_calls(
     alloc: Global,
     object: Object,
@@ -32,7 +33,7 @@ pub fn failing_calls(
     let mut all = calls.to_vec(alloc)?;
     if let Some(failing) = failing {
         if failing.object == object {
-            all.push(failing.call)?;
+            all.extend_from_slice(&[failing.call, failing.call.saturating_add(1)])?;
         }
     }
     Ok(List::from_vec(all))
