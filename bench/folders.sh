@@ -49,6 +49,11 @@ def status(*words):
     return subprocess.run([PROGRAM, *words], stdin=subprocess.DEVNULL, stdout=subprocess.DEVNULL, **NOBODY).returncode
 
 
+def said(words, script):
+    """What comes on standard error."""
+    return subprocess.run([PROGRAM, *words], input=script.encode(), capture_output=True, check=True, **NOBODY).stderr.decode()
+
+
 def put(folder, path, text):
     full = os.path.join(folder, path)
     os.makedirs(os.path.dirname(full), exist_ok=True)
@@ -129,6 +134,14 @@ try:
     ended = subprocess.run([PROGRAM, "once", src, "main.scss"], stdin=subprocess.DEVNULL, capture_output=True, **NOBODY)
     told("messages come on standard error", ended.stderr.decode(), "warn main.scss 1:1 1:12 3\none\n")
     told("and not among the CSS", ended.stdout.decode(), rule("c"))
+    sheet = "put main.scss 24\n@warn \"one\"; a { b: c; }\n"
+    told("those of each reply of a session", said(["session"], sheet + "compile main.scss\ncompile main.scss\nend\n"), ended.stderr.decode() * 2)
+    told("and of one with functions of a host", said(["hosted"], sheet + "compile main.scss\nend\n"), ended.stderr.decode())
+    told("and of each scan", said(["poll", src, "main.scss"], "scan\nscan\nend\n"), ended.stderr.decode() * 2)
+    told("but none of a compile by steps", said(["steps"], sheet + "start main.scss\nstep 0\nend\n"), "")
+    with open("/dev/full", "wb") as full:
+        ended = subprocess.run([PROGRAM, "once", src, "main.scss"], stdin=subprocess.DEVNULL, stdout=subprocess.PIPE, stderr=full, **NOBODY)
+    told("where it takes nothing, nothing else changes", (ended.returncode, ended.stdout.decode()), (0, rule("c")))
 
     many = os.path.join(place, "many")
     for number in range(4096):
