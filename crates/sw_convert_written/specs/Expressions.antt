@@ -1,8 +1,9 @@
 -- The text of an expression (the layout is this project's own): one space around operators and between the items of a
 -- list, `, ` behind each item of a comma list, and no space around the `/` of a quotient of numbers. No parentheses are
 -- added.
-use Rattle.std.specs.Prelude.{ℕ, Bool, true, false, ◌&&◌, ◌||◌, if◌then◌else◌, List, [], ◌∷◌, ◌++◌, map, Option, Some, None, is_some, codes}
+use Rattle.std.specs.Prelude.{ℕ, Bool, true, false, ◌&&◌, ◌||◌, ◌==◌, if◌then◌else◌, List, [], ◌∷◌, ◌++◌, map, Option, Some, None, is_some, codes}
 use Rattle.std.specs.List.{list_all}
+use Rattle.sw_text_scan.specs.Bytes.{sign as byte_of}
 use Rattle.sw_text_scan.specs.Words.{is_u, is_r, is_l}
 use Rattle.sw_tree.specs.declared.expr.Argument.{Argument}
 use Rattle.sw_tree.specs.declared.expr.Around.{Around}
@@ -131,6 +132,14 @@ abbrev pub is_url : List ℕ → Bool
 is_url (u ∷ r ∷ l ∷ []) = is_u u && (is_r r && is_l l)
 is_url _ = false
 
+-- a name ends with this, where it stands by itself or directly behind a `#{}`; a name may begin there or not
+abbrev pub ends_in_url_from : Bool → List ℕ → Bool
+ends_in_url_from begins [] = false
+ends_in_url_from begins (b ∷ name) = (begins && is_url (b ∷ name)) || ends_in_url_from (b == byte_of "}") name
+
+abbrev pub ends_in_url : List ℕ → Bool
+ends_in_url = ends_in_url_from true
+
 -- a comment, so that these arguments are no raw text of a url
 abbrev pub guard : List ShownArgument → List ℕ
 guard [] = codes "/**/ /**/"
@@ -202,7 +211,7 @@ argument_shown name value spread =
 
 abbrev pub callee_shown : Option Namespaced → List Written → ShownCallee
 callee_shown namespace name =
-    record { text = space_text namespace ++ pieces_text manners.Joined name; url = is_url (pieces_text manners.Joined name) }
+    record { text = space_text namespace ++ pieces_text manners.Joined name; url = ends_in_url (pieces_text manners.Joined name) }
 
 abbrev pub pair_shown : Shown → Shown → List ℕ
 pair_shown key value = key.text ++ (codes ": " ++ value.text)

@@ -7,7 +7,7 @@ use crate::Manner;
 use crate::bytes::put;
 use crate::commas::put_comma;
 use crate::escapes::{put_apart, put_space};
-use crate::kinds::{is_opaque, is_quotient, is_url, sort_of};
+use crate::kinds::{ends_in_url, is_opaque, is_quotient, sort_of};
 use crate::names::{put_dollar_name, put_name, put_number, put_text};
 use crate::pieces::{is_parted, put_said};
 use crate::signs::{put_closing, put_constant, put_opening, put_operator, put_signs};
@@ -250,7 +250,7 @@ fn put_callee(out: &mut Vec<u8>, callee: &Callee) -> Result<bool, Memory>
     put_namespace(out, &callee.namespace)?;
     let from = out.len();
     put_parts(out, &callee.name.parts, Manner::Joined)?;
-    Ok(is_url(&out[from..]))
+    Ok(ends_in_url(&out[from..]))
 }
 
 #[cycle(write)]

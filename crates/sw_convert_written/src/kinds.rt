@@ -1,6 +1,6 @@
 // What expressions are to what stands around them.
 ghost use Rattle.std.specs.Prelude.{◌≡◌, map};
-ghost use Rattle.sw_convert_written.specs.Expressions.{expr_shown, link_shown, is_number, is_divide, is_quotient, is_opaque, is_url};
+ghost use Rattle.sw_convert_written.specs.Expressions.{expr_shown, link_shown, is_number, is_divide, is_quotient, is_opaque, is_url, ends_in_url};
 
 use crate::Sort;
 use sw_tree::{Expr, ExprKind, Link, Operator};
@@ -74,8 +74,8 @@ pub fn is_quotient(first: &Expr, rest: &[Link]) -> bool
     true
 }
 
-/// `url` in any case.
-pub fn is_url(name: &[u8]) -> bool
+// `url` in any case.
+fn is_url(name: &[u8]) -> bool
     ensures { result ≡ is_url name.now }
 {
     match name {
@@ -84,4 +84,17 @@ pub fn is_url(name: &[u8]) -> bool
         }
         _ => false,
     }
+}
+
+/// A name that ends with `url`, which stands by itself or directly behind a `#{}`: with a `(` behind it a url may begin.
+pub fn ends_in_url(name: &[u8]) -> bool
+    ensures { result ≡ ends_in_url name.now }
+{
+    let mut begins = true;
+    let mut url = false;
+    'bytes: for i in 0..name.len() {
+        url = url || (begins && is_url(&name[i..]));
+        begins = name[i] == b'}';
+    }
+    url
 }
