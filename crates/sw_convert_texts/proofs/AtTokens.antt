@@ -125,7 +125,7 @@ at_open v old e =
 
 at_start : Start (sign "@")
 at_start =
-    record { white = refl; quote = refl; hash = refl; brace = refl; slash = refl; digit = refl; dot = refl }
+    record { white = refl; quote = refl; hash = refl; brace = refl; slash = refl; digit = refl; dot = refl; opening = refl }
 
 module _ (v old after : List ℕ) (change : Change)
     (is : name_piece ((sign "@" ∷ v) ++ old) 0 ≡ made kinds.AtName (length (sign "@" ∷ v)) change)

@@ -270,9 +270,11 @@ module _ (plains : List Plain) (pairs : Pairs PlainBehind plains) where
     pub from : lexeme.from ≡ plain.from
     pub to : lexeme.to ≡ plain.to
     pub goes : Bool
+    pub touches : Bool
     pub direct : goes ≡ true → spaced_at plains lexeme.token ≡ false
+    pub unspaced : touches ≡ true → spaced_at plains lexeme.token ≡ false
     pub fit : comes lexeme.terminal (sort_at plains lexeme.token) goes
-        (is_direct plains (lexeme.token + 1) sorts.OpenInsert) ≡ true
+        (is_direct plains (lexeme.token + 1) sorts.OpenInsert) touches ≡ true
 
   one_comes : (state : State) (at : ℕ) (plain : Plain) → slice_get plains at ≡ Some plain
       → Comes (lexeme_of plain at state.commented (terminal_of state plains at))
@@ -282,13 +284,15 @@ module _ (plains : List Plain) (pairs : Pairs PlainBehind plains) where
     from = refl;
     to = refl;
     goes = continues state plains at;
-    direct = λ c. unspaced (spaced_at plains at) (and_right state.word _ c);
+    touches = not (spaced_at plains at);
+    direct = λ c. black (spaced_at plains at) (and_right state.word _ c);
+    unspaced = λ c. black (spaced_at plains at) c;
     fit = told state plains at;
   }
     where
-      unspaced : (t : Bool) → not t ≡ true → t ≡ false
-      unspaced true e = sym e
-      unspaced false e = refl
+      black : (t : Bool) → not t ≡ true → t ≡ false
+      black true e = sym e
+      black false e = refl
 
   all_come : (others done : List Plain) (state : State) (at : ℕ) → Reached done others at
       → Every Comes (lexemes_from plains state at others)
@@ -326,7 +330,7 @@ module _ (source : Source) (was : WasRead source) where
     pub begins : lexeme.to ≡ next.from
     pub uncommented : next.commented ≡ false
 
-  lexeme_pairs : Pairs (LexemeBehind (plains_in source) plain_pairs) source.lexemes.now
+  pub lexeme_pairs : Pairs (LexemeBehind (plains_in source) plain_pairs) source.lexemes.now
   unfolding lexemes_of
   lexeme_pairs =
       subst (Pairs (LexemeBehind (plains_in source) plain_pairs)) (sym was.lexemes)

@@ -2,6 +2,10 @@ mod TerminalChoices
 mod Terminals
 mod TokenPairs
 mod LexemePairs
+mod TextPieces
+mod TemplatePieces
+mod TextTokens
+pub mod TextsApart
 mod Pieces
 mod NameTokens
 mod JoinedTexts
@@ -9,7 +13,10 @@ mod OldPieces
 mod DigitTokens
 mod UnitTokens
 mod Stretches
+mod HashPieces
+mod HexPieces
 mod OldRows
+pub mod OldHashes
 mod NewRows
 mod Inserts
 mod PartKinds
@@ -23,5 +30,6 @@ mod WordKinds
 mod MinusBefore
 mod Adjoining
 pub mod WordsWithValues
+pub mod Dotted
 mod UrlTokens
 pub mod Urls

@@ -32,7 +32,7 @@ module _ (source : Source) (was : WasRead source) where
       let direct = is_direct (plains_in source) (minus.lexeme.token + 1) sorts.OpenInsert in
       let sort = sort_at (plains_in source) minus.lexeme.token in
       let fit : (direct && is_minus sort) ≡ true =
-      ap (λ (t : Terminal). comes t sort it.goes direct) (sym (only_minus minus.lexeme.terminal minus.kind)) ∙ it.fit in
+      ap (λ (t : Terminal). comes t sort it.goes direct it.touches) (sym (only_minus minus.lexeme.terminal minus.kind)) ∙ it.fit in
       let piece = old_piece source was i minus.lexeme minus.there in
       let kind = kind_of_minus piece.kind piece.text (ap is_minus (sym piece.sort) ∙ and_right direct _ fit) in
       let whole = piece.own (ap opens kind) in

@@ -11,10 +11,11 @@ use Rattle.sw_tokens.specs.declared.token.Token.{Token}
 use Rattle.sw_tokens.specs.declared.token.TokenKind.{TokenKind}
 use Rattle.sw_tokens.specs.Ends.{opens}
 use Rattle.sw_tokens.specs.Pieces.{made, piece}
+use Rattle.sw_tokens.specs.Tokens.{is_spaced}
 use Rattle.sw_tokens.proofs.Forward.{piece_onward}
 use Rattle.sw_parse_terminals.specs.declared.lexeme.Lexeme.{Lexeme}
 use Rattle.sw_parse_lexemes.specs.declared.plain.Plain.{Plain}
-use Rattle.sw_parse_lexemes.specs.Ahead.{sort_in, sort_at}
+use Rattle.sw_parse_lexemes.specs.Ahead.{sort_in, sort_at, spaced_in, spaced_at}
 use Rattle.sw_parse_lexemes.specs.Plains.{end_by, plain_of, plains_from}
 use Rattle.sw_parse_lexemes.specs.Sorts.{sort_of}
 use Rattle.sw_parse_table.specs.declared.source.Source.{Source}
@@ -37,6 +38,7 @@ pub record Whole (source : Source) (lexeme : Lexeme) (kind : TokenKind) (text : 
   pub before : Before
   pub change : Change
   pub is : piece (text ++ after) inside before 0 ≡ made kind (length text) change
+  pub spaced : spaced_at (plains_in source) lexeme.token ≡ is_spaced before
 
 -- its kind and its bytes
 pub record OldPiece (source : Source) (lexeme : Lexeme) : Type 0 where
@@ -50,6 +52,7 @@ module _ (bs : List ℕ) where
     token : Token
     piece_is : HasPiece bs token
     from : plain.from ≡ token.from
+    spaced : plain.spaced ≡ token.spaced
     sort : plain.sort ≡ sort_of token.kind (slice_range bs token.from token.to)
     to : opens token.kind ≡ false → plain.to ≡ token.to
 
@@ -65,6 +68,7 @@ module _ (bs : List ℕ) where
       token = token;
       piece_is = e;
       from = refl;
+      spaced = refl;
       sort = refl;
       to = λ o. end_closed token (slice_get list 0) o;
     },
@@ -136,7 +140,7 @@ module _ (bs : List ℕ) where
 -- each lexeme of a sheet that was read
 pub old_piece : (source : Source) → WasRead source → (k : ℕ) (lexeme : Lexeme) → lexeme_at source k ≡ Some lexeme
     → OldPiece source lexeme
-unfolding sort_at
+unfolding sort_at spaced_at
 old_piece source was k lexeme there =
     let bs = bytes source in
     let it = comes_at source was k lexeme there in
@@ -163,6 +167,7 @@ old_piece source was k lexeme there =
         before = has.piece_is.before;
         change = has.piece_is.change;
         is = alone bs t has.piece_is o;
+        spaced = ap spaced_in it.got ∙ has.spaced ∙ has.piece_is.spaced;
       };
     }
 

@@ -96,7 +96,7 @@ module _ (source : Source) (was : WasRead source) where
   part_there k lexeme there old =
       let it = comes_at source was (suc k) old.lexeme old.there in
       let fit : (it.goes && is_part (sort_at (plains_in source) old.lexeme.token)) ≡ true =
-      ap (λ (t : Terminal). comes t (sort_at (plains_in source) old.lexeme.token) it.goes (is_direct (plains_in source) (old.lexeme.token + 1) sorts.OpenInsert))
+      ap (λ (t : Terminal). comes t (sort_at (plains_in source) old.lexeme.token) it.goes (is_direct (plains_in source) (old.lexeme.token + 1) sorts.OpenInsert) it.touches)
       (sym (only_part old.lexeme.terminal old.kind)) ∙ it.fit in
       let piece = old_piece source was (suc k) old.lexeme old.there in
       let whole = piece.own (part_closed piece.kind piece.text (ap is_part (sym piece.sort) ∙ and_right it.goes _ fit)) in record {
@@ -113,7 +113,7 @@ module _ (source : Source) (was : WasRead source) where
   insert_sticks k lexeme there old =
       let it = comes_at source was (suc k) old.lexeme old.there in
       let goes : it.goes ≡ true =
-      ap (λ (t : Terminal). comes t (sort_at (plains_in source) old.lexeme.token) it.goes (is_direct (plains_in source) (old.lexeme.token + 1) sorts.OpenInsert))
+      ap (λ (t : Terminal). comes t (sort_at (plains_in source) old.lexeme.token) it.goes (is_direct (plains_in source) (old.lexeme.token + 1) sorts.OpenInsert) it.touches)
       (sym (only_insert old.lexeme.terminal old.kind)) ∙ it.fit in
       sticks_by k lexeme old.lexeme there old.there
       (directly source was k lexeme old.lexeme there old.there (it.direct goes))

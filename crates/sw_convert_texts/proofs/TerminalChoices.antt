@@ -17,6 +17,7 @@ use Rattle.sw_parse_lexemes.specs.Names.{is, is_raw, is_bang, is_apart, continue
 use Rattle.sw_parse_lexemes.specs.Signs.{is_text, or_raw, names_rule, insert_in, comma_terminal}
 use Rattle.sw_parse_lexemes.specs.Brackets.{is_inner, is_custom, stray, closes_paren, closes_bracket, sign_in_brackets, plain_paren, opens_condition, paren_in}
 use Rattle.sw_parse_lexemes.specs.Terminals.{loaded_url, goes_on, at_terminal}
+use Rattle.sw_text_scan.proofs.Bounds.{and_left}
 use Rattle.sw_convert_spelling.proofs.Choices.{both}
 use Rattle.sw_convert_passing.specs.Kinds.{is_part}
 
@@ -52,6 +53,26 @@ abbrev pub is_close_bracket : Sort → Bool
 is_close_bracket sorts.CloseBracket = true
 is_close_bracket _ = false
 
+abbrev pub is_template : Sort → Bool
+is_template sorts.Template = true
+is_template _ = false
+
+abbrev pub is_template_end : Sort → Bool
+is_template_end sorts.TemplateEnd = true
+is_template_end _ = false
+
+abbrev pub is_hash : Sort → Bool
+is_hash sorts.Hash = true
+is_hash _ = false
+
+abbrev pub is_hex : Sort → Bool
+is_hex sorts.Hex = true
+is_hex _ = false
+
+abbrev pub is_text_sort : Sort → Bool
+is_text_sort sorts.Text = true
+is_text_sort _ = false
+
 -- `@` with a name
 abbrev pub is_at : Sort → Bool
 is_at sorts.AtUse = true
@@ -81,60 +102,69 @@ is_at _ = false
 
 -- a token of a sort may be a terminal, where it goes on with a word directly before it or not, and where a `#{` stands
 -- directly behind it or not; of the terminals that aren't named here nothing is said
-abbrev pub comes : Terminal → Sort → Bool → Bool → Bool
-comes terminals.Word sort goes inserts = is_name sort
-comes terminals.Special sort goes inserts = is_name sort
-comes terminals.Custom sort goes inserts = is_name sort
-comes terminals.AtOther sort goes inserts = is_at sort
-comes terminals.AtInsert sort goes inserts = is_lone_at sort
-comes terminals.WordMinus sort goes inserts = inserts && is_minus sort
-comes terminals.Part sort goes inserts = goes && is_part sort
-comes terminals.PartInsert sort goes inserts = goes
-comes terminals.Url sort goes inserts = is_url sort
-comes terminals.SpecialComma sort goes inserts = is_comma sort
-comes terminals.RawParen sort goes inserts = is_open_paren sort
-comes terminals.RawParenEnd sort goes inserts = is_close_paren sort
-comes terminals.RawBracket sort goes inserts = is_open_bracket sort
-comes terminals.RawBracketEnd sort goes inserts = is_close_bracket sort
-comes _ sort goes inserts = true
+abbrev pub comes : Terminal → Sort → Bool → Bool → Bool → Bool
+comes terminals.Word sort goes inserts touches = is_name sort
+comes terminals.Special sort goes inserts touches = is_name sort
+comes terminals.Custom sort goes inserts touches = is_name sort
+comes terminals.AtOther sort goes inserts touches = is_at sort
+comes terminals.AtInsert sort goes inserts touches = is_lone_at sort
+comes terminals.WordMinus sort goes inserts touches = inserts && is_minus sort
+comes terminals.Part sort goes inserts touches = goes && is_part sort
+comes terminals.PartInsert sort goes inserts touches = goes
+comes terminals.Url sort goes inserts touches = is_url sort
+comes terminals.Template sort goes inserts touches = is_template sort
+comes terminals.TemplateEnd sort goes inserts touches = is_template_end sort
+comes terminals.TextPiece sort goes inserts touches = is_text_sort sort
+comes terminals.Hash sort goes inserts touches = is_hash sort
+comes terminals.HashName sort goes inserts touches = is_hex sort || (touches && is_name sort)
+comes terminals.SpecialComma sort goes inserts touches = is_comma sort
+comes terminals.RawParen sort goes inserts touches = is_open_paren sort
+comes terminals.RawParenEnd sort goes inserts touches = is_close_paren sort
+comes terminals.RawBracket sort goes inserts touches = is_open_bracket sort
+comes terminals.RawBracketEnd sort goes inserts touches = is_close_bracket sort
+comes _ sort goes inserts touches = true
+
+or_more : (a b : Bool) → b ≡ true → (a || b) ≡ true
+or_more true b e = refl
+or_more false b e = e
 
 part_name : (sort : Sort) → is_name sort ≡ true → is_part sort ≡ true
 part_name sorts.Digits n = refl
 part_name sorts.Minus n = refl
 part_name _ n = n
 
-pub record Fit (sort : Sort) (goes inserts : Bool) (terminal : Terminal) : Type 0 where
-  pub fit : comes terminal sort goes inserts ≡ true
+pub record Fit (sort : Sort) (goes inserts touches : Bool) (terminal : Terminal) : Type 0 where
+  pub fit : comes terminal sort goes inserts touches ≡ true
 
-module _ (it : Sort) (goes inserts : Bool) where
-  pub leaf : (terminal : Terminal) → comes terminal it goes inserts ≡ true → Fit it goes inserts terminal
+module _ (it : Sort) (goes inserts touches : Bool) where
+  pub leaf : (terminal : Terminal) → comes terminal it goes inserts touches ≡ true → Fit it goes inserts touches terminal
   leaf terminal e = record { fit = e }
 
-  pub pick : (b : Bool) (x y : Terminal) → comes x it goes inserts ≡ true → comes y it goes inserts ≡ true → Fit it goes inserts (if b then x else y)
+  pub pick : (b : Bool) (x y : Terminal) → comes x it goes inserts touches ≡ true → comes y it goes inserts touches ≡ true → Fit it goes inserts touches (if b then x else y)
   pick true x y p q = leaf x p
   pick false x y p q = leaf y q
 
-  pub or_fits : (mode : Mode) (terminal : Terminal) → comes terminal it goes inserts ≡ true → Fit it goes inserts (or_raw mode terminal)
+  pub or_fits : (mode : Mode) (terminal : Terminal) → comes terminal it goes inserts touches ≡ true → Fit it goes inserts touches (or_raw mode terminal)
   or_fits mode terminal e = pick (is_text mode) terminals.Raw terminal refl e
 
-  pub choice : (b : Bool) (x y : Terminal) → Fit it goes inserts x → Fit it goes inserts y → Fit it goes inserts (if b then x else y)
+  pub choice : (b : Bool) (x y : Terminal) → Fit it goes inserts touches x → Fit it goes inserts touches y → Fit it goes inserts touches (if b then x else y)
   choice true x y p q = p
   choice false x y p q = q
 
   -- the first where the test holds
-  pub when : (b : Bool) (x y : Terminal) → (b ≡ true → Fit it goes inserts x) → Fit it goes inserts y
-      → Fit it goes inserts (if b then x else y)
+  pub when : (b : Bool) (x y : Terminal) → (b ≡ true → Fit it goes inserts touches x) → Fit it goes inserts touches y
+      → Fit it goes inserts touches (if b then x else y)
   when true x y p q = p refl
   when false x y p q = q
 
-  pub at_fits : is_at it ≡ true → (state : State) (plains : List Plain) (at : ℕ) (terminal : Terminal) → Fit it goes inserts terminal
-      → Fit it goes inserts (at_terminal state plains at terminal)
+  pub at_fits : is_at it ≡ true → (state : State) (plains : List Plain) (at : ℕ) (terminal : Terminal) → Fit it goes inserts touches terminal
+      → Fit it goes inserts touches (at_terminal state plains at terminal)
   at_fits keyword state plains at terminal calm =
       choice state.start _ _ (choice (goes_on plains at) _ _ (leaf terminals.AtOther keyword) calm)
       (or_fits state.mode terminals.Other refl)
 
   module _ (n : is_name it ≡ true) where
-    constant_fits : (sort : Sort) → Fit it goes inserts (constant_or_word sort)
+    constant_fits : (sort : Sort) → Fit it goes inserts touches (constant_or_word sort)
     constant_fits sorts.True = leaf _ refl
     constant_fits sorts.False = leaf _ refl
     constant_fits sorts.Null = leaf _ refl
@@ -143,25 +173,25 @@ module _ (it : Sort) (goes inserts : Bool) where
     constant_fits sorts.Not = leaf _ refl
     constant_fits _ = leaf _ n
 
-    flag_fits : (sort : Sort) → Fit it goes inserts (behind_bang sort)
+    flag_fits : (sort : Sort) → Fit it goes inserts touches (behind_bang sort)
     flag_fits sorts.Important = leaf _ refl
     flag_fits sorts.Default = leaf _ refl
     flag_fits sorts.Global = leaf _ refl
     flag_fits _ = leaf _ n
 
-    load_fits : (sort : Sort) → Fit it goes inserts (word_in_load sort)
+    load_fits : (sort : Sort) → Fit it goes inserts touches (word_in_load sort)
     load_fits sorts.As = leaf _ refl
     load_fits sorts.With = leaf _ refl
     load_fits sorts.Show = leaf _ refl
     load_fits sorts.Hide = leaf _ refl
     load_fits _ = leaf _ refl
 
-    using_fits : (sort : Sort) → Fit it goes inserts (using_or_named sort)
+    using_fits : (sort : Sort) → Fit it goes inserts touches (using_or_named sort)
     using_fits sorts.Using = leaf _ refl
     using_fits _ = leaf _ refl
 
     module _ (state : State) (plains : List Plain) (at : ℕ) where
-      expression_fits : Fit it goes inserts (name_in_expression state plains at)
+      expression_fits : Fit it goes inserts touches (name_in_expression state plains at)
       expression_fits =
           choice (is_direct plains (at + 1) sorts.OpenInsert) _ _ (leaf terminals.Word n)
           (choice (is state.before terminals.OwnerDot) _ _ (constant_fits (sort_at plains at))
@@ -169,20 +199,20 @@ module _ (it : Sort) (goes inserts : Bool) where
           (choice (is_special_name (sort_at plains at) && is_direct plains (at + 1) sorts.OpenParen) _ _
           (leaf terminals.Special n) (constant_fits (sort_at plains at)))))
 
-      special_fits : Fit it goes inserts (name_in_special state plains at)
+      special_fits : Fit it goes inserts touches (name_in_special state plains at)
       special_fits =
           choice (is state.before terminals.OwnerDot) _ _ (leaf terminals.Word n)
           (choice (owns plains at) _ _ (leaf terminals.Owner refl)
           (pick (is_direct plains (at + 1) sorts.OpenParen && not (stays_text (sort_at plains at))) terminals.Word
           terminals.Raw n refl))
 
-      include_fits : Fit it goes inserts (name_in_include state plains at)
+      include_fits : Fit it goes inserts touches (name_in_include state plains at)
       include_fits =
           choice (is state.before terminals.AtInclude) _ _
           (pick (is_direct plains (at + 1) sorts.Dot) terminals.Owner terminals.Named refl refl)
           (choice (is state.before terminals.OwnerDot) _ _ (leaf terminals.Named refl) (using_fits (sort_at plains at)))
 
-      media_fits : Fit it goes inserts (name_in_media state plains at)
+      media_fits : Fit it goes inserts touches (name_in_media state plains at)
       media_fits =
           choice (is_direct plains (at + 1) sorts.OpenInsert) _ _ (leaf terminals.Word n)
           (choice (same (sort_at plains at) sorts.Not) _ _
@@ -194,7 +224,7 @@ module _ (it : Sort) (goes inserts : Bool) where
           (constant_fits (sort_at plains at))))
 
       bounds_fits : (sort : Sort)
-          → Fit it goes inserts (elim sort as (λ _. Terminal) [
+          → Fit it goes inserts touches (elim sort as (λ _. Terminal) [
             | sorts.Through ↦ if is_bound_end plains at then terminals.Through else name_in_expression state plains at
             | sorts.To ↦ if is_bound_end plains at then terminals.To else name_in_expression state plains at
             | _ ↦ name_in_expression state plains at
@@ -208,7 +238,7 @@ module _ (it : Sort) (goes inserts : Bool) where
           expression_fits
       bounds_fits _ = expression_fits
 
-      in_mode : (mode : Mode) → Fit it goes inserts (name_in (record state { mode = mode }) plains at)
+      in_mode : (mode : Mode) → Fit it goes inserts touches (name_in (record state { mode = mode }) plains at)
       in_mode modes.Special = special_fits
       in_mode modes.CustomName = leaf terminals.Custom n
       in_mode modes.Use = choice (is state.before terminals.As) _ _ (leaf terminals.Named refl)
@@ -228,22 +258,24 @@ module _ (it : Sort) (goes inserts : Bool) where
       in_mode modes.Media = media_fits
       in_mode _ = expression_fits
 
-      pub name_fits : (continues state plains at ≡ true → goes ≡ true) → Fit it goes inserts (name_terminal state plains at)
-      name_fits going =
+      pub name_fits : (continues state plains at ≡ true → goes ≡ true) → (not (spaced_at plains at) ≡ true → touches ≡ true)
+          → Fit it goes inserts touches (name_terminal state plains at)
+      name_fits going touching =
           when (continues state plains at) _ _ (λ c. leaf terminals.Part (both goes (is_part it) (going c) (part_name it n)))
           (choice (is_raw state.mode) _ _ (leaf terminals.Raw refl)
           (choice (not (spaced_at plains at) && behind_dollar state.before) _ _ (leaf terminals.VariableName refl)
-          (choice (not (spaced_at plains at) && is state.before terminals.Hash) _ _ (leaf terminals.HashName refl)
+          (when (not (spaced_at plains at) && is state.before terminals.Hash) _ _
+          (λ c. leaf terminals.HashName (or_more (is_hex it) _ (both touches (is_name it) (touching (and_left (not (spaced_at plains at)) _ c)) n)))
           (choice (is_bang state.before) _ _ (flag_fits (sort_at plains at))
           (choice (is_apart state plains at) _ _ (leaf terminals.Other refl) (in_mode state.mode))))))
 
   module _ (state : State) (plains : List Plain) (at : ℕ) where
-    loaded_fits : (named : Bool) → Fit it goes inserts (loaded_url plains at named)
+    loaded_fits : (named : Bool) → Fit it goes inserts touches (loaded_url plains at named)
     loaded_fits named =
         pick (named || same (next_sort plains at) sorts.As) terminals.LoadUrl terminals.Other refl refl
 
     pub string_fits : (named : Bool) (before : Terminal)
-        → Fit it goes inserts (elim before as (λ _. Terminal) [
+        → Fit it goes inserts touches (elim before as (λ _. Terminal) [
           | terminals.AtCharset ↦ terminals.Plain
           | terminals.AtForward ↦ terminals.LoadUrl
           | terminals.AtUse ↦ loaded_url plains at named
@@ -254,22 +286,22 @@ module _ (it : Sort) (goes inserts : Bool) where
     string_fits named terminals.AtUse = loaded_fits named
     string_fits named _ = leaf terminals.Quoted refl
 
-    inserted_fits : Fit it goes inserts (if is_apart state plains at then terminals.Other else terminals.WordInsert)
+    inserted_fits : Fit it goes inserts touches (if is_apart state plains at then terminals.Other else terminals.WordInsert)
     inserted_fits = pick (is_apart state plains at) terminals.Other terminals.WordInsert refl refl
 
-    pub insert_fits : (mode : Mode) → Fit it goes inserts (insert_in (record state { mode = mode }) plains at)
+    pub insert_fits : (mode : Mode) → Fit it goes inserts touches (insert_in (record state { mode = mode }) plains at)
     insert_fits modes.Raw = pick (names_rule state plains at) terminals.WordInsert terminals.Insert refl refl
     insert_fits modes.Custom = leaf terminals.Insert refl
     insert_fits modes.Special = leaf terminals.Insert refl
     insert_fits modes.Text = leaf terminals.Insert refl
     insert_fits _ = inserted_fits
 
-    opened_fits : Fit it goes inserts (if continues state plains at then terminals.CallParen else plain_paren plains at)
+    opened_fits : Fit it goes inserts touches (if continues state plains at then terminals.CallParen else plain_paren plains at)
     opened_fits =
         choice (continues state plains at) terminals.CallParen (plain_paren plains at) (leaf terminals.CallParen refl)
         (pick (opens_condition plains (code_from plains (at + 1))) terminals.ConditionParen terminals.Paren refl refl)
 
-    pub paren_fits : is_open_paren it ≡ true → (mode : Mode) → Fit it goes inserts (paren_in (record state { mode = mode }) plains at)
+    pub paren_fits : is_open_paren it ≡ true → (mode : Mode) → Fit it goes inserts touches (paren_in (record state { mode = mode }) plains at)
     paren_fits opened modes.Raw = leaf terminals.RawParen opened
     paren_fits opened modes.Custom = leaf terminals.RawParen opened
     paren_fits opened modes.Special = pick (continues state plains at) terminals.CallParen terminals.RawParen refl opened
@@ -282,33 +314,33 @@ module _ (it : Sort) (goes inserts : Bool) where
     paren_fits opened modes.Content = leaf terminals.CallParen refl
     paren_fits opened _ = opened_fits
 
-  pub comma_fits : is_comma it ≡ true → (mode : Mode) → Fit it goes inserts (comma_terminal mode)
+  pub comma_fits : is_comma it ≡ true → (mode : Mode) → Fit it goes inserts touches (comma_terminal mode)
   comma_fits comma modes.Special = leaf terminals.SpecialComma comma
   comma_fits comma modes.Raw = leaf terminals.Raw refl
   comma_fits comma modes.Custom = leaf terminals.Raw refl
   comma_fits comma _ = leaf terminals.Comma refl
 
-  stray_fits : (mode : Mode) → Fit it goes inserts (stray mode)
+  stray_fits : (mode : Mode) → Fit it goes inserts touches (stray mode)
   stray_fits mode = pick (is_text mode && not (is_custom mode)) terminals.Raw terminals.Other refl refl
 
-  pub close_paren_fits : is_close_paren it ≡ true → (mode : Mode) (frame : Option Frame) → Fit it goes inserts (closes_paren mode frame)
+  pub close_paren_fits : is_close_paren it ≡ true → (mode : Mode) (frame : Option Frame) → Fit it goes inserts touches (closes_paren mode frame)
   close_paren_fits close mode None = stray_fits mode
   close_paren_fits close mode (Some frame) = by_kind frame.bracket
     where
       by_kind : (kind : Bracket)
-          → Fit it goes inserts (elim kind as (λ _. Terminal) [
+          → Fit it goes inserts touches (elim kind as (λ _. Terminal) [
             | brackets.Paren ↦ if is frame.opened terminals.RawParen then terminals.RawParenEnd else terminals.ParenEnd
             | _ ↦ stray mode
           ])
       by_kind brackets.Paren = pick (is frame.opened terminals.RawParen) terminals.RawParenEnd terminals.ParenEnd close refl
       by_kind _ = stray_fits mode
 
-  pub close_bracket_fits : is_close_bracket it ≡ true → (mode : Mode) (frame : Option Frame) → Fit it goes inserts (closes_bracket mode frame)
+  pub close_bracket_fits : is_close_bracket it ≡ true → (mode : Mode) (frame : Option Frame) → Fit it goes inserts touches (closes_bracket mode frame)
   close_bracket_fits close mode None = stray_fits mode
   close_bracket_fits close mode (Some frame) = by_kind frame.bracket
     where
       by_kind : (kind : Bracket)
-          → Fit it goes inserts (elim kind as (λ _. Terminal) [
+          → Fit it goes inserts touches (elim kind as (λ _. Terminal) [
             | brackets.Bracket ↦
                 if is frame.opened terminals.RawBracket then terminals.RawBracketEnd else terminals.BracketEnd
             | _ ↦ stray mode
@@ -317,7 +349,7 @@ module _ (it : Sort) (goes inserts : Bool) where
           pick (is frame.opened terminals.RawBracket) terminals.RawBracketEnd terminals.BracketEnd close refl
       by_kind _ = stray_fits mode
 
-  pub inside_fits : (mode : Mode) (frame : Option Frame) → Fit it goes inserts (sign_in_brackets mode frame)
+  pub inside_fits : (mode : Mode) (frame : Option Frame) → Fit it goes inserts touches (sign_in_brackets mode frame)
   inside_fits modes.Special frame = pick (is_inner frame) terminals.Raw terminals.Other refl refl
   inside_fits modes.Raw frame = leaf terminals.Raw refl
   inside_fits modes.Custom frame = leaf terminals.Raw refl

@@ -82,7 +82,7 @@ pub urls_written : UrlsAreWritten
 urls_written source i span was old braces before spaced calm =
     let it = comes_at source was i old.lexeme old.there in
     let fit : is_url (sort_at (plains_in source) old.lexeme.token) ≡ true =
-    ap (λ (t : Terminal). comes t (sort_at (plains_in source) old.lexeme.token) it.goes (is_direct (plains_in source) (old.lexeme.token + 1) sorts.OpenInsert))
+    ap (λ (t : Terminal). comes t (sort_at (plains_in source) old.lexeme.token) it.goes (is_direct (plains_in source) (old.lexeme.token + 1) sorts.OpenInsert) it.touches)
     (sym (only_url old.lexeme.terminal old.kind)) ∙ it.fit in
     let piece = old_piece source was i old.lexeme old.there in
     let kind = kind_of_url piece.kind piece.text (ap is_url (sym piece.sort) ∙ fit) in

@@ -89,14 +89,14 @@ module _ (Behind : Followers) (ending : Ending Behind) (source : Source) (was : 
   -- ---- what begins with a name
 
   -- a name that was read, at a place
-  record First (i : ℕ) : Type 0 where
-    lexeme : Lexeme
-    there : lexeme_at source i ≡ Some lexeme
-    part : PartToken source i (bytes_at source i)
-    named : part.named ≡ true
-    low : from_at source i ≤ to_at source i
+  pub record First (i : ℕ) : Type 0 where
+    pub lexeme : Lexeme
+    pub there : lexeme_at source i ≡ Some lexeme
+    pub part : PartToken source i (bytes_at source i)
+    pub named : part.named ≡ true
+    pub low : from_at source i ≤ to_at source i
 
-  first_there : (i : ℕ) (lexeme : Lexeme) → lexeme_at source i ≡ Some lexeme
+  pub first_there : (i : ℕ) (lexeme : Lexeme) → lexeme_at source i ≡ Some lexeme
       → is_name (sort_at (plains_in source) lexeme.token) ≡ true
       → (first : First i) × (is_name (sort_of first.part.kind (bytes_at source i)) ≡ true)
   first_there i lexeme there n =
@@ -273,7 +273,7 @@ module _ (Behind : Followers) (ending : Ending Behind) (source : Source) (was : 
         (behind_pieces source was row close.lexeme close.there (to_at source (j - 1)) (j - 1) refl refl))
 
     -- a word that begins with it
-    begun_text : joined (parts_between source i j (Inserts i (suc c) value ∷ inserts)) ≡ inserted_text
+    pub begun_text : joined (parts_between source i j (Inserts i (suc c) value ∷ inserts)) ≡ inserted_text
     unfolding texts
     begun_text =
         mixed_text (pieces_from source (stretch_between source i j) (Inserts i (suc c) value ∷ inserts))
@@ -294,7 +294,7 @@ module _ (Behind : Followers) (ending : Ending Behind) (source : Source) (was : 
 
     -- and one with a `-` before it
     module _ (dash : bytes_at source i ≡ codes "-") (sticks : Adjoins source i) where
-      minus_text : joined (parts_between source i j (Inserts (suc i) (suc c) value ∷ inserts)) ≡ codes "-" ++ inserted_text
+      pub minus_text : joined (parts_between source i j (Inserts (suc i) (suc c) value ∷ inserts)) ≡ codes "-" ++ inserted_text
       unfolding texts
       minus_text =
           mixed_text (pieces_from source (stretch_between source i j) (Inserts (suc i) (suc c) value ∷ inserts))
@@ -368,7 +368,7 @@ module _ (Behind : Followers) (ending : Ending Behind) (source : Source) (was : 
   mixed_word (spells.named {i} old row) mixed u has =
       let it = comes_at source was i old.lexeme old.there in
       let n : is_name (sort_at (plains_in source) old.lexeme.token) ≡ true =
-      ap (λ (t : Terminal). comes t (sort_at (plains_in source) old.lexeme.token) it.goes (is_direct (plains_in source) (old.lexeme.token + 1) sorts.OpenInsert))
+      ap (λ (t : Terminal). comes t (sort_at (plains_in source) old.lexeme.token) it.goes (is_direct (plains_in source) (old.lexeme.token + 1) sorts.OpenInsert) it.touches)
       (sym (only_word old.lexeme.terminal old.kind)) ∙ it.fit in
       let (first, named) = first_there i old.lexeme old.there n in
       let inserts = inserts_by row mixed (λ old d. blocked terminals.Word first row u has old d) u in λ before spaced calm. record {
@@ -392,7 +392,7 @@ module _ (Behind : Followers) (ending : Ending Behind) (source : Source) (was : 
   custom_name (name_row {i} old row) u has before spaced calm =
       let it = comes_at source was i old.lexeme old.there in
       let n : is_name (sort_at (plains_in source) old.lexeme.token) ≡ true =
-      ap (λ (t : Terminal). comes t (sort_at (plains_in source) old.lexeme.token) it.goes (is_direct (plains_in source) (old.lexeme.token + 1) sorts.OpenInsert))
+      ap (λ (t : Terminal). comes t (sort_at (plains_in source) old.lexeme.token) it.goes (is_direct (plains_in source) (old.lexeme.token + 1) sorts.OpenInsert) it.touches)
       (sym (only_custom old.lexeme.terminal old.kind)) ∙ it.fit in
       let (first, named) = first_there i old.lexeme old.there n in record {
         passed = _;
@@ -406,7 +406,7 @@ module _ (Behind : Followers) (ending : Ending Behind) (source : Source) (was : 
   at_name (name_row {i} old row) u has before spaced calm =
       let it = comes_at source was i old.lexeme old.there in
       let n : is_at (sort_at (plains_in source) old.lexeme.token) ≡ true =
-      ap (λ (t : Terminal). comes t (sort_at (plains_in source) old.lexeme.token) it.goes (is_direct (plains_in source) (old.lexeme.token + 1) sorts.OpenInsert))
+      ap (λ (t : Terminal). comes t (sort_at (plains_in source) old.lexeme.token) it.goes (is_direct (plains_in source) (old.lexeme.token + 1) sorts.OpenInsert) it.touches)
       (sym (only_at old.lexeme.terminal old.kind)) ∙ it.fit in
       let (first, kind) = at_there i old.lexeme old.there n in
       let it_is = more terminals.AtOther first row u has in record {

@@ -30,7 +30,7 @@ use Rattle.sw_tree.specs.declared.text.Parts.{Parts}
 use Rattle.sw_parse_table.specs.Values.{expression, callee_of}
 use Rattle.sw_convert_written.specs.declared.manner.Manner.TheVariants as manners
 use Rattle.sw_convert_written.specs.Pieces.{pieces_text}
-use Rattle.sw_convert_written.specs.Expressions.{is_url, space_text, with_commas, call_text, parts_written, expr_text, of_argument, argument_text}
+use Rattle.sw_convert_written.specs.Expressions.{is_url, ends_in_url, space_text, with_commas, call_text, parts_written, expr_text, of_argument, argument_text}
 use Rattle.sw_convert_written.proofs.Unrolled as unrolled
 use Rattle.sw_convert_passing.specs.Kinds.{ends_bound}
 use Rattle.sw_convert_passing.specs.Written.{Written, direct}
@@ -138,25 +138,33 @@ owned_call_written source i was owner {text} {args} {tokens} name dotted args_wr
 -- ---- names that were read
 
 -- no sort of such a name has a meaning of its own
-free_sort : (kind : TokenKind) (text : List ℕ) → names.is_name kind ≡ true → is_free_name text ≡ true
-    → (is_reserved (sort_of kind text) ≡ false) × (is_special_name (sort_of kind text) ≡ false)
-free_sort kinds.Word text n free =
-    let more = and_right (not (is_reserved (word_sort text))) _ free in (
-      not_true (is_reserved (word_sort text)) (and_left (not (is_reserved (word_sort text))) _ free),
-      not_true (is_special_name (word_sort text)) (and_left (not (is_special_name (word_sort text))) _ more),
-    )
-free_sort kinds.Name text n free =
-    go (is_prefixed_calc text)
-    (not_true (is_prefixed_calc text)
-    (and_right (not (is_special_name (word_sort text))) _ (and_right (not (is_reserved (word_sort text))) _ free)))
+free_sort : (owned : Bool) (kind : TokenKind) (text : List ℕ) → names.is_name kind ≡ true → is_free_name owned text ≡ true
+    → (is_reserved (sort_of kind text) ≡ false) × ((owned || not (is_special_name (sort_of kind text))) ≡ true)
+free_sort owned kinds.Word text n free = (
+  not_true (is_reserved (word_sort text)) (and_left (not (is_reserved (word_sort text))) _ free),
+  first owned (and_right (not (is_reserved (word_sort text))) _ free),
+)
   where
-    go : (t : Bool) → t ≡ false
-        → (is_reserved (if t then sorts.Special else sorts.Name) ≡ false)
-        × (is_special_name (if t then sorts.Special else sorts.Name) ≡ false)
-    go true e = absurd (cc)
-    go false e = (refl, refl)
-free_sort kinds.DashedName text n free = (refl, refl)
-free_sort _ text n free = absurd (cc)
+    first : (t : Bool) → (t || (not (is_special_name (word_sort text)) && not (is_prefixed_calc text))) ≡ true
+        → (t || not (is_special_name (word_sort text))) ≡ true
+    first true e = refl
+    first false e = and_left (not (is_special_name (word_sort text))) _ e
+free_sort owned kinds.Name text n free =
+    go owned (is_prefixed_calc text) (and_right (not (is_reserved (word_sort text))) _ free)
+  where
+    go : (t u : Bool) → (t || (not (is_special_name (word_sort text)) && not u)) ≡ true
+        → (is_reserved (if u then sorts.Special else sorts.Name) ≡ false)
+        × ((t || not (is_special_name (if u then sorts.Special else sorts.Name))) ≡ true)
+    go true true e = (refl, refl)
+    go true false e = (refl, refl)
+    go false true e = absurd (let wrong : false ≡ true = and_right (not (is_special_name (word_sort text))) false e in cc)
+    go false false e = (refl, refl)
+free_sort owned kinds.DashedName text n free = (refl, either owned)
+  where
+    either : (t : Bool) → (t || true) ≡ true
+    either true = refl
+    either false = refl
+free_sort owned _ text n free = absurd (cc)
 
 -- no name begins with a digit or a `.`
 dot_fits : (bs : List ℕ) → Start (byte bs 0) → Fits kinds.Dot bs
@@ -166,16 +174,16 @@ dot_fits bs start =
     (names.neither (is_digit (byte bs 0)) _ start.digit (names.left_no (byte bs 0 == sign ".") _ start.dot))
 
 pub name_called : (source : Source) (i : ℕ) → WasRead source → Old source i (just terminals.Word)
-    → is_free_name (bytes_at source i) ≡ true → is_url (bytes_at source i) ≡ false → (owned : Bool)
+    → (owned : Bool) → is_free_name owned (bytes_at source i) ≡ true → is_url (bytes_at source i) ≡ false
     → Callee owned (bytes_at source i) (tok terminals.Word (from_start source i [] 1) ∷ [])
-name_called source i was old free no_url owned before spaced calm =
+name_called source i was old owned free no_url before spaced calm =
     let it = old_token source was i old.lexeme old.there in
     let sort = sort_of it.kind it.text in
     let n : is_name sort ≡ true =
     ap (λ (t : Terminal). fits t sort) (sym (only_word old.lexeme.terminal old.kind)) ∙ it.fit in
     let k = kind_of_name it.kind it.text n in
     let bytes_are = copied_bytes source i old.lexeme it n in
-    let plain = free_sort it.kind it.text k (ap is_free_name (sym bytes_are) ∙ free) in
+    let plain = free_sort owned it.kind it.text k (ap (is_free_name owned) (sym bytes_are) ∙ free) in
     let url = ap is_url (sym bytes_are) ∙ no_url in record {
       passed = _;
       segment = as_text (ap (λ (t : List ℕ). gap_of spaced ++ t) (sym bytes_are))
@@ -186,12 +194,8 @@ name_called source i was old free no_url owned before spaced calm =
       told = λ mode b. named sort n
           (names.both (not (is_reserved sort)) _ (ap not plain.0)
           (names.both (not (ends_bound mode sort)) _ (ap not (unbounded mode sort b))
-          (either owned (not (is_special_name sort)) (ap not plain.1)))) no_part;
+          plain.1)) no_part;
     }
-  where
-    either : (a b : Bool) → b ≡ true → (a || (false || b)) ≡ true
-    either true b e = refl
-    either false b e = e
 
 pub name_dotted : (source : Source) (i : ℕ) → WasRead source → Old source i (just terminals.Word)
     → Dotted (bytes_at source i)
@@ -215,18 +219,18 @@ named_text source i =
     ∙ ap (pieces_text manners.Joined) (unrolled.plain_is (bytes_at source i))
 
 pub call_shown : (namespace : Option Namespaced) (parts : Parts) (args : List Argument) (span name_span : Span) (name : List ℕ)
-    → pieces_text manners.Joined (parts_written parts) ≡ name → is_url name ≡ false
+    → pieces_text manners.Joined (parts_written parts) ≡ name → ends_in_url name ≡ false
     → expr_text (expression (exprs.Call (callee_of namespace (record { parts = parts; span = name_span })) args) span)
     ≡ (space_text namespace ++ name) ++ (codes "(" ++ (with_commas true (map argument_text args) ++ codes ")"))
 call_shown namespace parts args span name_span name is no_url =
     unrolled.call_is (callee_of namespace (record { parts = parts; span = name_span })) args
-    ∙ ap (λ (t : List ℕ). call_text (record { text = space_text namespace ++ t; url = is_url t }) (map of_argument args)) is
+    ∙ ap (λ (t : List ℕ). call_text (record { text = space_text namespace ++ t; url = ends_in_url t }) (map of_argument args)) is
     ∙ ap (λ (t : Bool). call_text (record { text = space_text namespace ++ name; url = t }) (map of_argument args)) no_url
     ∙ ap (λ (t : List ℕ). (space_text namespace ++ name) ++ (codes "(" ++ (t ++ codes ")"))) (unrolled.arguments_are args)
 
 -- of one name
 pub named_call_text : (source : Source) (i : ℕ) (namespace : Option Namespaced) (args : List Argument) (span name_span : Span)
-    → is_url (bytes_at source i) ≡ false
+    → ends_in_url (bytes_at source i) ≡ false
     → expr_text
     (expression
     (exprs.Call (callee_of namespace (record { parts = parts_between source i (suc i) []; span = name_span })) args) span)

@@ -33,7 +33,6 @@ use Rattle.sw_convert_passing.specs.Values.{number, negative}
 use Rattle.sw_convert_again.specs.Tokens.{Bytes, tok}
 use Rattle.sw_convert_again.specs.Tokens as again
 use Rattle.sw_convert_again.proofs.Tokens.{one_byte}
-use Rattle.sw_convert_tokens.specs.Counted.{is_counted, is_minus_counted}
 use Rattle.sw_convert_tokens.specs.Joints.{Segment}
 use Rattle.sw_convert_tokens.specs.Written.{Follows, begins_white, stops, gap_of, AsValue, WrittenAs}
 use Rattle.sw_convert_tokens.proofs.Stops.{Dark, stopped}
@@ -44,6 +43,18 @@ use Rattle.sw_convert_tokens.proofs.NumberPieces.{is_numeric, digits_alone, star
 use Rattle.sw_convert_tokens.proofs.NumberEnds.{no_point, name_exponent, unit_ends}
 use Rattle.sw_convert_tokens.proofs.Numbers.{Quiet, quiet_unclosed, numeric_opens, numeric_seen, numeric_sort, numeric_behind, calm_hash}
 use Rattle.sw_convert_tokens.proofs.Words.{bytes_sit}
+
+-- a number with its unit and nothing else, of which no escape is part but in the unit
+abbrev pub is_counted : List ℕ → Bool
+is_counted text =
+    begins_number text 0
+    && ((unit_end text (unit_start text 0) == length text)
+    && list_all (λ b. not (b == sign "\\")) (take (unit_start text 0) text))
+
+-- the same behind a `-`
+abbrev pub is_minus_counted : List ℕ → Bool
+is_minus_counted [] = false
+is_minus_counted (b ∷ text) = (b == sign "-") && is_counted text
 
 equal : (a b : ℕ) → (a == b) ≡ true → a ≡ b
 equal a b e = grind (arith, nat_tests)

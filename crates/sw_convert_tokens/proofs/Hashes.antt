@@ -1,4 +1,4 @@
--- Colours are written as they stood.
+-- Colours, and other names behind a `#`, are written as they stood.
 use Rattle.std.proofs.Common.{◌≡◌, ◌<◌, ℕ, suc, ◌+◌, ◌-◌, Bool, true, false, not, ◌&&◌, ◌||◌, List, [], ◌∷◌, ◌++◌, length, refl, sym, ◌∙◌, ap, subst, arith, lit<}
 use Rattle.std.specs.Prelude.{◌==◌, codes, nat_lt}
 use Rattle.std.specs.List.{list_all}
@@ -7,25 +7,39 @@ use Rattle.sw_text_scan.specs.declared.runs.Class.TheVariants as classes
 use Rattle.sw_text_scan.specs.Bytes.{sign, byte, is_white, is_quote, is_hex_digit, is_name_byte, opens_at, begins_silent, begins_loud}
 use Rattle.sw_text_scan.specs.Runs.{next, run_end}
 use Rattle.sw_text_scan.proofs.Bounds.{if_true, if_false, and_left, and_right, run_step, run_stop}
+use Rattle.sw_text_locality.proofs.Written.{byte_before}
+use Rattle.sw_tokens.specs.declared.pieces.Before.{Before}
 use Rattle.sw_tokens.specs.declared.pieces.Before.TheVariants as befores
+use Rattle.sw_tokens.specs.declared.pieces.Change.{Change}
 use Rattle.sw_tokens.specs.declared.pieces.Change.TheVariants as changes
 use Rattle.sw_tokens.specs.declared.skips.Inside.{Inside}
 use Rattle.sw_tokens.specs.declared.skips.Inside.TheVariants as insides
+use Rattle.sw_tokens.specs.declared.token.TokenKind.{TokenKind}
 use Rattle.sw_tokens.specs.declared.token.TokenKind.TheVariants as kinds
-use Rattle.sw_tokens.specs.Pieces.{made, piece, has_hex_length, is_hex_form, in_interpolation, word_piece, code_piece}
+use Rattle.sw_tokens.specs.Pieces.{made, piece, name_piece, has_hex_length, is_hex_form, in_interpolation, word_piece, code_piece}
+use Rattle.sw_tokens.specs.Tokens.{is_spaced}
 use Rattle.sw_parse_terminals.specs.declared.terminal.Terminal.TheVariants as terminals
 use Rattle.sw_parse_lexemes.specs.declared.sort.Sort.TheVariants as sorts
+use Rattle.sw_parse_lexemes.specs.Classes.{is_name as is_name_sort}
+use Rattle.sw_parse_lexemes.specs.Sorts.{sort_of}
 use Rattle.sw_parse_table.specs.Sources.{bytes_between}
 use Rattle.sw_convert_spelling.specs.Spelt.{is_sheet_code, behind_gap}
 use Rattle.sw_convert_spelling.proofs.MovedRuns as moved
-use Rattle.sw_convert_spelling.proofs.Choices.{left_no, both}
+use Rattle.sw_convert_spelling.proofs.Choices.{left_no, both, by_test, is_name}
+use Rattle.sw_convert_passing.specs.Written.{written, direct}
 use Rattle.sw_convert_passing.specs.Values.{hash}
 use Rattle.sw_convert_again.specs.Tokens.{Bytes, tok}
 use Rattle.sw_convert_again.specs.Tokens as again
+use Rattle.sw_convert_tokens.specs.Joints.{Segment}
 use Rattle.sw_convert_tokens.specs.Written.{Follows, gap_of, AsValue, WrittenAs}
-use Rattle.sw_convert_tokens.specs.Hashes.{is_colour}
 use Rattle.sw_convert_tokens.proofs.Signs.{Fits, sign_token}
-use Rattle.sw_convert_tokens.proofs.Stops.{Dark, stopped, no_more_name}
+use Rattle.sw_convert_tokens.proofs.Stops.{Dark, stopped, no_more_name, follows_parts, nothing_parts}
+use Rattle.sw_convert_tokens.proofs.HexForms.{is_form}
+use Rattle.sw_convert_tokens.proofs.NamePieces.{name_keep}
+use Rattle.sw_convert_tokens.proofs.Names.{name_hash, name_start}
+use Rattle.sw_convert_tokens.proofs.OriginChoices.{hash_name}
+use Rattle.sw_convert_tokens.proofs.Unclosed.{Ends, follows_end}
+use Rattle.sw_convert_tokens.proofs.Words.{name_yes, name_opens, name_behind, name_comment}
 use Rattle.sw_convert_tokens.proofs.Pairs.{pair_segment}
 
 -- what a hexadecimal digit isn't
@@ -123,6 +137,11 @@ module _ (ds after : List ℕ) (all : list_all is_hex_digit ds ≡ true) (long :
   unfolding byte
   hash_fits = ap (λ (x : Bool). not (x || false) && true) (digit_by (byte bs 0) first).open_brace
 
+-- `#` and three, four, six or eight hexadecimal digits
+abbrev pub is_colour : List ℕ → Bool
+is_colour [] = false
+is_colour (b ∷ digits) = (b == sign "#") && is_form digits
+
 pub colour_written : (text : List ℕ) → is_colour text ≡ true
     → WrittenAs (AsValue false) text (tok terminals.Hash (Bytes 2 text) ∷ again.sign terminals.HashName ∷ [])
 unfolding byte
@@ -159,3 +178,50 @@ colour_written (b ∷ ds) e = by_hash b (is_hash b (and_left (b == sign "#") _ e
         subst
         (λ (x : ℕ). WrittenAs (AsValue false) (x ∷ ds) (tok terminals.Hash (Bytes 2 (x ∷ ds)) ∷ again.sign terminals.HashName ∷ []))
         e whole
+
+-- ---- names that are no colour
+
+hash_ends : Ends (sign "#")
+hash_ends = record { slash = refl; digit = refl }
+
+module _ (w old : List ℕ) (kind : TokenKind) (change : Change) (k : is_name kind ≡ true) (some : 0 < length w)
+    (is : name_piece (w ++ old) 0 ≡ made kind (length w) change) where
+  n : is_name_sort (sort_of kind w) ≡ true
+  n = name_yes kind w k
+
+  fits : (after : List ℕ) → Fits kinds.Hash (w ++ after)
+  unfolding byte
+  fits after =
+      ap (λ (x : Bool). not (x || false) && true)
+      (ap (λ (b : ℕ). b == sign "{") (byte_before w after 0 some)
+      ∙ (name_start w old [] kind change k some is (nothing_parts w)).opening)
+
+  named_written : is_form w ≡ false
+      → WrittenAs (AsValue false) (codes "#" ++ w)
+      (tok terminals.Hash (Bytes 2 (codes "#" ++ w)) ∷ again.sign terminals.HashName ∷ [])
+  unfolding byte
+  named_written none before spaced calm =
+      let text = codes "#" ++ w in record {
+        passed = _;
+        segment = subst
+            (λ (end : Before). Segment before (gap_of spaced ++ text) (tok terminals.Hash (Bytes 2 text) ∷ again.sign terminals.HashName ∷ []) (written (sort_of kinds.Hash (codes "#")) (is_spaced (behind_gap before (gap_of spaced))) terminals.Hash ∷ direct (sort_of kind w) terminals.HashName ∷ []) end (Follows text))
+            (name_behind kind k)
+            (pair_segment kinds.Hash kind (codes "#") w (terminals.Hash ∷ []) (terminals.HashName ∷ []) (Bytes 2 text) before spaced
+            (Follows text) refl (name_opens kind k) refl (name_comment (sort_of kind w) n) refl (lit< tt) some
+            (λ new at same. ap (bytes_between new at) (let z : at + 2 ≡ suc (suc at) = omega arith in z) ∙ same)
+            (λ inside after code f.
+            sign_token kinds.Hash (w ++ after) inside (behind_gap before (gap_of spaced)) refl code calm (fits after))
+            (λ inside after code f.
+            name_hash w old after kind change k some is
+            (follows_parts w after (follows_end [] w (sign "#") hash_ends after f)) none inside code
+            ∙ ap (made kind (length w)) (name_keep kind (length w) change k (w ++ old) is)));
+        told = λ mode free. hash (sort_of kind w) (hash_name (sort_of kind w) n);
+      }
+
+  pub hashed_written : WrittenAs (AsValue false) (codes "#" ++ w)
+      (tok terminals.Hash (Bytes 2 (codes "#" ++ w)) ∷ again.sign terminals.HashName ∷ [])
+  hashed_written =
+      by_test
+      (WrittenAs (AsValue false) (codes "#" ++ w)
+      (tok terminals.Hash (Bytes 2 (codes "#" ++ w)) ∷ again.sign terminals.HashName ∷ []))
+      (is_form w) (λ t. colour_written (codes "#" ++ w) t) named_written

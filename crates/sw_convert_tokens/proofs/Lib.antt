@@ -14,6 +14,7 @@ pub mod Decodings
 pub mod OpenEscapes
 pub mod PieceCases
 pub mod NamePieces
+pub mod HexForms
 pub mod Names
 pub mod Dashes
 pub mod Words
@@ -35,3 +36,5 @@ pub mod Hashes
 pub mod Laid
 pub mod Sitting
 pub mod Counted
+pub mod CountedBytes
+pub mod Staying

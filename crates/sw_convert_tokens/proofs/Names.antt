@@ -30,6 +30,7 @@ use Rattle.sw_convert_tokens.specs.Written.{is_calm, begins_white}
 use Rattle.sw_text_locality.proofs.Characters.{Character, known, character_next, hex_some}
 use Rattle.sw_text_locality.proofs.Characters.Character.{plain, escaped, closed, paired, unclosed}
 use Rattle.sw_text_locality.proofs.Written.{byte_before}
+use Rattle.sw_convert_tokens.proofs.HexForms.{is_form, no_form}
 use Rattle.sw_convert_tokens.proofs.OpenEscapes.{name_open}
 use Rattle.sw_convert_tokens.proofs.Stops.{Dim, Parted, Behind, parted_behind, white_same, no_escape, name_ends}
 use Rattle.sw_convert_tokens.proofs.NamePieces.{name_run}
@@ -68,6 +69,7 @@ pub record Start (b : ℕ) : Type 0 where
   pub slash : (b == sign "/") ≡ false
   pub digit : is_digit b ≡ false
   pub dot : (b == sign ".") ≡ false
+  pub opening : (b == sign "{") ≡ false
 
 pub start_by : (b : ℕ) → (starts_plainly b || ((b == sign "\\") || (b == sign "-"))) ≡ true → Start b
 start_by b e = record {
@@ -78,6 +80,7 @@ start_by b e = record {
   slash = grind (arith, nat_tests);
   digit = grind (arith, nat_tests);
   dot = grind (arith, nat_tests);
+  opening = grind (arith, nat_tests);
 }
 
 module _ (cs : List ℕ) where
@@ -361,6 +364,22 @@ module _ (w old after : List ℕ) (kind : TokenKind) (change : Change) (k : is_n
   dollar_at insides.Interpolation code = dollar_code insides.Interpolation
   dollar_at _ code = absurd (cc)
 
+  -- and behind a `#`, where it is no hexadecimal form
+  hash_code : is_form w ≡ false → (top : Inside) → code_piece cs top befores.Hash 0 ≡ made kind (length w) change
+  hash_code none top =
+      code_name cs top befores.Hash (start_of cs name_here)
+      (neither (is_hex_form cs 0) _ (no_form w after (run_at cs name_here) none)
+      (neither (begins_range cs 0) (begins_url cs 0)
+      (no_range cs (length w) (run_at cs name_here) (subst Dim (sym behind_is) dark) no_url_here)
+      (no_url cs (length w) (run_at cs name_here) (subst Dim (sym behind_is) dark) no_url_here)))
+      ∙ name_here
+
+  hash_at : is_form w ≡ false → (inside : Inside) → is_sheet_code inside ≡ true
+      → piece cs inside befores.Hash 0 ≡ made kind (length w) change
+  hash_at none insides.Sheet code = hash_code none insides.Sheet
+  hash_at none insides.Interpolation code = hash_code none insides.Interpolation
+  hash_at none _ code = absurd (cc)
+
   -- it begins with no white space
   black_at : is_white (byte w 0) ≡ false
   black_at = ap is_white (sym (byte_before w old 0 some)) ∙ (start_of (w ++ old) is).white
@@ -378,6 +397,10 @@ module _ (w old after : List ℕ) (kind : TokenKind) (change : Change) (k : is_n
   pub name_dollar : (inside : Inside) → is_sheet_code inside ≡ true
       → piece (w ++ after) inside befores.Dollar 0 ≡ made kind (length w) change
   name_dollar = dollar_at w old after kind change k some is (parted_behind w after p)
+
+  pub name_hash : is_form w ≡ false → (inside : Inside) → is_sheet_code inside ≡ true
+      → piece (w ++ after) inside befores.Hash 0 ≡ made kind (length w) change
+  name_hash = hash_at w old after kind change k some is (parted_behind w after p)
 
   -- it begins with no white space
   pub name_black : is_white (byte w 0) ≡ false

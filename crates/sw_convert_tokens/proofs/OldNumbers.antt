@@ -126,7 +126,7 @@ only_sign : (terminal : Terminal) → member (number_of terminal) (just terminal
 only_sign terminals.Sign m = refl
 only_sign _ m = absurd (cc)
 
-only_number : (terminal : Terminal) → member (number_of terminal) (just terminals.Number) ≡ true
+pub only_number : (terminal : Terminal) → member (number_of terminal) (just terminals.Number) ≡ true
     → terminal ≡ terminals.Number
 only_number terminals.Number m = refl
 only_number _ m = absurd (cc)
@@ -207,12 +207,12 @@ module _ (source : Source) (was : WasRead source) where
         unsigned = number_unsigned it.text own.after own.some here.begins;
       }
 
-  record OldSignByte (k : ℕ) : Type 0 where
-    byte_is : ℕ
-    is : bytes_at source k ≡ byte_is ∷ []
-    sign_is : pm_byte byte_is ≡ true
+  pub record OldSignByte (k : ℕ) : Type 0 where
+    pub byte_is : ℕ
+    pub is : bytes_at source k ≡ byte_is ∷ []
+    pub sign_is : pm_byte byte_is ≡ true
 
-  old_sign : (k : ℕ) → Old source k (just terminals.Sign) → OldSignByte k
+  pub old_sign : (k : ℕ) → Old source k (just terminals.Sign) → OldSignByte k
   unfolding byte
   old_sign k old =
       let it = old_token source was k old.lexeme old.there in

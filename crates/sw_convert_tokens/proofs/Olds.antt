@@ -18,7 +18,7 @@ use Rattle.sw_tokens.specs.declared.token.Token.{Token}
 use Rattle.sw_tokens.specs.declared.token.TokenKind.{TokenKind}
 use Rattle.sw_tokens.specs.Ends.{opens, reached, tokens_by, tokens_in, tokens_of}
 use Rattle.sw_tokens.specs.Pieces.{made, piece}
-use Rattle.sw_tokens.specs.Tokens.{top, changed, before_of, last_start, kept_by, kept, behind, finished, walk, rest, pieces_of}
+use Rattle.sw_tokens.specs.Tokens.{top, changed, before_of, last_start, kept_by, kept, behind, finished, walk, rest, pieces_of, is_spaced}
 use Rattle.sw_tokens.proofs.Forward.{piece_onward}
 use Rattle.sw_parse_terminals.specs.declared.lexeme.Lexeme.{Lexeme}
 use Rattle.sw_parse_lexemes.specs.declared.plain.Plain.{Plain}
@@ -60,6 +60,7 @@ pub record HasPiece (bs : List ℕ) (t : Token) : Type 0 where
   pub change : Change
   pub own : ℕ
   pub is : piece bs inside before t.from ≡ made t.kind own change
+  pub spaced : t.spaced ≡ is_spaced before
   pub within : t.from < length bs
   pub closed : opens t.kind ≡ false → own ≡ t.to
 
@@ -77,7 +78,7 @@ module _ (bs : List ℕ) where
       → Every (HasPiece bs) (kept_by token at to before)
   piece_kept inside before at None to change within is = tt
   piece_kept inside before at (Some kind) to change within is = (
-    record { inside = inside; before = before; change = change; own = to; is = is; within = within; closed = λ o. refl },
+    record { inside = inside; before = before; change = change; own = to; is = is; spaced = refl; within = within; closed = λ o. refl },
     tt,
   )
 
@@ -131,6 +132,7 @@ module _ (bs : List ℕ) where
       change = e.change;
       own = e.own;
       is = e.is;
+      spaced = e.spaced;
       within = e.within;
       closed = λ o. e.closed o ∙ sym (if_false (opens t.kind) _ _ o);
     },

@@ -41,7 +41,7 @@ fits terminals.Url sort = is_url sort
 fits terminals.Range sort = is_range sort
 fits _ sort = true
 
-hash_name : (sort : Sort) → is_name sort ≡ true → is_hash_name sort ≡ true
+pub hash_name : (sort : Sort) → is_name sort ≡ true → is_hash_name sort ≡ true
 hash_name sorts.Hex n = refl
 hash_name _ n = n
 

@@ -5,5 +5,3 @@ pub mod Words
 pub mod Variables
 pub mod Numbers
 pub mod Calls
-pub mod Hashes
-pub mod Counted

@@ -1,5 +1,6 @@
 mod Quotients
 mod Shapes
 mod Called
+mod Strings
 mod Values
 pub mod ReadsBack

@@ -5,7 +5,7 @@ use Rattle.std.specs.List.{list_all}
 use Rattle.sw_text.specs.Names.{dashed}
 use Rattle.sw_text.specs.declared.place.Span.{Span}
 use Rattle.sw_text_scan.specs.Bytes.{sign}
-use Rattle.sw_text_scan.proofs.Bounds.{and_left, and_right, not_true}
+use Rattle.sw_text_scan.proofs.Bounds.{and_left, and_right}
 use Rattle.sw_tokens.specs.declared.token.TokenKind.TheVariants as kinds
 use Rattle.sw_tree.specs.declared.text.Parts.{Parts}
 use Rattle.sw_tree.specs.declared.text.Parts.TheVariants.{Plain as PlainParts}
@@ -47,7 +47,7 @@ use Rattle.sw_convert_again.specs.Spells.{from_start, is_named, without_named, u
 use Rattle.sw_convert_again.specs.Spells as spells
 use Rattle.sw_convert_tokens.specs.Written.{AsValue, AsRow, WrittenAs}
 use Rattle.sw_convert_tokens.specs.Values.{WasRead, IsValueWritten}
-use Rattle.sw_convert_values.specs.Values.{is_called, is_owned_called, is_text, are_apart, has_insert, is_single_word, is_single, SinglesAreWritten, ValuesAreWritten}
+use Rattle.sw_convert_values.specs.Values.{is_called, is_text, are_some, begins_plus, is_single_word, is_single, SinglesAreWritten, ValuesAreWritten}
 use Rattle.sw_convert_tokens.proofs.Ends.{bare_list, no_sign_behind}
 use Rattle.sw_convert_tokens.proofs.Signs.{Fits}
 use Rattle.sw_convert_tokens.proofs.Unclosed.{slash_ends, unclosed_behind}
@@ -55,10 +55,8 @@ use Rattle.sw_convert_tokens.proofs.Spaces.{unclosed_spaced}
 use Rattle.sw_convert_tokens.proofs.Between.{operators_are, binary_by, beside_written, linked_written, divided_written, unclosed_linked, prefix_by, prefix_written}
 use Rattle.sw_convert_values.proofs.Quotients.{number_begun}
 use Rattle.sw_convert_spelling.proofs.Choices.{by_test}
-use Rattle.sw_convert_tokens.specs.Hashes.{is_colour}
-use Rattle.sw_convert_tokens.specs.Counted.{is_counted, is_minus_counted}
-use Rattle.sw_convert_tokens.proofs.Counted.{number_stays, minus_stays}
-use Rattle.sw_convert_tokens.proofs.Hashes.{colour_written}
+use Rattle.sw_convert_tokens.proofs.Staying.{number_kept, sign_bytes, minus_kept}
+use Rattle.sw_convert_texts.proofs.OldHashes.{hash_written}
 use Rattle.sw_convert_tokens.proofs.Undollared.{placed_argument}
 use Rattle.sw_convert_tokens.proofs.Arguments.{IsItems, AreArguments, value_argument, name_argument, first_argument, further_argument, colon_argument, dots_behind, no_arguments_written, arguments_written}
 use Rattle.sw_convert_tokens.proofs.Templates.{IsText, nothing_more, text_more, insert_more, template_written}
@@ -75,7 +73,8 @@ use Rattle.sw_convert_tokens.proofs.Words.{words_written}
 use Rattle.sw_convert_tokens.proofs.Ranges.{range_written}
 use Rattle.sw_convert_tokens.proofs.Decodings.{decoded_there}
 use Rattle.sw_convert_values.proofs.Shapes.{same, same_row, stays_as, list_around, bare_text, pieces_more, quoted_is, text_some, is_divided, again_behind, three, tokens_behind, parens_text, brackets_text}
-use Rattle.sw_convert_values.proofs.Called.{called_in, owned_in, begun_in, arguments_as, named_text}
+use Rattle.sw_convert_values.proofs.Called.{called_in, owned_in, arguments_as, named_text}
+use Rattle.sw_convert_values.proofs.Strings.{TextBefore, text_before, text_alone, begun_in}
 
 module _ (source : Source) (was : WasRead source) (known : SinglesAreWritten source) where
   abbrev IsWritten : ℕ → List ℕ → List Tok → Type 0
@@ -143,16 +142,12 @@ module _ (source : Source) (was : WasRead source) (known : SinglesAreWritten sou
         (sym (unrolled.quoted_is (PlainParts (decoded_at source i)) ∙ ap quoted_text (unrolled.plain_is (decoded_at source i)))) refl
         (quoted_written (decoded_at source i) (decoded_there source was i))))
     either (spells.template {texts = texts} span opens inner close) =
-        inl (by_test (IsWritten _ _ _) (are_apart false inner && has_insert inner)
+        inl (by_test (IsWritten _ _ _) (are_some inner)
         (λ e. unsigned (same (sym (quoted_is span texts)) refl
-        (template_written (pieces_in false inner (and_left (are_apart false inner) _ e))
-        (begun_in source was inner (and_left (are_apart false inner) _ e) (and_right (are_apart false inner) _ e)))))
+        (template_written (pieces_in false (λ t. absurd (cc)) inner e) (begun_in source was opens inner close))))
         (λ e. single (spells.template span opens inner close) (ap not e)))
     either (spells.hash {i} span one two) =
-        let text = bytes_between source i (suc (suc i)) in
-        inl (by_test (IsWritten _ _ _) (is_colour text)
-        (λ e. unsigned (same (sym (unrolled.hash_is text)) refl (colour_written text e)))
-        (λ e. single (spells.hash span one two) (ap not e)))
+        inl (unsigned (same (sym (unrolled.hash_is (bytes_between source i (suc (suc i))))) refl (hash_written source was i one two)))
     either (spells.constant span old) =
         inl (unsigned (same (sym (constant_is old span)) refl
         (constant_written (constant_by old.lexeme.terminal old.kind))))
@@ -163,15 +158,15 @@ module _ (source : Source) (was : WasRead source) (known : SinglesAreWritten sou
     either (spells.url_template span opens inner close) = inl (single (spells.url_template span opens inner close) refl)
     either (spells.special span name opens inner close) = inl (single (spells.special span name opens inner close) refl)
     either (spells.stays_number {i} span old) =
-        let text = bytes_between source i (suc i) in
-        inl (by_test (IsWritten _ _ _) (is_counted text)
-        (λ e. unsigned (same (sym (stays_as text span)) refl (number_stays text e)))
-        (λ e. single (spells.stays_number span old) (ap not e)))
-    either (spells.stays_signed {i} span one two) =
-        let text = bytes_between source i (suc (suc i)) in
-        inl (by_test (IsWritten _ _ _) (is_minus_counted text)
-        (λ e. unsigned (same (sym (stays_as text span)) refl (minus_stays text e)))
-        (λ e. single (spells.stays_signed span one two) (ap not e)))
+        inl (unsigned (same (sym (stays_as (bytes_between source i (suc i)) span)) refl (number_kept source was i old)))
+    either (spells.stays_signed {i} span one two) = inl (by_sign (sign_bytes source was i one))
+      where
+        by_sign : (bytes_at source i ≡ codes "+") ⊎ (bytes_at source i ≡ codes "-")
+            → IsWritten i (expr_text (expression (exprs.Special (PlainParts (bytes_between source i (suc (suc i))))) span))
+            (tok terminals.Sign (again.Bytes 2 (bytes_between source i (suc (suc i)))) ∷ again.sign terminals.Number ∷ [])
+        by_sign (inl e) = single (spells.stays_signed span one two) (ap begins_plus e)
+        by_sign (inr e) =
+            unsigned (same (sym (stays_as (bytes_between source i (suc (suc i))) span)) refl (minus_kept source was i one two e))
     either (spells.variable {i} span one two) =
         inl (unsigned (same (sym (unrolled.variable_is (dashed (bytes_at source (suc i))))) refl
         (variable_written source (suc i) was two)))
@@ -191,11 +186,11 @@ module _ (source : Source) (was : WasRead source) (known : SinglesAreWritten sou
         inl (mixed_in span (spells.begun_minus minus opens inner close more) refl refl
         (row_in value (either inner), row_values more))
     either (spells.call {args = args} span name_span name opens inner close) =
-        inl (by_test (IsWritten _ _ _) (is_called source name)
+        inl (by_test (IsWritten _ _ _) (is_called source false name)
         (λ e. unsigned (called_in source was args span name_span name e (word_values name) (arguments_in inner)))
         (λ e. single (spells.call span name_span name opens inner close) (ap not e)))
     either (spells.owned_call {args = args} span name_span owner dot name opens inner close) =
-        inl (by_test (IsWritten _ _ _) (is_owned_called source name)
+        inl (by_test (IsWritten _ _ _) (is_called source true name)
         (λ e. unsigned (owned_in source was args span name_span owner name e (word_values name) (arguments_in inner)))
         (λ e. single (spells.owned_call span name_span owner dot name opens inner close) (ap not e)))
     either (spells.parent span old) = inl (unsigned (same (sym unrolled.parent_is) refl parent_written))
@@ -374,25 +369,25 @@ module _ (source : Source) (was : WasRead source) (known : SinglesAreWritten sou
     word_values (spells.begun_minus {value = value} minus opens inner close row) =
         (row_in value (either inner), row_values row)
 
-    -- text and values in a string
-    pieces_in : (behind : Bool) → {i j : ℕ} {texts : List Piece} {tokens : List Tok}
-        → (it : SpellsPieces source i j texts tokens) → are_apart behind it ≡ true
+    -- text and values in a string, behind a text or not
+    pieces_in : (behind : Bool) → {i j : ℕ} {texts : List Piece} {tokens : List Tok} → (behind ≡ true → TextBefore source i)
+        → (it : SpellsPieces source i j texts tokens) → are_some it ≡ true
         → IsText behind (pieces_text manners.Quoted (map piece_written texts)) tokens
-    pieces_in behind spells.no_pieces e = nothing_more behind
-    pieces_in behind (spells.text_piece {i} {texts = texts} {tokens = tokens} old more) e =
+    pieces_in behind before spells.no_pieces e = nothing_more behind
+    pieces_in behind before (spells.text_piece {i} {texts = texts} {tokens = tokens} old more) e =
         let said = decoded_at source i in
-        let inner = and_right (not behind) _ e in
         subst (λ (t : List ℕ). IsText behind t (tok terminals.TextPiece (again.Decoded said) ∷ tokens))
         (sym (pieces_more (pieces.Text said) texts
         ∙ ap (λ (w : Written). piece_text manners.Quoted w ++ pieces_text manners.Quoted (map piece_written texts)) (unrolled.said_is said)))
-        (text_more behind (not_true behind (and_left (not behind) _ e)) said (decoded_there source was i)
-        (text_some said (and_left (is_text said) _ inner)) (pieces_in true more (and_right (is_text said) _ inner)))
-    pieces_in behind
+        (text_more behind (text_alone source was i old behind before) said (decoded_there source was i)
+        (text_some said (and_left (is_text said) _ e))
+        (pieces_in true (λ t. text_before i old) more (and_right (is_text said) _ e)))
+    pieces_in behind before
         (spells.inserted_piece {value = value} {texts = texts} {tokens = tokens} {others = others} opens inner closes more) e =
         subst (λ (t : List ℕ). IsText behind t (again.sign terminals.Insert ∷ (tokens ++ again.sign terminals.InsertEnd ∷ others)))
         (sym (pieces_more (pieces.Inserted value) texts
         ∙ ap (λ (w : Written). piece_text manners.Quoted w ++ pieces_text manners.Quoted (map piece_written texts)) (unrolled.inserted_is value)))
-        (insert_more behind (row_in value (either inner)) (pieces_in false more e))
+        (insert_more behind (row_in value (either inner)) (pieces_in false (λ t. absurd (cc)) more e))
 
     -- arguments
     argument_in : {i j : ℕ} {arg : Argument} {tokens : List Tok} → SpellsArgument source i j arg tokens
