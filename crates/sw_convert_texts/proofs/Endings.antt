@@ -1,17 +1,19 @@
 -- What may stand behind a word: what may behind a value, or the arguments of a call.
-use Rattle.std.proofs.Common.{◌≡◌, ℕ, Bool, true, false, ◌&&◌, ◌||◌, List, [], ◌∷◌, ◌++◌, Option, Some, None, inr, refl, sym, ◌∙◌, ap, arith}
+use Rattle.std.proofs.Common.{◌≡◌, ℕ, Bool, true, false, ◌&&◌, ◌||◌, List, [], ◌∷◌, ◌++◌, Option, Some, None, ◌⊎◌, inl, inr, refl, sym, ◌∙◌, ap, subst, arith}
 use Rattle.std.specs.Prelude.{◌==◌}
 use Rattle.std.specs.List.{list_all}
 use Rattle.std.proofs.lemmas.Bool.Decides.{nat_tests}
 use Rattle.sw_text_scan.specs.Bytes.{sign, byte, is_white, is_digit, is_name_byte, starts_plainly}
+use Rattle.sw_text_scan.specs.Words.{is_u}
 use Rattle.sw_text_scan.proofs.Bounds.{if_false, and_left, and_right, or_left, or_right, not_true}
-use Rattle.sw_convert_spelling.proofs.Choices.{left_no, right_no}
+use Rattle.sw_convert_spelling.proofs.MovedRuns.{first_byte}
+use Rattle.sw_convert_spelling.proofs.Choices.{left_no, right_no, neither}
 use Rattle.sw_convert_written.specs.Escapes.{takes_white, behind_text, ends_unclosed}
-use Rattle.sw_convert_written.specs.Expressions.{is_url}
+use Rattle.sw_convert_written.specs.Expressions.{is_url, ends_in_url_from, ends_in_url}
 use Rattle.sw_convert_tokens.specs.Written.{Follows, is_stop, is_dots, stops, begins_white}
 use Rattle.sw_convert_tokens.proofs.Stops.{stopped, white_same, follows_parts}
 use Rattle.sw_convert_tokens.proofs.Unclosed.{unclosed_behind, follows_end}
-use Rattle.sw_convert_texts.specs.Names.{ends_url, Opens}
+use Rattle.sw_convert_texts.specs.Names.{Opens}
 use Rattle.sw_convert_texts.proofs.NameTokens.{Quiet, parted_settled}
 use Rattle.sw_convert_texts.proofs.DigitTokens.{Still}
 use Rattle.sw_convert_texts.proofs.PartTokens.{no_slash}
@@ -68,12 +70,12 @@ follows_still after e = record {
 pub follows_ending : Ending Follows
 follows_ending = record {
   settles = λ value after f. parted_settled value after (follows_parts value after f) (follows_still after f.stop);
-  cuts = λ xs ys b e after f. follows_end xs ys b e after f;
-  keeps = λ xs ys b e after f. record {
+  cuts = λ xs ys b e begins after f. follows_end xs ys b e after f;
+  keeps = λ xs ys b e u after f. record {
     stop = f.stop;
     closed = ap (λ (t : Bool). begins_white after && t) (unclosed_behind [] ys b e ∙ sym (unclosed_behind xs ys b e)) ∙ f.closed;
   };
-  skips = λ xs ys all after f. record {
+  skips = λ xs ys all first after f. record {
     stop = f.stop;
     closed = ap (λ (t : Bool). begins_white after && t) (sym (unclosed_skips xs ys all)) ∙ f.closed;
   };
@@ -112,13 +114,42 @@ paren_still after e = record {
     by_point : (b : ℕ) → (b == sign "(") ≡ true → (b == sign ".") ≡ false
     by_point b s = grind (arith, nat_tests)
 
-no_url : (value : List ℕ) → ends_url value ≡ false → is_url value ≡ false
+no_url : (value : List ℕ) → ends_in_url value ≡ false → is_url value ≡ false
 no_url [] e = refl
-no_url (b ∷ value) e = or_left (is_url (b ∷ value)) (ends_url value) e
+no_url (b ∷ value) e = or_left (is_url (b ∷ value)) _ e
 
-url_end : (xs ys : List ℕ) → ends_url (xs ++ ys) ≡ false → ends_url ys ≡ false
-url_end [] ys e = e
-url_end (x ∷ xs) ys e = url_end xs ys (or_right (is_url (x ∷ (xs ++ ys))) (ends_url (xs ++ ys)) e)
+-- at the rest of a text a name may begin or not
+url_rest : (begins : Bool) (xs ys : List ℕ) → ends_in_url_from begins (xs ++ ys) ≡ false
+    → (t : Bool) × (ends_in_url_from t ys ≡ false)
+url_rest begins [] ys e = (begins, e)
+url_rest begins (x ∷ xs) ys e = url_rest (x == sign "}") xs ys (or_right (begins && is_url (x ∷ (xs ++ ys))) _ e)
+
+no_u : (ys : List ℕ) → is_u (byte ys 0) ≡ false → is_url ys ≡ false
+unfolding byte
+no_u [] e = refl
+no_u (a ∷ []) e = refl
+no_u (a ∷ b ∷ []) e = refl
+no_u (a ∷ b ∷ c ∷ []) e = left_no (is_u a) _ e
+no_u (a ∷ b ∷ c ∷ d ∷ ys) e = refl
+
+begun : (t : Bool) (ys : List ℕ) → ends_in_url_from t ys ≡ false → is_u (byte ys 0) ≡ false
+    → ends_in_url ys ≡ false
+begun t [] e u = refl
+begun t (b ∷ ys) e u =
+    neither (is_url (b ∷ ys)) _ (no_u (b ∷ ys) u) (or_right (t && is_url (b ∷ ys)) _ e)
+
+plain_u : (b : ℕ) → starts_plainly b ≡ false → is_u b ≡ false
+plain_u b e = grind (arith, nat_tests)
+
+cut_url : (xs ys : List ℕ) (b : ℕ) → ((b == sign "}") ≡ true) ⊎ (is_u (byte ys 0) ≡ false)
+    → ends_in_url (xs ++ b ∷ ys) ≡ false → ends_in_url ys ≡ false
+cut_url xs ys b begins e = go (url_rest true xs (b ∷ ys) e) begins
+  where
+    go : (t : Bool) × (ends_in_url_from t (b ∷ ys) ≡ false) → ((b == sign "}") ≡ true) ⊎ (is_u (byte ys 0) ≡ false)
+        → ends_in_url ys ≡ false
+    go (t, f) (inl brace) =
+        subst (λ (x : Bool). ends_in_url_from x ys ≡ false) brace (or_right (t && is_url (b ∷ ys)) _ f)
+    go (t, f) (inr u) = begun (b == sign "}") ys (or_right (t && is_url (b ∷ ys)) _ f) u
 
 pub opens_ending : Ending Opens
 opens_ending = record {
@@ -128,11 +159,12 @@ opens_ending = record {
     no_url = inr (no_url value f.named);
     still = paren_still after f.paren;
   };
-  cuts = λ xs ys b e after f. record {
-    paren = f.paren;
-    named = or_right (is_url (b ∷ ys)) (ends_url ys) (url_end xs (b ∷ ys) f.named);
-  };
-  keeps = λ xs ys b e after f. record { paren = f.paren; named = url_end xs (b ∷ ys) f.named };
-  skips = λ xs ys all after f. record { paren = f.paren; named = url_end xs ys f.named };
+  cuts = λ xs ys b e begins after f. record { paren = f.paren; named = cut_url xs ys b begins f.named };
+  keeps = λ xs ys b e u after f.
+      let (t, rest) = url_rest true xs (b ∷ ys) f.named in
+      record { paren = f.paren; named = begun t (b ∷ ys) rest (ap is_u (first_byte b ys) ∙ u) };
+  skips = λ xs ys all first after f.
+      let (t, rest) = url_rest true xs ys f.named in
+      record { paren = f.paren; named = begun t ys rest (plain_u (byte ys 0) first) };
   nothing = λ value after f. record { paren = f.paren; named = refl };
 }

@@ -114,6 +114,8 @@ pub record Goes (long : Bool) (kind : TokenKind) (text next : List ℕ) : Type 0
       → (inside : Inside) → is_sheet_code inside ≡ true → (before : Before) → is_calm before ≡ true
       → piece (text ++ (next ++ rest)) inside before 0 ≡ made kind (length text) changes.Keep
   pub slashless : list_all no_slash text ≡ true
+  -- that part begins with a digit or a `-`
+  pub unbegun : (rest : List ℕ) → starts_plainly (byte (next ++ rest) 0) ≡ false
 
 -- the token at a place opens nothing, is the same before what goes on with no name, and before a part that stood directly
 -- behind it; none stands behind a name
@@ -189,7 +191,11 @@ dash_goes after bars next rest same some (inr (inr digits)) = record {
       sign_token kinds.Minus (next ++ others) inside before refl code calm
       (dash_fits (next ++ others) (ap is_digit (byte_before next others 0 some) ∙ digits));
   slashless = refl;
+  unbegun = λ others. ap starts_plainly (byte_before next others 0 some) ∙ digit_plain (byte next 0) digits;
 }
+  where
+    digit_plain : (c : ℕ) → is_digit c ≡ true → starts_plainly c ≡ false
+    digit_plain c e = grind (arith, nat_tests)
 
 digits_slashless : (w : List ℕ) → list_all is_digit w ≡ true → list_all no_slash w ≡ true
 digits_slashless [] all = refl
@@ -211,6 +217,7 @@ digits_goes text after all long ended next rest same some is = record {
         point = left_no (byte (next ++ others) 0 == sign ".") _ (ap (λ (b : ℕ). b == sign ".") (byte_before next others 0 some) ∙ no_dot is);
       }) inside before code calm;
   slashless = digits_slashless text all;
+  unbegun = λ others. ap starts_plainly (first others) ∙ ended.unit;
 }
   where
     first : (others : List ℕ) → byte (next ++ others) 0 ≡ byte after 0

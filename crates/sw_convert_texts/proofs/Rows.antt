@@ -1,8 +1,9 @@
 -- What a word or a name goes on with is written as its tokens.
-use Rattle.std.proofs.Common.{◌≡◌, ℕ, suc, true, false, ◌&&◌, List, [], ◌∷◌, ◌++◌, length, Some, refl, sym, ◌∙◌, ap, subst, append_assoc, append-nil}
+use Rattle.std.proofs.Common.{◌≡◌, ◌⊎◌, ℕ, suc, true, false, ◌&&◌, inl, List, [], ◌∷◌, ◌++◌, length, Some, refl, sym, ◌∙◌, ap, subst, append_assoc, append-nil}
 use Rattle.std.specs.Prelude.{◌==◌, codes}
 use Rattle.std.specs.List.{list_all}
 use Rattle.sw_text_scan.specs.Bytes.{sign, byte, starts_plainly}
+use Rattle.sw_text_scan.specs.Words.{is_u}
 use Rattle.sw_text_scan.proofs.Bounds.{and_left, and_right}
 use Rattle.sw_tree.specs.declared.expr.Expr.{Expr}
 use Rattle.sw_tokens.specs.declared.pieces.Before.{Before}
@@ -52,9 +53,12 @@ use Rattle.sw_convert_texts.proofs.Parts.{part_token, goes_next, far_apart}
 pub record Ending (Behind : List ℕ → List ℕ → Type 0) : Type 0 where
   pub settles : (value after : List ℕ) → Behind value after → Settled value after
   -- what may stand behind a text may stand behind its end
-  pub cuts : (xs ys : List ℕ) (b : ℕ) → Ends b → (after : List ℕ) → Behind (xs ++ b ∷ ys) after → Behind ys after
-  pub keeps : (xs ys : List ℕ) (b : ℕ) → Ends b → (after : List ℕ) → Behind (xs ++ b ∷ ys) after → Behind (b ∷ ys) after
-  pub skips : (xs ys : List ℕ) → list_all no_slash xs ≡ true → (after : List ℕ) → Behind (xs ++ ys) after → Behind ys after
+  pub cuts : (xs ys : List ℕ) (b : ℕ) → Ends b → ((b == sign "}") ≡ true) ⊎ (is_u (byte ys 0) ≡ false) → (after : List ℕ)
+      → Behind (xs ++ b ∷ ys) after → Behind ys after
+  pub keeps : (xs ys : List ℕ) (b : ℕ) → Ends b → is_u b ≡ false → (after : List ℕ) → Behind (xs ++ b ∷ ys) after
+      → Behind (b ∷ ys) after
+  pub skips : (xs ys : List ℕ) → list_all no_slash xs ≡ true → starts_plainly (byte ys 0) ≡ false → (after : List ℕ)
+      → Behind (xs ++ ys) after → Behind ys after
   pub nothing : (value after : List ℕ) → Behind value after → Behind [] after
 
 -- a row as it is written
@@ -156,9 +160,11 @@ module _ (Behind : List ℕ → List ℕ → Type 0) (ending : Ending Behind) (s
   behind_row (spells.row_part {i = i} old row) k value token lexeme there e u after f =
       let next = part_there source was k lexeme there (subst (λ (n : ℕ). Old source n (just terminals.Part)) e old) in
       let goes = goes_next source was k value token next (plain_at row k e u) in
-      ending.skips value (bytes_at source i ++ row_text source row) goes.slashless after f
+      ending.skips value (bytes_at source i ++ row_text source row) goes.slashless
+      (ap (λ (n : ℕ). starts_plainly (byte (bytes_at source n ++ row_text source row) 0)) e ∙ goes.unbegun (row_text source row))
+      after f
   behind_row (spells.row_insert {value = expression} opens inner close row) k value token lexeme there e u after f =
-      ending.keeps value (sign "{" ∷ (expr_text expression ++ (codes "}" ++ row_text source row))) (sign "#") hash_ends after f
+      ending.keeps value (sign "{" ∷ (expr_text expression ++ (codes "}" ++ row_text source row))) (sign "#") hash_ends refl after f
 
   -- ---- one part more
 
@@ -245,7 +251,7 @@ module _ (Behind : List ℕ → List ℕ → Type 0) (ending : Ending Behind) (s
             insert_stand stack befores.Other false terminals.PartInsert Nothing said inner more.joints after
             (code_inserts (innermost stack) code) refl
             (more.stand stack after code
-            (ending.cuts (codes "#{" ++ expr_text value) (row_text source row) (sign "}") brace_ends after
+            (ending.cuts (codes "#{" ++ expr_text value) (row_text source row) (sign "}") brace_ends (inl refl) after
             (subst (λ (t : List ℕ). Behind t after)
             (sym (append_assoc (codes "#{") (expr_text value) (sign "}" ∷ row_text source row))) f)));
       }

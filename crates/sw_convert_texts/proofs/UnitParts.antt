@@ -109,6 +109,7 @@ unit_goes text after unit first long stop part rest same some is = go (byte part
               ∙ number_slashless unit.digits unit.unit unit.all
               (and_right (not (is_exponent (byte unit.unit 0) && not (is_letter (byte unit.unit 1)))) (in_unit unit.unit)
               (and_right (starts_plainly (byte unit.unit 0)) _ unit.is));
+          unbegun = λ others. ap starts_plainly (byte_before part others 0 some ∙ dash);
         }
     go false t =
         let none = no_unit after stop in

@@ -1,7 +1,8 @@
 -- Words and names with values in them are written as their tokens.
-use Rattle.std.proofs.Common.{◌≡◌, ◌≤◌, ℕ, suc, ◌+◌, ◌-◌, Bool, true, false, not, ◌||◌, List, [], ◌∷◌, ◌++◌, Some, refl, sym, ◌∙◌, ap, subst, arith, append_assoc, lit<}
+use Rattle.std.proofs.Common.{◌≡◌, ◌≤◌, ℕ, suc, ◌+◌, ◌-◌, Bool, true, false, not, ◌||◌, inl, inr, List, [], ◌∷◌, ◌++◌, Some, refl, sym, ◌∙◌, ap, subst, arith, append_assoc, lit<}
 use Rattle.std.specs.Prelude.{slice_range, codes}
 use Rattle.sw_text_scan.specs.Bytes.{sign, is_white}
+use Rattle.sw_text_scan.specs.Words.{is_u}
 use Rattle.sw_text_scan.proofs.Bounds.{and_left}
 use Rattle.sw_tree.specs.declared.expr.Expr.{Expr}
 use Rattle.sw_tree.specs.declared.text.Parts.{Parts}
@@ -251,7 +252,7 @@ module _ (Behind : Followers) (ending : Ending Behind) (source : Source) (was : 
               insert_stand stack before spaced terminal said closed_said inner behind_more.joints after
               (code_inserts (innermost stack) code) (gap_is (innermost stack) spaced (codes "#{") code (ap is_white (first_byte (sign "#") (codes "{"))))
               (behind_more.stand stack after code
-              (ending.cuts (codes "#{" ++ expr_text value) (row_text source row) (sign "}") brace_ends after
+              (ending.cuts (codes "#{" ++ expr_text value) (row_text source row) (sign "}") brace_ends (inl refl) after
               (subst (λ (t : List ℕ). Behind t after)
               (sym (append_assoc (codes "#{") (expr_text value) (sign "}" ∷ row_text source row))) f)));
         }
@@ -355,7 +356,8 @@ module _ (Behind : Followers) (ending : Ending Behind) (source : Source) (was : 
                     λ e. absurd (cc),
                     sign_token kinds.Minus (text insert.joints ++ after) (innermost stack) (behind_gap before (gap_of spaced)) refl code calm
                         (minus_fits (text insert.joints ++ after) (insert_settled (codes "-") _).quiet),
-                    insert.stand stack after code (ending.cuts [] inserted_text (sign "-") dash_ends after follows),
+                    insert.stand stack after code (ending.cuts [] inserted_text (sign "-") dash_ends
+                        (inr (ap is_u (first_byte (sign "#") (codes "{" ++ (expr_text value ++ (codes "}" ++ row_text source row)))))) after follows),
                   );
             };
             told = λ mode owned called. values.begun_minus (inner_items inner) behind_more.parts;

@@ -18,7 +18,7 @@ use Rattle.sw_parse_table.specs.Sources.{bytes_at}
 use Rattle.sw_convert_spelling.specs.Spelt.{behind_gap}
 use Rattle.sw_convert_written.specs.declared.manner.Manner.TheVariants as manners
 use Rattle.sw_convert_written.specs.Pieces.{pieces_text}
-use Rattle.sw_convert_written.specs.Expressions.{is_url, parts_written}
+use Rattle.sw_convert_written.specs.Expressions.{ends_in_url, parts_written}
 use Rattle.sw_convert_passing.specs.Written.{Written, written}
 use Rattle.sw_convert_passing.specs.Values.{Word, begins_insert}
 use Rattle.sw_convert_passing.specs.Values as values
@@ -56,15 +56,10 @@ NameWritten Shape Behind text tokens =
     (before : Before) (spaced : Bool) → is_calm (behind_gap before (gap_of spaced)) ≡ true
     → IsNameWritten Shape Behind text tokens before spaced
 
--- a text ends with `url` in any case
-abbrev pub ends_url : List ℕ → Bool
-ends_url [] = false
-ends_url (b ∷ bytes) = is_url (b ∷ bytes) || ends_url bytes
-
--- arguments stand behind a name that ends otherwise
+-- arguments stand behind a name with which no url may begin
 pub record Opens (text after : List ℕ) : Type 0 where
   pub paren : (byte after 0 == sign "(") ≡ true
-  pub named : ends_url text ≡ false
+  pub named : ends_in_url text ≡ false
 
 -- ---- words
 

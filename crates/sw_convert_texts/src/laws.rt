@@ -8,7 +8,7 @@ pub fn words_with_values_are_written()
     ensures { WordsWithValuesAreWritten }
 {}
 
-/// A law: and so before the arguments of a call, where the word doesn't end with `url`.
+/// A law: and so before the arguments of a call, where no url may begin with the end of the word.
 pub fn called_words_are_written()
     ensures { CalledWordsAreWritten }
 {}

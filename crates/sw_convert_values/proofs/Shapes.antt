@@ -1,10 +1,9 @@
 -- Texts and tokens of values, in the form in which the recursion over values meets them.
-use Rattle.std.proofs.Common.{◌≡◌, ◌<◌, ℕ, length, arith, Bool, true, false, ◌&&◌, List, [], ◌∷◌, ◌++◌, map, append-nil, refl, sym, ◌∙◌, ap, subst, append_assoc}
+use Rattle.std.proofs.Common.{◌≡◌, ◌<◌, ℕ, length, arith, Bool, true, false, List, [], ◌∷◌, ◌++◌, map, append-nil, refl, sym, ◌∙◌, ap, subst, append_assoc}
 use Rattle.std.specs.Prelude.{◌==◌, codes}
 use Rattle.sw_text.specs.declared.place.Span.{Span}
 use Rattle.sw_text_scan.specs.Bytes.{sign, byte}
-use Rattle.sw_text_scan.proofs.Bounds.{or_left, or_right}
-use Rattle.sw_convert_spelling.proofs.Choices.{right_no, neither}
+use Rattle.sw_text_scan.proofs.Bounds.{or_left}
 use Rattle.sw_tree.specs.declared.text.Parts.{Parts}
 use Rattle.sw_tree.specs.declared.text.Parts.TheVariants.{Plain as PlainParts, Mixed}
 use Rattle.sw_tree.specs.declared.text.Piece.{Piece}
@@ -28,14 +27,13 @@ use Rattle.sw_parse_table.specs.Operators.{operator_of}
 use Rattle.sw_parse_table.specs.Values.{expression, in_parens_by, in_parens, in_brackets_by, in_brackets}
 use Rattle.sw_convert_written.specs.declared.manner.Manner.TheVariants as manners
 use Rattle.sw_convert_written.specs.Pieces.{Written, piece_text, pieces_text}
-use Rattle.sw_convert_written.specs.Expressions.{kind_shown, expr_text, is_divide, items_text, list_text, quoted_text, is_url, ends_in_url_from, ends_in_url, piece_written}
+use Rattle.sw_convert_written.specs.Expressions.{kind_shown, expr_text, is_divide, items_text, list_text, quoted_text, is_url, ends_in_url, piece_written}
 use Rattle.sw_convert_written.proofs.Unrolled as unrolled
 use Rattle.sw_convert_again.specs.Tokens.{Tok}
 use Rattle.sw_convert_tokens.specs.Written.{AsValue, AsRow, WrittenAs}
 use Rattle.sw_convert_values.specs.Values.{is_text}
 use Rattle.sw_convert_tokens.proofs.Between.{is_binary}
 use Rattle.sw_convert_tokens.proofs.Variables.{Begins}
-use Rattle.sw_convert_texts.specs.Names.{ends_url}
 
 -- the same text and tokens
 pub same : {signed : Bool} {xs ys : List ℕ} {ks ls : List Tok} → xs ≡ ys → ks ≡ ls → WrittenAs (AsValue signed) xs ks
@@ -160,12 +158,6 @@ tokens_behind ks one ls ms = append_assoc ks (one ∷ ls) ms
 pub no_url_at : (text : List ℕ) → ends_in_url text ≡ false → is_url text ≡ false
 no_url_at [] e = refl
 no_url_at (b ∷ text) e = or_left (is_url (b ∷ text)) _ e
-
-pub no_url_behind : (begins : Bool) (text : List ℕ) → ends_url text ≡ false → ends_in_url_from begins text ≡ false
-no_url_behind begins [] e = refl
-no_url_behind begins (b ∷ text) e =
-    neither (begins && is_url (b ∷ text)) _ (right_no begins _ (or_left (is_url (b ∷ text)) _ e))
-    (no_url_behind (b == sign "}") text (or_right (is_url (b ∷ text)) _ e))
 
 pub opens_paren : (after : List ℕ) → Begins (sign "(") after → (byte after 0 == sign "(") ≡ true
 unfolding byte

@@ -16,7 +16,7 @@ use Rattle.sw_convert_again.specs.Spells as spells
 use Rattle.sw_convert_tokens.specs.Written.{AsValue, AsRow, WrittenAs}
 use Rattle.sw_convert_tokens.specs.Values.{WasRead}
 use Rattle.sw_convert_tokens.specs.Calls.{is_free_name}
-use Rattle.sw_convert_texts.specs.Names.{joined, ends_url, is_mixed, word_plain}
+use Rattle.sw_convert_texts.specs.Names.{joined, is_mixed, word_plain}
 use Rattle.sw_convert_texts.specs.Urls.{unbraced}
 
 -- words by whose names a constant or an operator is meant elsewhere, and those with `#{}` in which a number isn't plain
@@ -37,7 +37,7 @@ is_name_called source owned _ = false
 abbrev pub is_called : (source : Source) (owned : Bool) {i j : ℕ} {parts : Parts} {tokens : List Tok}
     → SpellsWord source i j parts tokens → Bool
 is_called source owned {parts = parts} word =
-    if is_mixed word then word_plain source word && not (ends_url (joined parts)) else is_name_called source owned word
+    if is_mixed word then word_plain source word && not (ends_in_url (joined parts)) else is_name_called source owned word
 
 abbrev pub is_text : List ℕ → Bool
 is_text [] = false
