@@ -33,10 +33,6 @@ use Rattle.sw_convert_tokens.specs.Written.{is_calm}
 use Rattle.sw_convert_tokens.proofs.Names.{Start, start_by}
 use Rattle.sw_convert_texts.proofs.Pieces.{is_frame, is_named, Cases, piece_has, name_has}
 
--- no brace stands there
-abbrev pub unbraced : ℕ → Bool
-unbraced b = not ((b == sign "{") || (b == sign "}"))
-
 -- the classes of urls
 abbrev is_url_class : Class → Bool
 is_url_class classes.Url = true
@@ -49,7 +45,8 @@ url_is insides.Sheet = refl
 url_is insides.Css = refl
 url_is _ = refl
 
-module _ (w old after : List ℕ) (plain : (k : ℕ) → k < length w → unbraced (byte (w ++ old) k) ≡ true)
+module _ (w old after : List ℕ) (closed : (k : ℕ) → k < length w → (byte (w ++ old) k == sign "}") ≡ false)
+    (shut : (k : ℕ) → k + 1 < length w → opens_at (w ++ old) k ≡ false)
     (end : (byte (w ++ old) (length w - 1) == sign ")") ≡ true) (some : 0 < length w) where
   abbrev bs : List ℕ
   bs = w ++ old
@@ -65,14 +62,11 @@ module _ (w old after : List ℕ) (plain : (k : ℕ) → k < length w → unbrac
   no_open : (i : ℕ) → i < n → opens_at bs i ≡ false
   no_open i lt = go (texts.lt_or_le (i + 1) n)
     where
-      no_brace : (b : ℕ) → unbraced b ≡ true → (b == sign "{") ≡ false
-      no_brace b e = grind (arith, nat_tests)
-
       paren_no_hash : (b : ℕ) → (b == sign ")") ≡ true → (b == sign "#") ≡ false
       paren_no_hash b e = grind (arith, nat_tests)
 
       go : (i + 1 < n) ⊎ (n ≤ i + 1) → opens_at bs i ≡ false
-      go (inl more) = right_no (byte bs i == sign "#") _ (no_brace (byte bs (i + 1)) (plain (i + 1) more))
+      go (inl more) = shut i more
       go (inr last) =
           left_no (byte bs i == sign "#") _
           (paren_no_hash (byte bs i) (ap (λ (k : ℕ). byte bs k == sign ")") (let z : i ≡ n - 1 = omega (arith, lt, last) in z) ∙ end))
@@ -81,11 +75,8 @@ module _ (w old after : List ℕ) (plain : (k : ℕ) → k < length w → unbrac
   same_next classes.Url u i lt = refl
   same_next classes.UrlInside u i lt =
       ap (λ (t : Bool). if t && not (opens_at bs i) then i + 1 else escape_end bs i)
-      (drop_yes (is_url_byte (byte bs i)) (not (byte bs i == sign "}")) (no_close (byte bs i) (plain i lt)))
+      (drop_yes (is_url_byte (byte bs i)) (not (byte bs i == sign "}")) (ap not (closed i lt)))
     where
-      no_close : (b : ℕ) → unbraced b ≡ true → not (b == sign "}") ≡ true
-      no_close b e = grind (arith, nat_tests)
-
       drop_yes : (a b : Bool) → b ≡ true → (a && b) ≡ a
       drop_yes true b e = e
       drop_yes false b e = refl
@@ -290,7 +281,8 @@ calm_hash befores.Hash c = absurd (cc)
 calm_hash _ c = refl
 
 -- it is the same before any text
-module _ (w old after : List ℕ) (plain : (xs : List ℕ) (k : ℕ) → k < length w → unbraced (byte (w ++ xs) k) ≡ true)
+module _ (w old after : List ℕ) (closed : (xs : List ℕ) (k : ℕ) → k < length w → (byte (w ++ xs) k == sign "}") ≡ false)
+    (shut : (xs : List ℕ) (k : ℕ) → k + 1 < length w → opens_at (w ++ xs) k ≡ false)
     (at : UrlAt (w ++ old) (length w)) where
   abbrev c : Class
   c = url_class at.top
@@ -333,20 +325,20 @@ module _ (w old after : List ℕ) (plain : (xs : List ℕ) (k : ℕ) → k < len
     new_text : run_end (url_class top) (w ++ after) first_end ≡ text_end
     new_text =
         let in_url : text_end ≡ run_end classes.Url (w ++ old) first_end =
-        same_run w old after (plain old) old_end some c classes.Url (url_is at.top) refl first_end text_low in
+        same_run w old after (closed old) (shut old) old_end some c classes.Url (url_is at.top) refl first_end text_low in
         let again : run_end classes.Url (w ++ after) first_end ≡ run_end classes.Url (w ++ old) first_end =
-        url_again w old after (plain old) old_end some first_end (subst (λ (k : ℕ). k < length w) in_url text_low) in
+        url_again w old after (closed old) (shut old) old_end some first_end (subst (λ (k : ℕ). k < length w) in_url text_low) in
         let low : run_end classes.Url (w ++ after) first_end < length w =
         subst (λ (k : ℕ). k < length w) (in_url ∙ sym again) text_low in
-        sym (same_run w after [] (plain after) new_end some classes.Url (url_class top) refl (url_is top) first_end low)
+        sym (same_run w after [] (closed after) (shut after) new_end some classes.Url (url_class top) refl (url_is top) first_end low)
         ∙ again ∙ sym in_url
 
     new_close : url_close (w ++ after) (url_class top) 0 + 1 ≡ length w
     unfolding url_text_end
     new_close =
-        ap (λ (k : ℕ). run_end classes.White (w ++ after) (run_end (url_class top) (w ++ after) k) + 1) (white_again w old after (plain old) old_end some (0 + 4) first_low)
+        ap (λ (k : ℕ). run_end classes.White (w ++ after) (run_end (url_class top) (w ++ after) k) + 1) (white_again w old after (closed old) (shut old) old_end some (0 + 4) first_low)
         ∙ ap (λ (k : ℕ). run_end classes.White (w ++ after) k + 1) new_text
-        ∙ ap (λ (k : ℕ). k + 1) (white_again w old after (plain old) old_end some text_end (let e = close_is in omega (arith, e)))
+        ∙ ap (λ (k : ℕ). k + 1) (white_again w old after (closed old) (shut old) old_end some text_end (let e = close_is in omega (arith, e)))
         ∙ close_is
 
   back : (f : ℕ → Bool) (k : ℕ) → k < 4 → f (byte (w ++ after) k) ≡ f (byte (w ++ old) k)

@@ -1,9 +1,8 @@
 -- Urls that were read are written as they stood.
-use Rattle.std.proofs.Common.{◌≡◌, ◌<◌, ℕ, zero, suc, ◌+◌, Bool, true, false, if◌then◌else◌, List, [], ◌∷◌, ◌++◌, length, refl, sym, ◌∙◌, ap, subst, arith}
-use Rattle.std.specs.List.{list_all}
-use Rattle.sw_text_scan.specs.Bytes.{byte}
-use Rattle.sw_text_scan.proofs.Bounds.{and_left, and_right}
-use Rattle.sw_text_locality.proofs.Written.{byte_before}
+use Rattle.std.proofs.Common.{◌≡◌, ◌<◌, ℕ, zero, suc, ◌+◌, Bool, true, false, not, ◌&&◌, if◌then◌else◌, List, [], ◌∷◌, ◌++◌, length, refl, sym, ◌∙◌, ap, subst, arith}
+use Rattle.std.specs.Prelude.{◌==◌}
+use Rattle.sw_text_scan.specs.Bytes.{sign, byte, opens_at}
+use Rattle.sw_text_scan.proofs.Bounds.{and_left, and_right, not_true}
 use Rattle.sw_tree.specs.declared.expr.ExprKind.TheVariants as exprs
 use Rattle.sw_tree.specs.declared.text.Parts.{Parts}
 use Rattle.sw_tree.specs.declared.text.Parts.TheVariants as parts
@@ -34,7 +33,7 @@ use Rattle.sw_convert_tokens.specs.Written.{Follows, gap_of}
 use Rattle.sw_convert_tokens.proofs.Joins.{as_text, as_behind}
 use Rattle.sw_convert_tokens.proofs.Signs.{token_segment}
 use Rattle.sw_convert_tokens.proofs.Words.{name_yes, bytes_sit, parts_are}
-use Rattle.sw_convert_texts.specs.Urls.{unbraced, UrlsAreWritten}
+use Rattle.sw_convert_texts.specs.Urls.{is_unbroken, UrlsAreWritten}
 use Rattle.sw_convert_texts.proofs.TerminalChoices.{comes, is_at, is_url}
 use Rattle.sw_convert_texts.proofs.TokenPairs.{at_yes}
 use Rattle.sw_convert_texts.proofs.LexemePairs.{plains_in, comes_at}
@@ -68,15 +67,28 @@ kind_of_url (kinds.Quoted told) text e =
     absurd (let no : true ≡ false = sym e ∙ quoted_no_url (has_namespace told) in cc)
 kind_of_url _ text e = absurd (cc)
 
--- each byte of the text, with anything behind it
-each_unbraced : (w xs : List ℕ) → list_all unbraced w ≡ true → (k : ℕ) → k < length w → unbraced (byte (w ++ xs) k) ≡ true
+-- with anything behind it no `}` stands in it, and no `#{`
+closed_at : (w xs : List ℕ) → is_unbroken w ≡ true → (k : ℕ) → k < length w → (byte (w ++ xs) k == sign "}") ≡ false
 unfolding byte
-each_unbraced w xs all k lt = ap unbraced (byte_before w xs k lt) ∙ at w k all lt
-  where
-    at : (w : List ℕ) (k : ℕ) → list_all unbraced w ≡ true → k < length w → unbraced (byte w k) ≡ true
-    at [] k all lt = absurd (omega (arith, lt))
-    at (b ∷ w) zero all lt = and_left (unbraced b) _ all
-    at (b ∷ w) (suc k) all lt = at w k (and_right (unbraced b) _ all) (omega (arith, lt))
+closed_at [] xs all k lt = absurd (omega (arith, lt))
+closed_at (b ∷ w) xs all zero lt = not_true (b == sign "}") (and_left (not (b == sign "}")) _ all)
+closed_at (b ∷ w) xs all (suc k) lt =
+    closed_at w xs
+    (and_right (not ((b == sign "#") && (byte w 0 == sign "{"))) _ (and_right (not (b == sign "}")) _ all)) k (omega (arith, lt))
+
+shut_at : (w xs : List ℕ) → is_unbroken w ≡ true → (k : ℕ) → k + 1 < length w → opens_at (w ++ xs) k ≡ false
+unfolding byte
+shut_at [] xs all k lt = absurd (omega (arith, lt))
+shut_at (b ∷ []) xs all k lt = absurd (omega (arith, lt))
+shut_at (b ∷ c ∷ w) xs all zero lt =
+    not_true ((b == sign "#") && (c == sign "{"))
+    (and_left (not ((b == sign "#") && (c == sign "{"))) _ (and_right (not (b == sign "}")) _ all))
+shut_at (b ∷ c ∷ w) xs all (suc k) lt =
+    let text = b ∷ (c ∷ (w ++ xs)) in
+    ap (λ (n : ℕ). (byte text (suc k) == sign "#") && (byte text n == sign "{"))
+    (let place : suc k + 1 ≡ suc (k + 1) = omega arith in place)
+    ∙ shut_at (c ∷ w) xs
+    (and_right (not ((b == sign "#") && (c == sign "{"))) _ (and_right (not (b == sign "}")) _ all)) k (omega (arith, lt))
 
 pub urls_written : UrlsAreWritten
 urls_written source i span was old braces before spaced calm =
@@ -90,8 +102,11 @@ urls_written source i span was old braces before spaced calm =
     subst (λ (k : TokenKind). Whole source old.lexeme k piece.text) kind (piece.own (ap opens kind)) in
     let w = piece.text in
     let same : bytes_at source i ≡ w = whole_bytes source i old.lexeme kinds.Url w old.there whole in
-    let plain : (xs : List ℕ) (k : ℕ) → k < length w → unbraced (byte (w ++ xs) k) ≡ true =
-    λ xs k lt. each_unbraced w xs (ap (list_all unbraced) (sym same) ∙ braces) k lt in
+    let unbroken : is_unbroken w ≡ true = ap is_unbroken (sym same) ∙ braces in
+    let closed : (xs : List ℕ) (k : ℕ) → k < length w → (byte (w ++ xs) k == sign "}") ≡ false =
+    λ xs k lt. closed_at w xs unbroken k lt in
+    let shut : (xs : List ℕ) (k : ℕ) → k + 1 < length w → opens_at (w ++ xs) k ≡ false =
+    λ xs k lt. shut_at w xs unbroken k lt in
     let at : UrlAt (w ++ whole.after) (length w) =
     url_in (length w) whole.change (w ++ whole.after) whole.inside whole.before whole.is in
     let shown : w ≡ expr_text (expression (exprs.Url (parts_between source i (suc i) [])) span) =
@@ -103,12 +118,12 @@ urls_written source i span was old braces before spaced calm =
       segment = as_behind (λ after f. subst (λ (t : List ℕ). Follows t after) (sym shown) f)
           (as_text (ap (λ (t : List ℕ). gap_of spaced ++ t) shown)
           (token_segment kinds.Url w (terminals.Url ∷ []) (Plain 1 (parts_between source i (suc i) [])) before spaced (Follows w) refl refl
-          (url_black w whole.after [] plain at) (url_some w whole.after [] plain at)
+          (url_black w whole.after [] closed shut at) (url_some w whole.after [] closed shut at)
           (λ new commented place front after sits.
           ap (λ (n : ℕ). parts_between new place n []) (let z : place + 1 ≡ suc place = omega arith in z)
           ∙ parts_are new place
           ∙ ap parts.Plain (bytes_sit new commented place front _ after sits ∙ sym same)
           ∙ sym (parts_are source i))
-          (λ inside after code ok. url_token w whole.after after plain at inside (behind_gap before (gap_of spaced)) code calm)));
+          (λ inside after code ok. url_token w whole.after after closed shut at inside (behind_gap before (gap_of spaced)) code calm)));
       told = λ mode b. lone_value sorts.Url refl;
     }

@@ -25,7 +25,7 @@ pub fn at_names_are_written()
     ensures { AtNamesAreWritten }
 {}
 
-/// A law: what is written of a url without braces is its token.
+/// A law: what is written of a url without a `}` and a `#{` is its token.
 pub fn urls_are_written()
     ensures { UrlsAreWritten }
 {}

@@ -62,7 +62,7 @@ use Rattle.sw_convert_tokens.proofs.Arguments.{IsItems, AreArguments, value_argu
 use Rattle.sw_convert_tokens.proofs.Templates.{IsText, nothing_more, text_more, insert_more, template_written}
 use Rattle.sw_convert_texts.specs.Inserted.{RowHasValues, WordHasValues}
 use Rattle.sw_convert_texts.specs.Names.{is_mixed, word_plain}
-use Rattle.sw_convert_texts.specs.Urls.{unbraced}
+use Rattle.sw_convert_texts.specs.Urls.{is_unbroken}
 use Rattle.sw_convert_texts.proofs.WordsWithValues.{words_written as mixed_words_written}
 use Rattle.sw_convert_texts.proofs.Urls.{urls_written}
 use Rattle.sw_convert_tokens.proofs.OldNumbers.{numbers_written}
@@ -152,7 +152,7 @@ module _ (source : Source) (was : WasRead source) (known : SinglesAreWritten sou
         inl (unsigned (same (sym (constant_is old span)) refl
         (constant_written (constant_by old.lexeme.terminal old.kind))))
     either (spells.url {i} span old) =
-        inl (by_test (IsWritten _ _ _) (list_all unbraced (bytes_at source i))
+        inl (by_test (IsWritten _ _ _) (is_unbroken (bytes_at source i))
         (λ e. unsigned (urls_written source i span was old e))
         (λ e. single (spells.url span old) (ap not e)))
     either (spells.url_template span opens inner close) = inl (single (spells.url_template span opens inner close) refl)

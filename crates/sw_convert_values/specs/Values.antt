@@ -1,7 +1,6 @@
 -- What is written of each value that was read is its tokens, where that of some kinds in it is.
 use Rattle.std.specs.Prelude.{◌≡◌, ◌==◌, ℕ, Bool, true, false, if◌then◌else◌, not, ◌&&◌, List, [], ◌∷◌}
 use Rattle.sw_text_scan.specs.Bytes.{sign}
-use Rattle.std.specs.List.{list_all}
 use Rattle.sw_tree.specs.declared.expr.Expr.{Expr}
 use Rattle.sw_tree.specs.declared.text.Parts.{Parts}
 use Rattle.sw_tree.specs.declared.text.Piece.{Piece}
@@ -17,7 +16,7 @@ use Rattle.sw_convert_tokens.specs.Written.{AsValue, AsRow, WrittenAs}
 use Rattle.sw_convert_tokens.specs.Values.{WasRead}
 use Rattle.sw_convert_tokens.specs.Calls.{is_free_name}
 use Rattle.sw_convert_texts.specs.Names.{joined, is_mixed, word_plain}
-use Rattle.sw_convert_texts.specs.Urls.{unbraced}
+use Rattle.sw_convert_texts.specs.Urls.{is_unbroken}
 
 -- words by whose names a constant or an operator is meant elsewhere, and those with `#{}` in which a number isn't plain
 abbrev pub is_single_word : (source : Source) {i j : ℕ} {parts : Parts} {tokens : List Tok}
@@ -54,12 +53,12 @@ abbrev pub begins_plus : List ℕ → Bool
 begins_plus [] = false
 begins_plus (b ∷ text) = b == sign "+"
 
--- words told by `is_single_word`, numbers that stay with a `+`, urls with `#{}` or braces, special functions, strings with
+-- words told by `is_single_word`, numbers that stay with a `+`, urls with `#{}`, or with a `}`, special functions, strings with
 -- `#{}` in which a text is empty, and calls by other names
 abbrev pub is_single : {source : Source} {i j : ℕ} {value : Expr} {tokens : List Tok} → Spells source i j value tokens
     → Bool
 is_single (spells.template span opens inner close) = not (are_some inner)
-is_single {source = source} (spells.url {i} span old) = not (list_all unbraced (bytes_at source i))
+is_single {source = source} (spells.url {i} span old) = not (is_unbroken (bytes_at source i))
 is_single (spells.url_template span opens inner close) = true
 is_single (spells.special span name opens inner close) = true
 is_single {source = source} (spells.stays_signed {i} span one two) = begins_plus (bytes_at source i)
