@@ -13,5 +13,9 @@ pub mod Blocks
 pub mod Statements
 pub mod Sheets
 pub mod Steps
+mod AtNames
+mod Walked
+mod LaidBehind
+mod KeywordLengths
 pub mod ReadsBack
 pub mod Told

@@ -1,10 +1,8 @@
--- The text that is written of a sheet that was read, up to its last line feed, is read to a sheet alike.
-use Rattle.std.specs.Prelude.{◌≡◌, ℕ, List, ◌++◌, map, length, Ok}
-use Rattle.sw_text.specs.Places.{mark_length}
+-- The text that is written of a sheet that was read is read to a sheet alike.
+use Rattle.std.specs.Prelude.{◌≡◌, ℕ, List, map, length, Ok}
 use Rattle.sw_tree.specs.declared.statement.Statement.{Statement}
 use Rattle.sw_tokens.specs.Ends.{tokens_of}
 use Rattle.sw_parse_grammar.specs.Grammar.{Got}
-use Rattle.sw_parse_lexemes.specs.Plains.{plains_of}
 use Rattle.sw_parse_lexemes.specs.Lexemes.{lexemes_of}
 use Rattle.sw_parse_table.specs.declared.source.Source.{Source}
 use Rattle.sw_parse_table.specs.Parts.{Part, States, Whole}
@@ -14,26 +12,20 @@ use Rattle.sw_parse_table.specs.Table.{forms}
 use Rattle.sw_convert_alike.specs.Statements.{LikeBlock}
 use Rattle.sw_convert_written.specs.Statements.{sheet_text}
 use Rattle.sw_convert_again.specs.Claims.{IsSheetAgain}
-use Rattle.sw_convert_heads_passing.specs.Heads.{AreKeywords}
 use Rattle.sw_convert_statements.specs.Statements.{ListHasFronts}
-use Rattle.sw_convert_statements.specs.Sheets.{last_line}
 
--- what is read of a text as a sheet that isn't written in lines: its tokens, of which every keyword is longer than a sign,
--- and what the grammar sees of them
+-- what is read of a text as a sheet that isn't written in lines: its tokens, and what the grammar sees of them
 pub record IsSheetText (source : Source) (text : List ℕ) : Type 0 where
   pub text_is : bytes source ≡ text
-  pub unmarked : mark_length text ≡ 0
   pub tokens_are : tokens_of text ≡ Ok source.tokens.now.list
   pub lexemes_are : source.lexemes.now ≡ lexemes_of text source.tokens.now.list
-  pub keywords : AreKeywords (plains_of text source.tokens.now.list)
 
 -- of a sheet of which there are tokens that are read again, and whose statements are written as their tokens up to their
 -- ends and their blocks
 abbrev pub SheetsReadBack : Type 0
 SheetsReadBack =
     (source written : Source) (levels : ℕ) (parts : List Part) (again : IsSheetAgain source written levels parts)
-    → ListHasFronts again.spells → (text : List ℕ)
-    → sheet_text (record { statements = again.list }) ≡ text ++ last_line again.list → IsSheetText written text
+    → ListHasFronts again.spells → IsSheetText written (sheet_text (record { statements = again.list }))
     → (found : List Statement)
     × (reader written levels (forms written Whole) 0 ≡ Got (map States found) (length written.lexemes.now))
     × LikeBlock again.list found

@@ -42,9 +42,8 @@ pub fn sheets_are_written()
     ensures { SheetsAreWritten }
 {}
 
-/// A law: the text that is written of a sheet that was read, up to its last line feed, is read to a sheet alike, where what
-/// is written of its statements up to their ends and their blocks is their tokens, where it begins with no byte order mark,
-/// and where its keywords have a text of their own.
+/// A law: the text that is written of a sheet that was read is read to a sheet alike, where what is written of its
+/// statements up to their ends and their blocks is their tokens.
 pub fn sheets_read_back()
     ensures { SheetsReadBack }
 {}
