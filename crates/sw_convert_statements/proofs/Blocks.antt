@@ -24,7 +24,8 @@ use Rattle.sw_convert_tokens.proofs.Spaces.{space_by, space_text}
 use Rattle.sw_convert_heads_passing.specs.Blocks.{end_sign, open_sign, close_sign}
 use Rattle.sw_convert_heads_passing.specs.Statements.{Front, Headed, plainly, seamed, begins_else, Statements, statement_block, statement_rule}
 use Rattle.sw_convert_heads_passing.proofs.Fronts.{begins_code, code_before, front_code}
-use Rattle.sw_convert_statements.specs.Segments.{SheetSegment, EndsText, seams, IsFrontWritten, IsRuleWritten}
+use Rattle.sw_convert_texts.specs.RawTexts.{SheetSegment, EndsText}
+use Rattle.sw_convert_statements.specs.Segments.{seams, IsFrontWritten, IsRuleWritten}
 use Rattle.sw_convert_statements.specs.Written.{AreLinesWritten}
 use Rattle.sw_convert_statements.proofs.Segments.{join, as_text, text_pads, padded}
 use Rattle.sw_convert_statements.proofs.Gaps.{gapped}

@@ -30,7 +30,8 @@ use Rattle.sw_convert_tokens.proofs.Leaves.{word_segment}
 use Rattle.sw_convert_tokens.proofs.Unclosed.{Ends, follows_end}
 use Rattle.sw_convert_tokens.proofs.Spaces.{space_text, unclosed_spaced, follows_spaced}
 use Rattle.sw_convert_heads_passing.specs.Statements.{FlagsBehind, directly, behind_seam}
-use Rattle.sw_convert_statements.specs.Segments.{SheetSegment, seams}
+use Rattle.sw_convert_texts.specs.RawTexts.{SheetSegment}
+use Rattle.sw_convert_statements.specs.Segments.{seams}
 use Rattle.sw_convert_statements.proofs.Segments.{sheet, join, as_text, as_toks, as_passed, as_behind, value_pads, padded}
 
 -- a flag behind a space

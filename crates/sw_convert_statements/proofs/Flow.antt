@@ -41,7 +41,8 @@ use Rattle.sw_convert_heads_passing.specs.Flow.{Names, parted, last_name, more_n
 use Rattle.sw_convert_heads_passing.specs.Heads.{text_head}
 use Rattle.sw_convert_heads_passing.specs.Members.{none_given, content_head}
 use Rattle.sw_convert_heads_passing.specs.Statements.{flowing, alone, named, belonging}
-use Rattle.sw_convert_statements.specs.Segments.{SheetSegment, Anything, seams, FrontWritten}
+use Rattle.sw_convert_texts.specs.RawTexts.{SheetSegment}
+use Rattle.sw_convert_statements.specs.Segments.{Anything, seams, FrontWritten}
 use Rattle.sw_convert_statements.proofs.Segments.{sheet, join, as_text, as_toks, as_passed, as_behind, text_follows, value_pads, padded}
 use Rattle.sw_convert_statements.proofs.Keywords.{at_each, at_charset, at_content, at_root, word_in, text_ends}
 

@@ -17,7 +17,7 @@ use Rattle.sw_convert_passing.proofs.Facts.{both, and_left}
 use Rattle.sw_convert_again.specs.Tokens.{Tok}
 use Rattle.sw_convert_tokens.specs.Joints.{Seen, Joint, Token, Apart, spelt_of, text, toks, writtens, behind, Stand, Sits, Sit, Tell}
 use Rattle.sw_convert_heads_passing.proofs.Fronts.{begins_code}
-use Rattle.sw_convert_statements.specs.Segments.{SheetSegment}
+use Rattle.sw_convert_texts.specs.RawTexts.{SheetSegment}
 
 abbrev token_in : Option Piece → Option TokenKind
 token_in None = None

@@ -27,7 +27,7 @@ use Rattle.sw_convert_tokens.specs.Joints.{Segment}
 use Rattle.sw_convert_tokens.specs.Written.{is_calm}
 use Rattle.sw_convert_tokens.proofs.Signs.{sign_segment, token_by}
 use Rattle.sw_convert_tokens.proofs.Spaces.{BeginsSpace}
-use Rattle.sw_convert_statements.specs.Segments.{ends_statement, EndsText}
+use Rattle.sw_convert_texts.specs.RawTexts.{ends_statement, EndsText}
 use Rattle.sw_convert_tokens.proofs.Between.{spaced_segment}
 
 -- a space, a `;` or a `(` stands behind

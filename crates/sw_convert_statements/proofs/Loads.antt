@@ -27,7 +27,8 @@ use Rattle.sw_convert_tokens.proofs.Decodings.{decoded_there}
 use Rattle.sw_convert_heads_passing.specs.Loads.{is_url, no_name, as_star, no_prefix, no_filter, use_head, forward_head}
 use Rattle.sw_convert_heads_passing.specs.Loads as loads
 use Rattle.sw_convert_heads_passing.specs.Statements.{loading}
-use Rattle.sw_convert_statements.specs.Segments.{SheetSegment, Anything, FrontWritten}
+use Rattle.sw_convert_texts.specs.RawTexts.{SheetSegment}
+use Rattle.sw_convert_statements.specs.Segments.{Anything, FrontWritten}
 use Rattle.sw_convert_statements.proofs.Segments.{sheet, join, as_text, as_behind}
 use Rattle.sw_convert_statements.proofs.Keywords.{at_use, at_forward, word_as}
 

@@ -24,7 +24,8 @@ use Rattle.sw_convert_heads_passing.specs.RawTexts.{RawText, Outside, raw_end}
 use Rattle.sw_convert_heads_passing.specs.Heads.{TextHead}
 use Rattle.sw_convert_heads_passing.specs.Properties.{colon, PropertyHead, CustomHead}
 use Rattle.sw_convert_heads_passing.specs.Statements.{begins_else, Front, declared, unvalued, named, texted, texted_apart, customised}
-use Rattle.sw_convert_statements.specs.Segments.{SheetSegment, EndsText, Anything, seams, FrontWritten}
+use Rattle.sw_convert_texts.specs.RawTexts.{SheetSegment, EndsText}
+use Rattle.sw_convert_statements.specs.Segments.{Anything, seams, FrontWritten}
 use Rattle.sw_convert_statements.specs.Texts.{TextsAreKnown}
 use Rattle.sw_convert_statements.specs.Names.{NamedAs, NamedFrontsAreWritten}
 use Rattle.sw_convert_statements.proofs.Segments.{sheet, join, as_text, as_toks, as_passed, as_behind, text_follows, value_pads, padded}

@@ -29,7 +29,8 @@ use Rattle.sw_convert_tokens.specs.Joints.{Joint, spelt_of, spelts, text, Stand,
 use Rattle.sw_convert_tokens.proofs.Laid.{Laid, listed, all_laid}
 use Rattle.sw_convert_tokens.proofs.Sitting.{laid_there, all_stand}
 use Rattle.sw_convert_values.proofs.ReadsBack.{listed_of}
-use Rattle.sw_convert_statements.specs.Segments.{SheetSegment, Anything}
+use Rattle.sw_convert_texts.specs.RawTexts.{SheetSegment}
+use Rattle.sw_convert_statements.specs.Segments.{Anything}
 use Rattle.sw_convert_statements.specs.Sheets.{last_line}
 use Rattle.sw_convert_statements.specs.ReadsBack.{IsSheetText, SheetsReadBack}
 use Rattle.sw_convert_statements.proofs.KeywordLengths.{braces_of, keywords_of}

@@ -12,7 +12,8 @@ use Rattle.sw_convert_tokens.specs.Joints.{Segment, text, behind, Stand, written
 use Rattle.sw_convert_tokens.specs.Written.{Follows, is_stop, stops}
 use Rattle.sw_convert_tokens.proofs.Joins.{text_append, toks_append, writtens_append, behind_append, tell_append, stand_append}
 use Rattle.sw_convert_tokens.proofs.Spaces.{apart_segment, BeginsSpace, pad}
-use Rattle.sw_convert_statements.specs.Segments.{SheetSegment, ends_statement, EndsText, seams}
+use Rattle.sw_convert_texts.specs.RawTexts.{SheetSegment, ends_statement, EndsText}
+use Rattle.sw_convert_statements.specs.Segments.{seams}
 
 pub sheet : {before end : Before} {xs : List ℕ} {ks : List Tok} {vs : List Written} {P : List ℕ → Type 0}
     → Segment before xs ks vs end P → SheetSegment before xs ks vs end P

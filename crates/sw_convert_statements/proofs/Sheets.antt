@@ -13,7 +13,8 @@ use Rattle.sw_convert_again.specs.Tokens.{Tok}
 use Rattle.sw_convert_again.specs.Statements.{SpellsStatements}
 use Rattle.sw_convert_again.specs.Statements as spells
 use Rattle.sw_convert_heads_passing.specs.Statements.{Statements, no_statement}
-use Rattle.sw_convert_statements.specs.Segments.{SheetSegment, Anything}
+use Rattle.sw_convert_texts.specs.RawTexts.{SheetSegment}
+use Rattle.sw_convert_statements.specs.Segments.{Anything}
 use Rattle.sw_convert_statements.specs.Statements.{ListHasFronts}
 use Rattle.sw_convert_statements.specs.Sheets.{IsSheetWritten, SheetsAreWritten}
 use Rattle.sw_convert_statements.proofs.Segments.{join}

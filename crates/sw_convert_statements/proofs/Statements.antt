@@ -36,7 +36,8 @@ use Rattle.sw_convert_heads_passing.specs.Rules.{is_rule}
 use Rattle.sw_convert_heads_passing.specs.Flow.{else_head}
 use Rattle.sw_convert_heads_passing.specs.Statements.{alone, Statements, no_statement, statement_ended}
 use Rattle.sw_convert_heads_passing.proofs.Fronts.{begins_code, code_before, front_code, rule_code}
-use Rattle.sw_convert_statements.specs.Segments.{SheetSegment, seams, FrontWritten, ElseWritten}
+use Rattle.sw_convert_texts.specs.RawTexts.{SheetSegment}
+use Rattle.sw_convert_statements.specs.Segments.{seams, FrontWritten, ElseWritten}
 use Rattle.sw_convert_statements.specs.Statements.{HasFronts, BranchesHaveFronts, ElseHasFronts, ListHasFronts}
 use Rattle.sw_convert_statements.specs.Written.{AreLinesWritten, StatementsAreWritten}
 use Rattle.sw_convert_statements.proofs.Keywords.{text_ends, at_else}

@@ -22,7 +22,8 @@ use Rattle.sw_convert_tokens.proofs.Unclosed.{Ends, space_ends, unclosed_behind}
 use Rattle.sw_convert_heads_passing.specs.RawTexts.{RawText, Outside}
 use Rattle.sw_convert_heads_passing.specs.Heads.{takes_text, text_rule, text_head}
 use Rattle.sw_convert_heads_passing.specs.Statements.{Front, texted}
-use Rattle.sw_convert_statements.specs.Segments.{SheetSegment, EndsText, ends_statement, FrontWritten, TextWritten}
+use Rattle.sw_convert_texts.specs.RawTexts.{SheetSegment, EndsText, ends_statement}
+use Rattle.sw_convert_statements.specs.Segments.{FrontWritten, TextWritten}
 use Rattle.sw_convert_statements.specs.Texts.{TextFrontsAreWritten}
 use Rattle.sw_convert_statements.proofs.Segments.{sheet, join, as_behind}
 use Rattle.sw_convert_statements.proofs.Gaps.{code_black, first_white}

@@ -29,7 +29,8 @@ use Rattle.sw_convert_tokens.proofs.Signs.{Anything, lone_segment, sign_segment,
 use Rattle.sw_convert_tokens.proofs.Unclosed.{space_ends, follows_end}
 use Rattle.sw_convert_tokens.proofs.Variables.{variable_name}
 use Rattle.sw_convert_heads_passing.specs.Statements.{flagged, begins_else}
-use Rattle.sw_convert_statements.specs.Segments.{SheetSegment, FrontWritten}
+use Rattle.sw_convert_texts.specs.RawTexts.{SheetSegment}
+use Rattle.sw_convert_statements.specs.Segments.{FrontWritten}
 use Rattle.sw_convert_statements.proofs.Segments.{sheet, join, as_text, as_passed, as_behind, text_follows}
 use Rattle.sw_convert_statements.proofs.Flags.{flags_written}
 

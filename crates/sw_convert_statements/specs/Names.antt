@@ -22,7 +22,8 @@ use Rattle.sw_convert_tokens.specs.Written.{Follows, is_calm}
 use Rattle.sw_convert_heads_passing.specs.Heads.{TextHead}
 use Rattle.sw_convert_heads_passing.specs.Properties.{colon, PropertyHead, CustomHead}
 use Rattle.sw_convert_heads_passing.specs.Statements.{begins_else}
-use Rattle.sw_convert_statements.specs.Segments.{SheetSegment, RuleWritten}
+use Rattle.sw_convert_texts.specs.RawTexts.{SheetSegment}
+use Rattle.sw_convert_statements.specs.Segments.{RuleWritten}
 use Rattle.sw_convert_statements.specs.Statements.{FrontIs}
 use Rattle.sw_convert_statements.specs.Fronts.{ValuesAreKnown}
 use Rattle.sw_convert_statements.specs.Texts.{TextsAreKnown}

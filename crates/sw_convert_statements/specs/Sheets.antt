@@ -9,7 +9,8 @@ use Rattle.sw_convert_passing.specs.Written.{Written}
 use Rattle.sw_convert_again.specs.Tokens.{Tok}
 use Rattle.sw_convert_again.specs.Statements.{SpellsStatements}
 use Rattle.sw_convert_heads_passing.specs.Statements.{Statements}
-use Rattle.sw_convert_statements.specs.Segments.{SheetSegment, Anything}
+use Rattle.sw_convert_texts.specs.RawTexts.{SheetSegment}
+use Rattle.sw_convert_statements.specs.Segments.{Anything}
 use Rattle.sw_convert_statements.specs.Statements.{ListHasFronts}
 
 -- behind the last statement stands a line feed

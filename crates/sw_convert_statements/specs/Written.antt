@@ -8,7 +8,8 @@ use Rattle.sw_convert_passing.specs.Written.{Written}
 use Rattle.sw_convert_again.specs.Tokens.{Tok}
 use Rattle.sw_convert_again.specs.Statements.{SpellsStatements}
 use Rattle.sw_convert_heads_passing.specs.Statements.{Statements}
-use Rattle.sw_convert_statements.specs.Segments.{SheetSegment, Anything}
+use Rattle.sw_convert_texts.specs.RawTexts.{SheetSegment}
+use Rattle.sw_convert_statements.specs.Segments.{Anything}
 use Rattle.sw_convert_statements.specs.Statements.{ListHasFronts}
 
 -- statements in so many blocks, each on a line of its own, behind a line feed and up to the last one: tokens that the pass
