@@ -8,6 +8,8 @@ pub mod Flow
 pub mod Loads
 pub mod Fronts
 pub mod Texts
+mod Dashes
+mod KnownNames
 pub mod Names
 pub mod Blocks
 pub mod Statements

@@ -22,21 +22,16 @@ use Rattle.sw_convert_tokens.proofs.Unclosed.{Ends, space_ends, unclosed_behind,
 use Rattle.sw_convert_tokens.proofs.Spaces.{pad, space_text, unclosed_spaced}
 use Rattle.sw_convert_heads_passing.specs.RawTexts.{RawText, Outside, raw_end}
 use Rattle.sw_convert_heads_passing.specs.Heads.{TextHead}
-use Rattle.sw_convert_heads_passing.specs.Properties.{colon, PropertyHead, CustomHead}
+use Rattle.sw_convert_heads_passing.specs.Properties.{colon}
 use Rattle.sw_convert_heads_passing.specs.Statements.{begins_else, Front, declared, unvalued, named, texted, texted_apart, customised}
 use Rattle.sw_convert_texts.specs.RawTexts.{SheetSegment, EndsText}
 use Rattle.sw_convert_statements.specs.Segments.{Anything, seams, FrontWritten}
 use Rattle.sw_convert_statements.specs.Texts.{TextsAreKnown}
 use Rattle.sw_convert_statements.specs.Names.{NamedAs, NamedFrontsAreWritten}
+use Rattle.sw_convert_statements.proofs.KnownNames.{AsProperty, AsCustom, properties_written, customs_written, at_rules_written}
 use Rattle.sw_convert_statements.proofs.Segments.{sheet, join, as_text, as_toks, as_passed, as_behind, text_follows, value_pads, padded}
 use Rattle.sw_convert_statements.proofs.Texts.{begins_spaced, text_end}
 use Rattle.sw_convert_statements.proofs.Variables.{colon_segment}
-
-abbrev AsProperty : List Written → Type 0
-AsProperty passed = PropertyHead (passed ++ colon ∷ [])
-
-abbrev AsCustom : List Written → Type 0
-AsCustom passed = CustomHead (passed ++ colon ∷ [])
 
 colon_ends : Ends (sign ":")
 colon_ends = record { slash = refl; digit = refl }
@@ -159,24 +154,24 @@ rule_written {name = name} {ks = ks} is known (some_raw {i} {j} {values} {tokens
         subst (λ (l : List Written). Front modes.Raw (l ++ first ∷ rest)) (sym (append-nil head)) (texted h first spaced raw)
 
 pub named_fronts_written : NamedFrontsAreWritten
-named_fronts_written source values raws customs names i j statement tokens
+named_fronts_written source was values raws customs selectors i j statement tokens
     (spells.declaration_line span text_span word mark inner end) t =
-    property_written (names.properties _ _ _ _ text_span word) (values _ _ _ _ inner)
-named_fronts_written source values raws customs names i j statement tokens
+    property_written (properties_written source was values word t) (values _ _ _ _ inner)
+named_fronts_written source was values raws customs selectors i j statement tokens
     (spells.custom_line span text_span name mark inner end) t =
-    custom_written (names.customs _ _ _ _ text_span name) customs inner
-named_fronts_written source values raws customs names i j statement tokens
+    custom_written (customs_written source was values name t) customs inner
+named_fronts_written source was values raws customs selectors i j statement tokens
     (spells.at_rule_line span text_span name raw end) t =
-    rule_written (names.at_rules _ _ _ _ text_span name) raws raw
-named_fronts_written source values raws customs names i j statement tokens
+    rule_written (at_rules_written source was values name t) raws raw
+named_fronts_written source was values raws customs selectors i j statement tokens
     (spells.at_rule_block span text_span name raw block) t =
-    rule_written (names.at_rules _ _ _ _ text_span name) raws raw
-named_fronts_written source values raws customs names i j statement tokens
+    rule_written (at_rules_written source was values name t) raws raw
+named_fronts_written source was values raws customs selectors i j statement tokens
     (spells.properties_block span text_span word mark block) t =
-    lone_property (names.properties _ _ _ _ text_span word)
-named_fronts_written source values raws customs names i j statement tokens
+    lone_property (properties_written source was values word t)
+named_fronts_written source was values raws customs selectors i j statement tokens
     (spells.properties_value_block span text_span word mark inner block) t =
-    property_written (names.properties _ _ _ _ text_span word) (values _ _ _ _ inner)
-named_fronts_written source values raws customs names i j statement tokens (spells.rule_block span raw block) t =
-    names.selectors _ _ _ _ _ raw
-named_fronts_written source values raws customs names i j statement tokens _ t = absurd (cc)
+    property_written (properties_written source was values word t) (values _ _ _ _ inner)
+named_fronts_written source was values raws customs selectors i j statement tokens (spells.rule_block span raw block) t =
+    selectors _ _ _ _ _ raw
+named_fronts_written source was values raws customs selectors i j statement tokens _ t = absurd (cc)

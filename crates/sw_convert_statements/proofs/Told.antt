@@ -14,12 +14,12 @@ use Rattle.sw_convert_statements.specs.Fronts.{ValuesAreKnown, is_told}
 use Rattle.sw_convert_statements.specs.Texts.{TextsAreKnown, has_text}
 use Rattle.sw_convert_statements.specs.Told.{is_known, are_known, block_known, branches_known, else_known, list_known, KnownSheetsHaveFronts}
 use Rattle.sw_convert_statements.proofs.Fronts.{fronts_written, branches_written}
-use Rattle.sw_convert_statements.specs.Names.{NamesAreKnown, has_name}
+use Rattle.sw_convert_statements.specs.Names.{SelectorsAreKnown, has_name}
 use Rattle.sw_convert_statements.proofs.Names.{named_fronts_written}
 use Rattle.sw_convert_statements.proofs.Texts.{text_fronts_written}
 
 module _ (source : Source) (was : WasRead source) (values : ValuesAreKnown source) (raws : TextsAreKnown modes.Raw source)
-    (customs : TextsAreKnown modes.Custom source) (names : NamesAreKnown source) where
+    (customs : TextsAreKnown modes.Custom source) (selectors : SelectorsAreKnown source) where
   front : {i j : ℕ} {statement : Statement} {tokens : List Tok} → (spelt : SpellsStatement source i j statement tokens)
       → is_known spelt ≡ true → FrontIs spelt
   front spelt known = go (is_told spelt) (has_text spelt) (has_name spelt) refl refl refl known
@@ -28,7 +28,7 @@ module _ (source : Source) (was : WasRead source) (values : ValuesAreKnown sourc
           → FrontIs spelt
       go true b c e f g k = fronts_written source was values _ _ _ _ spelt e
       go false true c e f g k = text_fronts_written source raws _ _ _ _ spelt f
-      go false false true e f g k = named_fronts_written source values raws customs names _ _ _ _ spelt g
+      go false false true e f g k = named_fronts_written source was values raws customs selectors _ _ _ _ spelt g
       go false false false e f g k = absurd (cc)
 
   mutual
@@ -44,12 +44,18 @@ module _ (source : Source) (was : WasRead source) (values : ValuesAreKnown sourc
         (front (spells.at_root_block span old block) refl, block_fronts block k)
     fronts (spells.at_root_text_block span old raw block) k =
         (front (spells.at_root_text_block span old raw block) refl, block_fronts block k)
-    fronts (spells.at_rule_block span text_span name raw block) k =
-        (front (spells.at_rule_block span text_span name raw block) refl, block_fronts block k)
-    fronts (spells.properties_block span text_span word mark block) k =
-        (front (spells.properties_block span text_span word mark block) refl, block_fronts block k)
-    fronts (spells.properties_value_block span text_span word mark inner block) k =
-        (front (spells.properties_value_block span text_span word mark inner block) refl, block_fronts block k)
+    fronts (spells.at_rule_block span text_span name raw block) k = (
+      front (spells.at_rule_block span text_span name raw block) (and_left (is_known (spells.at_rule_block span text_span name raw block)) _ k),
+      block_fronts block (and_right (is_known (spells.at_rule_block span text_span name raw block)) _ k),
+    )
+    fronts (spells.properties_block span text_span word mark block) k = (
+      front (spells.properties_block span text_span word mark block) (and_left (is_known (spells.properties_block span text_span word mark block)) _ k),
+      block_fronts block (and_right (is_known (spells.properties_block span text_span word mark block)) _ k),
+    )
+    fronts (spells.properties_value_block span text_span word mark inner block) k = (
+      front (spells.properties_value_block span text_span word mark inner block) (and_left (is_known (spells.properties_value_block span text_span word mark inner block)) _ k),
+      block_fronts block (and_right (is_known (spells.properties_value_block span text_span word mark inner block)) _ k),
+    )
     fronts (spells.rule_block span raw block) k = (front (spells.rule_block span raw block) refl, block_fronts block k)
     fronts (spells.if_block span old inner block further otherwise) k = (
       front (spells.if_block span old inner block further otherwise) refl,
@@ -105,5 +111,5 @@ module _ (source : Source) (was : WasRead source) (values : ValuesAreKnown sourc
         (fronts one (and_left (are_known one) _ k), list_fronts more (and_right (are_known one) _ k))
 
 pub known_sheets_have_fronts : KnownSheetsHaveFronts
-known_sheets_have_fronts source was values raws customs names i j list tokens spelt k =
-    list_fronts source was values raws customs names spelt k
+known_sheets_have_fronts source was values raws customs selectors i j list tokens spelt k =
+    list_fronts source was values raws customs selectors spelt k

@@ -1,27 +1,33 @@
 -- What is written of declarations, custom properties, at-rules of CSS and rules, up to their end or their block, is their
--- tokens, where what is written of their names, values and texts is.
-use Rattle.std.specs.Prelude.{◌≡◌, ℕ, Bool, true, false, List, [], ◌∷◌, ◌++◌}
-use Rattle.sw_text.specs.declared.place.Span.{Span}
+-- tokens, where what is written of their values and texts is.
+use Rattle.std.specs.Prelude.{◌≡◌, ℕ, Bool, true, false, not, ◌&&◌, ◌==◌, List, ◌++◌, codes}
+use Rattle.sw_text_scan.specs.Bytes.{sign, byte}
 use Rattle.sw_tree.specs.declared.text.Parts.{Parts}
 use Rattle.sw_tree.specs.declared.statement.Statement.{Statement}
 use Rattle.sw_tokens.specs.declared.pieces.Before.{Before}
 use Rattle.sw_tokens.specs.declared.pieces.Before.TheVariants as befores
 use Rattle.sw_parse_terminals.specs.declared.terminal.Terminal.TheVariants as terminals
+use Rattle.sw_parse_lexemes.specs.declared.sort.Sort.{Sort}
+use Rattle.sw_parse_lexemes.specs.declared.sort.Sort.TheVariants as sorts
 use Rattle.sw_parse_lexemes.specs.declared.state.Mode.TheVariants as modes
+use Rattle.sw_parse_lexemes.specs.Classes.{is_reserved, is_else}
+use Rattle.sw_parse_lexemes.specs.Words.{word_sort, at_sort}
 use Rattle.sw_parse_table.specs.declared.source.Source.{Source}
 use Rattle.sw_parse_table.specs.Parts.{Part}
-use Rattle.sw_parse_table.specs.Sources.{text_between}
-use Rattle.sw_convert_written.specs.Heads.{plain_text, selector_text}
+use Rattle.sw_parse_table.specs.Sources.{bytes_at, text_between}
+use Rattle.sw_convert_written.specs.Heads.{selector_text}
 use Rattle.sw_convert_passing.specs.Written.{Written}
 use Rattle.sw_convert_again.specs.Tokens.{Tok, Extent}
 use Rattle.sw_convert_again.specs.RawTexts.{SpellsRawText, raw_tokens}
 use Rattle.sw_convert_again.specs.Spells.{SpellsWord}
-use Rattle.sw_convert_again.specs.Statements.{SpellsStatement, SpellsName, SpellsAtName}
+use Rattle.sw_convert_again.specs.Spells as spells_values
+use Rattle.sw_convert_again.specs.Statements.{SpellsStatement, SpellsName, SpellsAtName, at_word}
 use Rattle.sw_convert_again.specs.Statements as spells
-use Rattle.sw_convert_tokens.specs.Written.{Follows, is_calm}
-use Rattle.sw_convert_heads_passing.specs.Heads.{TextHead}
-use Rattle.sw_convert_heads_passing.specs.Properties.{colon, PropertyHead, CustomHead}
+use Rattle.sw_convert_tokens.specs.Values.{WasRead}
+use Rattle.sw_convert_tokens.specs.Written.{Follows, is_calm, begins_white}
+use Rattle.sw_convert_heads_passing.specs.Heads.{is_keyword}
 use Rattle.sw_convert_heads_passing.specs.Statements.{begins_else}
+use Rattle.sw_convert_texts.specs.Names.{joined, word_plain, name_plain, name_inserts}
 use Rattle.sw_convert_texts.specs.RawTexts.{SheetSegment}
 use Rattle.sw_convert_statements.specs.Segments.{RuleWritten}
 use Rattle.sw_convert_statements.specs.Statements.{FrontIs}
@@ -38,36 +44,61 @@ pub record IsNamed (Head : List Written → Type 0) (text : List ℕ) (tokens : 
 abbrev pub NamedAs : (List Written → Type 0) → List ℕ → List Tok → Type 0
 NamedAs Head text tokens = (before : Before) → is_calm before ≡ true → IsNamed Head text tokens before
 
--- what is written of each name of a sheet is its tokens, and so is the text before the block of each rule
-pub record NamesAreKnown (source : Source) : Type 0 where
-  pub properties : (i j : ℕ) (parts : Parts) (tokens : List Tok) (span : Span) → SpellsWord source i j parts tokens
-      → NamedAs (λ (passed : List Written). PropertyHead (passed ++ colon ∷ []))
-      (plain_text (record { parts = parts; span = span })) tokens
-  pub customs : (i j : ℕ) (parts : Parts) (tokens : List Tok) (span : Span)
-      → SpellsName source terminals.Custom i j parts tokens
-      → NamedAs (λ (passed : List Written). CustomHead (passed ++ colon ∷ []))
-      (plain_text (record { parts = parts; span = span })) tokens
-  pub at_rules : (i j : ℕ) (parts : Parts) (tokens : List Tok) (span : Span) → SpellsAtName source i j parts tokens
-      → NamedAs TextHead (plain_text (record { parts = parts; span = span })) tokens
-  -- what stands before the block of a rule
-  pub selectors : (i j : ℕ) (values : List Part) (tokens : List Tok) (extents : List Extent)
-      → SpellsRawText source i j values tokens extents
-      → RuleWritten (selector_text (text_between source i j values)) (raw_tokens source i j values extents tokens)
+-- what stands before the block of each rule of a sheet is its tokens
+abbrev pub SelectorsAreKnown : Source → Type 0
+SelectorsAreKnown source =
+    (i j : ℕ) (values : List Part) (tokens : List Tok) (extents : List Extent)
+    → SpellsRawText source i j values tokens extents
+    → RuleWritten (selector_text (text_between source i j values)) (raw_tokens source i j values extents tokens)
 
--- declarations with a value, a block or both, custom properties, at-rules of CSS, and rules
+-- ---- names of which it is proved, told by their bytes
+
+-- with a `:` behind it, a name begins with `--`
+abbrev pub begins_dashed : List ℕ → Bool
+begins_dashed name = (byte (name ++ codes ":") 0 == sign "-") && (byte (name ++ codes ":") 1 == sign "-")
+
+-- a name that is no constant and no operator by itself, or a word with more in it, whose numbers are plain
+abbrev pub is_free_word : (source : Source) {i j : ℕ} {parts : Parts} {tokens : List Tok}
+    → SpellsWord source i j parts tokens → Bool
+is_free_word source (spells_values.named {i} old spells_values.row_end) = not (is_reserved (word_sort (bytes_at source i)))
+is_free_word source word = word_plain source word
+
+-- and that begins neither with white space nor with `--`
+abbrev pub is_property : (source : Source) {i j : ℕ} {parts : Parts} {tokens : List Tok}
+    → SpellsWord source i j parts tokens → Bool
+is_property source {parts = parts} word =
+    is_free_word source word && (not (begins_white (joined parts)) && not (begins_dashed (joined parts)))
+
+abbrev pub is_custom : (source : Source) {i j : ℕ} {parts : Parts} {tokens : List Tok}
+    → SpellsName source terminals.Custom i j parts tokens → Bool
+is_custom source {parts = parts} name = name_plain source name && begins_dashed (joined parts)
+
+-- `@` and a name that is no keyword, or that begins with a keyword directly before a `#{}`
+abbrev pub names_rule : Sort → Bool → Bool
+names_rule sorts.AtName inserts = true
+names_rule sort inserts = is_keyword sort && (not (is_else sort) && inserts)
+
+abbrev pub is_at_rule : (source : Source) {i j : ℕ} {parts : Parts} {tokens : List Tok}
+    → SpellsAtName source i j parts tokens → Bool
+is_at_rule source (at_word {i} name) =
+    name_plain source name && names_rule (at_sort (bytes_at source i)) (name_inserts name)
+is_at_rule source _ = false
+
+-- declarations with a value, a block or both, custom properties and at-rules of CSS with such names, and rules
 abbrev pub has_name : {source : Source} {i j : ℕ} {statement : Statement} {tokens : List Tok}
     → SpellsStatement source i j statement tokens → Bool
-has_name (spells.declaration_line span text_span word mark inner end) = true
-has_name (spells.custom_line span text_span name mark inner end) = true
-has_name (spells.at_rule_line span text_span name raw end) = true
-has_name (spells.at_rule_block span text_span name raw block) = true
-has_name (spells.properties_block span text_span word mark block) = true
-has_name (spells.properties_value_block span text_span word mark inner block) = true
+has_name {source} (spells.declaration_line span text_span word mark inner end) = is_property source word
+has_name {source} (spells.custom_line span text_span name mark inner end) = is_custom source name
+has_name {source} (spells.at_rule_line span text_span name raw end) = is_at_rule source name
+has_name {source} (spells.at_rule_block span text_span name raw block) = is_at_rule source name
+has_name {source} (spells.properties_block span text_span word mark block) = is_property source word
+has_name {source} (spells.properties_value_block span text_span word mark inner block) = is_property source word
 has_name (spells.rule_block span raw block) = true
 has_name _ = false
 
 abbrev pub NamedFrontsAreWritten : Type 0
 NamedFrontsAreWritten =
-    (source : Source) → ValuesAreKnown source → TextsAreKnown modes.Raw source → TextsAreKnown modes.Custom source
-    → NamesAreKnown source → (i j : ℕ) (statement : Statement) (tokens : List Tok)
+    (source : Source) → WasRead source → ValuesAreKnown source → TextsAreKnown modes.Raw source
+    → TextsAreKnown modes.Custom source → SelectorsAreKnown source → (i j : ℕ) (statement : Statement)
+    (tokens : List Tok)
     → (spelt : SpellsStatement source i j statement tokens) → has_name spelt ≡ true → FrontIs spelt

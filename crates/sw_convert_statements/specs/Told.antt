@@ -11,7 +11,7 @@ use Rattle.sw_convert_tokens.specs.Values.{WasRead}
 use Rattle.sw_convert_statements.specs.Statements.{ListHasFronts}
 use Rattle.sw_convert_statements.specs.Fronts.{ValuesAreKnown, is_told}
 use Rattle.sw_convert_statements.specs.Texts.{TextsAreKnown, has_text}
-use Rattle.sw_convert_statements.specs.Names.{NamesAreKnown, has_name}
+use Rattle.sw_convert_statements.specs.Names.{SelectorsAreKnown, has_name}
 
 -- a statement itself
 abbrev pub is_known : {source : Source} {i j : ℕ} {statement : Statement} {tokens : List Tok}
@@ -27,9 +27,12 @@ abbrev mutual
   are_known (spells.supports_block span old raw block) = block_known block
   are_known (spells.at_root_block span old block) = block_known block
   are_known (spells.at_root_text_block span old raw block) = block_known block
-  are_known (spells.at_rule_block span text_span name raw block) = block_known block
-  are_known (spells.properties_block span text_span word mark block) = block_known block
-  are_known (spells.properties_value_block span text_span word mark inner block) = block_known block
+  are_known (spells.at_rule_block span text_span name raw block) =
+      is_known (spells.at_rule_block span text_span name raw block) && block_known block
+  are_known (spells.properties_block span text_span word mark block) =
+      is_known (spells.properties_block span text_span word mark block) && block_known block
+  are_known (spells.properties_value_block span text_span word mark inner block) =
+      is_known (spells.properties_value_block span text_span word mark inner block) && block_known block
   are_known (spells.rule_block span raw block) = block_known block
   are_known (spells.if_block span old inner block further otherwise) =
       block_known block && (branches_known further && else_known otherwise)
@@ -56,10 +59,10 @@ abbrev mutual
   list_known (spells.more_statements one more) = are_known one && list_known more
 
 -- such a sheet is written as its tokens up to the ends and the blocks of its statements, where its values, texts and
--- names are
+-- selectors are
 abbrev pub KnownSheetsHaveFronts : Type 0
 KnownSheetsHaveFronts =
     (source : Source) → WasRead source → ValuesAreKnown source → TextsAreKnown modes.Raw source
-    → TextsAreKnown modes.Custom source → NamesAreKnown source → (i j : ℕ) (list : List Statement) (tokens : List Tok)
+    → TextsAreKnown modes.Custom source → SelectorsAreKnown source → (i j : ℕ) (list : List Statement) (tokens : List Tok)
     → (spelt : SpellsStatements source i j list tokens) → list_known spelt ≡ true
     → ListHasFronts spelt

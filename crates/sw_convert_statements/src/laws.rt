@@ -19,14 +19,14 @@ pub fn text_fronts_are_written()
     ensures { TextFrontsAreWritten }
 {}
 
-/// A law: the same of declarations, custom properties, at-rules of CSS and rules, where what is written of their names, values
-/// and texts is their tokens.
+/// A law: the same of declarations, custom properties, at-rules of CSS and rules, where what is written of their values,
+/// texts and selectors is their tokens.
 pub fn named_fronts_are_written()
     ensures { NamedFrontsAreWritten }
 {}
 
 /// A law: where all statements of a sheet are of these kinds, what is written of each up to its end or its block is its
-/// tokens, where that is so of the values, texts and names in the sheet.
+/// tokens, where that is so of the values, texts and selectors in the sheet.
 pub fn known_sheets_have_fronts()
     ensures { KnownSheetsHaveFronts }
 {}
