@@ -1,6 +1,8 @@
 -- Statements with values, by their kinds.
 use Rattle.std.proofs.Common.{suc}
-use Rattle.sw_parse_table.specs.Actions.{flags_at}
+use Rattle.sw_text_scan.proofs.Bounds.{and_left, and_right}
+use Rattle.sw_parse_table.specs.Actions.{flags_at, name_at}
+use Rattle.sw_convert_written.specs.Names.{name_text}
 use Rattle.sw_convert_again.specs.Statements.{SpellsStatement}
 use Rattle.sw_convert_again.specs.Statements as spells
 use Rattle.sw_convert_again.specs.Loads as loads
@@ -8,16 +10,18 @@ use Rattle.sw_convert_statements.specs.Fronts.{FrontsAreWritten, BranchesAreWrit
 use Rattle.sw_convert_statements.proofs.Valued.{return_written, say_written, if_written, while_written, else_if_written}
 use Rattle.sw_convert_statements.proofs.Variables.{variable_written}
 use Rattle.sw_convert_statements.proofs.Loads.{forward_written, use_written, use_star_written}
+use Rattle.sw_convert_statements.specs.OneName.{is_one_name}
+use Rattle.sw_convert_statements.proofs.Callables.{function_written, mixin_written}
 use Rattle.sw_convert_statements.proofs.Flow.{each_written, charset_written, content_written, at_root_written}
 
 pub fronts_written : FrontsAreWritten
 fronts_written source was known i j statement tokens (spells.return_line span old inner end) t =
-    return_written (known _ _ _ _ inner)
+    return_written (known.rows _ _ _ _ inner)
 fronts_written source was known i j statement tokens (spells.say_line level span old inner end) t =
-    say_written (known _ _ _ _ inner) level
+    say_written (known.rows _ _ _ _ inner) level
 fronts_written source was known i j statement tokens
     (spells.variable_line {i = k} {places = places} span one two three inner flags end) t =
-    variable_written source (suc k) was two (known _ _ _ _ inner) (flags_at source places)
+    variable_written source (suc k) was two (known.rows _ _ _ _ inner) (flags_at source places)
 fronts_written source was known i j statement tokens (spells.charset_line span one two end) t = charset_written
 fronts_written source was known i j statement tokens (spells.content_line span old spells.no_parens end) t =
     content_written
@@ -33,13 +37,18 @@ fronts_written source was known i j statement tokens
 fronts_written source was known i j statement tokens
     (spells.use_line {i = k} span one two (loads.without_namespace as_word star) loads.no_configuration end) t =
     use_star_written source (suc k) was
+fronts_written source was known i j statement tokens (spells.function_block {i = k} span one two head block) t =
+    function_written source was known (suc k) t head
+fronts_written source was known i j statement tokens (spells.mixin_block {i = k} span one two head block) t =
+    mixin_written source was known (suc k) (and_left (is_one_name (name_text (name_at source (suc k)))) _ t) head
+    (and_right (is_one_name (name_text (name_at source (suc k)))) _ t)
 fronts_written source was known i j statement tokens (spells.while_block span old inner block) t =
-    while_written (known _ _ _ _ inner)
+    while_written (known.rows _ _ _ _ inner)
 fronts_written source was known i j statement tokens (spells.if_block span old inner block further otherwise) t =
-    if_written (known _ _ _ _ inner)
+    if_written (known.rows _ _ _ _ inner)
 fronts_written source was known i j statement tokens
     (spells.each_block span one two three names in_word inner block) t =
-    each_written source was three names (known _ _ _ _ inner)
+    each_written source was three names (known.rows _ _ _ _ inner)
 fronts_written source was known i j statement tokens _ t = absurd (cc)
 
 pub branches_written : BranchesAreWritten

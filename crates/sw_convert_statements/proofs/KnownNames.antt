@@ -64,13 +64,13 @@ module _ {source : Source} (values : ValuesAreKnown source) where
       → (row : SpellsRow source part opening extra i j inserts count tokens) → RowHasValues row
   row_values spells.row_end = tt
   row_values (spells.row_part old row) = row_values row
-  row_values (spells.row_insert opens inner close row) = (values _ _ _ _ inner, row_values row)
+  row_values (spells.row_insert opens inner close row) = (values.rows _ _ _ _ inner, row_values row)
 
   word_values : {i j : ℕ} {parts : Parts} {tokens : List Tok} → (word : SpellsWord source i j parts tokens)
       → WordHasValues word
   word_values (spells.named old row) = row_values row
-  word_values (spells.begun opens inner close row) = (values _ _ _ _ inner, row_values row)
-  word_values (spells.begun_minus minus opens inner close row) = (values _ _ _ _ inner, row_values row)
+  word_values (spells.begun opens inner close row) = (values.rows _ _ _ _ inner, row_values row)
+  word_values (spells.begun_minus minus opens inner close row) = (values.rows _ _ _ _ inner, row_values row)
 
   name_values : {first : Terminal} {i j : ℕ} {parts : Parts} {tokens : List Tok}
       → (name : SpellsName source first i j parts tokens) → NameHasValues name

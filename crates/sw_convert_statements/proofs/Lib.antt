@@ -1,9 +1,12 @@
 pub mod Segments
 pub mod Gaps
 pub mod Keywords
+mod OneName
 pub mod Valued
 pub mod Flags
 pub mod Variables
+mod Params
+mod Callables
 pub mod Flow
 pub mod Loads
 pub mod Fronts

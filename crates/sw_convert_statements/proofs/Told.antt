@@ -34,6 +34,16 @@ module _ (source : Source) (was : WasRead source) (values : ValuesAreKnown sourc
   mutual
     fronts : {i j : ℕ} {statement : Statement} {tokens : List Tok}
         → (spelt : SpellsStatement source i j statement tokens) → are_known spelt ≡ true → HasFronts spelt
+    fronts (spells.function_block span one two head block) k = (
+      front (spells.function_block span one two head block)
+          (and_left (is_known (spells.function_block span one two head block)) _ k),
+      block_fronts block (and_right (is_known (spells.function_block span one two head block)) _ k),
+    )
+    fronts (spells.mixin_block span one two head block) k = (
+      front (spells.mixin_block span one two head block)
+          (and_left (is_known (spells.mixin_block span one two head block)) _ k),
+      block_fronts block (and_right (is_known (spells.mixin_block span one two head block)) _ k),
+    )
     fronts (spells.while_block span old inner block) k =
         (front (spells.while_block span old inner block) refl, block_fronts block k)
     fronts (spells.each_block span one two three names in_word inner block) k =
@@ -93,7 +103,7 @@ module _ (source : Source) (was : WasRead source) (values : ValuesAreKnown sourc
         → BranchesHaveFronts further
     branch_fronts spells.no_branches k = tt
     branch_fronts (spells.more_branches old inner block more) k = (
-      branches_written _ _ (values _ _ _ _ inner),
+      branches_written _ _ (values.rows _ _ _ _ inner),
       block_fronts block (and_left (block_known block) _ k),
       branch_fronts more (and_right (block_known block) _ k),
     )

@@ -1,6 +1,7 @@
 -- What is written of statements with values, up to their end or their block, is their tokens, where what is written of the
 -- values is.
-use Rattle.std.specs.Prelude.{◌≡◌, ℕ, suc, Bool, true, false, List, ◌∷◌, ◌++◌, codes}
+use Rattle.std.specs.Prelude.{◌≡◌, ℕ, suc, Bool, true, false, not, ◌&&◌, List, ◌∷◌, ◌++◌, codes}
+use Rattle.sw_tree.specs.declared.callable.Params.{Params}
 use Rattle.sw_tree.specs.declared.expr.Expr.{Expr}
 use Rattle.sw_tree.specs.declared.statement.Statement.{Statement}
 use Rattle.sw_parse_terminals.specs.declared.terminal.Terminal.TheVariants as terminals
@@ -8,25 +9,39 @@ use Rattle.sw_parse_lexemes.specs.declared.state.Mode.TheVariants as modes
 use Rattle.sw_parse_table.specs.declared.source.Source.{Source}
 use Rattle.sw_parse_terminals.specs.Urls.{has_namespace}
 use Rattle.sw_parse_table.specs.Sources.{decoded_at}
+use Rattle.sw_parse_table.specs.Actions.{name_at}
 use Rattle.sw_convert_written.specs.Expressions.{expr_text}
+use Rattle.sw_convert_written.specs.Heads.{has_none}
+use Rattle.sw_convert_written.specs.Names.{name_text}
 use Rattle.sw_convert_again.specs.Tokens.{Tok, sign}
-use Rattle.sw_convert_again.specs.Spells.{Spells}
+use Rattle.sw_convert_again.specs.Spells.{Spells, SpellsPlain}
 use Rattle.sw_convert_again.specs.Statements.{SpellsStatement}
 use Rattle.sw_convert_again.specs.Statements as spells
 use Rattle.sw_convert_again.specs.Loads as spells_loads
-use Rattle.sw_convert_tokens.specs.Written.{AsRow, WrittenAs}
+use Rattle.sw_convert_again.specs.Params.{SpellsOptionalParams, some_head}
+use Rattle.sw_convert_tokens.specs.Written.{AsRow, AsValue, WrittenAs}
 use Rattle.sw_convert_tokens.specs.Values.{WasRead}
 use Rattle.sw_convert_statements.specs.Segments.{ElseWritten}
 use Rattle.sw_convert_statements.specs.Statements.{FrontIs}
+use Rattle.sw_convert_statements.specs.OneName.{is_one_name}
 
--- what is written of each value of a sheet is its tokens
-abbrev pub ValuesAreKnown : Source → Type 0
-ValuesAreKnown source =
-    (i j : ℕ) (value : Expr) (tokens : List Tok) → Spells source i j value tokens
-    → WrittenAs AsRow (expr_text value) tokens
+-- what is written of each value of a sheet is its tokens, and of one that is no list with commas and without brackets those
+-- of one value
+pub record ValuesAreKnown (source : Source) : Type 0 where
+  pub rows : (i j : ℕ) (value : Expr) (tokens : List Tok) → Spells source i j value tokens
+      → WrittenAs AsRow (expr_text value) tokens
+  pub plains : (i j : ℕ) (value : Expr) (tokens : List Tok) → SpellsPlain source i j value tokens
+      → (signed : Bool) × WrittenAs (AsValue signed) (expr_text value) tokens
+
+-- parentheses stand behind the name of a mixin where it has parameters
+abbrev pub writes_params : {source : Source} {i j : ℕ} {params : Params} {tokens : List Tok}
+    → SpellsOptionalParams source i j params tokens → Bool
+writes_params (some_head {params = params} head) = not (has_none params)
+writes_params _ = true
 
 -- the statements of which it is proved: those of values, `@each`, variables with flags, `@charset`, `@content` without
--- arguments, `@at-root` without a selector, `@forward` of a url alone, and `@use` of a url alone or `as *`
+-- arguments, `@at-root` without a selector, `@forward` of a url alone, `@use` of a url alone or `as *`, and functions and
+-- mixins, where their name is one
 abbrev pub is_told : {source : Source} {i j : ℕ} {statement : Statement} {tokens : List Tok}
     → SpellsStatement source i j statement tokens → Bool
 is_told (spells.return_line span old inner end) = true
@@ -41,6 +56,9 @@ is_told (spells.forward_line span one two spells_loads.no_prefix spells_loads.no
 is_told {source} (spells.use_line {i} span one two spells_loads.default_namespace spells_loads.no_configuration end) =
     has_namespace (decoded_at source (suc i))
 is_told (spells.use_line span one two (spells_loads.without_namespace as_word star) spells_loads.no_configuration end) = true
+is_told {source} (spells.function_block {i} span one two head block) = is_one_name (name_text (name_at source (suc i)))
+is_told {source} (spells.mixin_block {i} span one two head block) =
+    is_one_name (name_text (name_at source (suc i))) && writes_params head
 is_told (spells.while_block span old inner block) = true
 is_told (spells.if_block span old inner block further otherwise) = true
 is_told (spells.each_block span one two three names in_word inner block) = true

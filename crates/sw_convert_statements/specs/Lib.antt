@@ -2,6 +2,7 @@ pub mod Segments
 pub mod Statements
 pub mod Written
 pub mod Sheets
+pub mod OneName
 pub mod Fronts
 pub mod Texts
 pub mod Names

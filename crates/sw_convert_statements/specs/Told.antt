@@ -22,6 +22,10 @@ is_known spelt = is_told spelt || (has_text spelt || has_name spelt)
 abbrev mutual
   pub are_known : {source : Source} {i j : ℕ} {statement : Statement} {tokens : List Tok}
       → SpellsStatement source i j statement tokens → Bool
+  are_known (spells.function_block span one two head block) =
+      is_known (spells.function_block span one two head block) && block_known block
+  are_known (spells.mixin_block span one two head block) =
+      is_known (spells.mixin_block span one two head block) && block_known block
   are_known (spells.while_block span old inner block) = block_known block
   are_known (spells.each_block span one two three names in_word inner block) = block_known block
   are_known (spells.supports_block span old raw block) = block_known block

@@ -1,0 +1,144 @@
+-- The heads of functions and mixins, and `@include` without arguments.
+use Rattle.std.proofs.Common.{◌≡◌, ℕ, true, false, List, [], ◌∷◌, ◌++◌, Option, None, append-nil, inl, refl, sym, ◌∙◌, ap, subst}
+use Rattle.std.specs.Prelude.{codes}
+use Rattle.sw_text.specs.Names.{dashed}
+use Rattle.sw_text_scan.specs.Bytes.{sign}
+use Rattle.sw_text_scan.proofs.Bounds.{if_true, if_false, not_true}
+use Rattle.sw_tree.specs.declared.callable.Kind.TheVariants as callables
+use Rattle.sw_tree.specs.declared.callable.Param.{Param}
+use Rattle.sw_tree.specs.declared.callable.Params.{Params as TreeParams}
+use Rattle.sw_tokens.specs.declared.pieces.Before.TheVariants as befores
+use Rattle.sw_tokens.specs.Tokens.{is_spaced}
+use Rattle.sw_parse_terminals.specs.declared.terminal.Terminal.TheVariants as terminals
+use Rattle.sw_parse_lexemes.specs.declared.sort.Sort.{Sort}
+use Rattle.sw_parse_lexemes.specs.declared.sort.Sort.TheVariants as sorts
+use Rattle.sw_parse_lexemes.specs.declared.state.Mode.TheVariants as modes
+use Rattle.sw_parse_lexemes.specs.Classes.{is_name}
+use Rattle.sw_parse_lexemes.specs.Sorts.{sort_of}
+use Rattle.sw_parse_table.specs.declared.source.Source.{Source}
+use Rattle.sw_parse_table.specs.Sources.{bytes_at}
+use Rattle.sw_parse_table.specs.Actions.{name_at}
+use Rattle.sw_convert_written.specs.Expressions.{is_url}
+use Rattle.sw_convert_written.specs.Heads.{none_in, has_none, params_text, callable_head}
+use Rattle.sw_convert_written.specs.Names.{name_text}
+use Rattle.sw_convert_passing.specs.Written.{written, apart}
+use Rattle.sw_convert_again.specs.Tokens.{Tok, tok, Old, Dashed}
+use Rattle.sw_convert_again.specs.Tokens as again
+use Rattle.sw_convert_again.specs.Params.{SpellsHeadParams, SpellsOptionalParams, no_head, empty_head, some_head}
+use Rattle.sw_convert_tokens.specs.Joints.{Segment}
+use Rattle.sw_convert_tokens.specs.Written.{Follows}
+use Rattle.sw_convert_tokens.specs.Values.{WasRead}
+use Rattle.sw_convert_tokens.proofs.Stops.{Behind, follows_parts, parted_behind, paren_behind}
+use Rattle.sw_convert_tokens.proofs.Unclosed.{space_ends, follows_end}
+use Rattle.sw_convert_heads_passing.specs.Members.{function_head, mixin_head, lone_mixin_head, params_in}
+use Rattle.sw_convert_heads_passing.specs.Statements.{belonging}
+use Rattle.sw_convert_statements.specs.Segments.{FrontWritten}
+use Rattle.sw_convert_statements.specs.OneName.{is_one_name}
+use Rattle.sw_convert_statements.specs.Fronts.{ValuesAreKnown, writes_params}
+use Rattle.sw_convert_statements.proofs.Keywords.{at_function, at_mixin}
+use Rattle.sw_convert_statements.proofs.OneName.{one_name, name_segment, name_sort, dashed_text}
+use Rattle.sw_convert_statements.proofs.Params.{parens_written}
+use Rattle.sw_convert_statements.proofs.Segments.{sheet, join, as_text, as_behind, text_follows}
+
+-- what may stand behind a name and the end of a statement or a block
+pub name_ends : (name after : List ℕ) → Follows name after → Behind name after
+name_ends name after f = parted_behind name after (follows_parts name after f)
+
+none_there : (params : TreeParams) → params.items ≡ [] → params.rest ≡ None → has_none params ≡ true
+none_there params items rest =
+    ap (λ (l : List Param). none_in l params.rest) items ∙ ap (λ (o : Option (List ℕ)). none_in [] o) rest
+
+-- the name of a member behind a space
+pub record IsMember (source : Source) (i : ℕ) : Type 0 where
+  pub sort : Sort
+  pub is : is_name sort ≡ true
+  pub no_url : is_url (name_text (name_at source i)) ≡ false
+  pub segment : Segment befores.Other (codes " " ++ name_text (name_at source i))
+      (tok terminals.Named (Dashed (name_at source i)) ∷ []) (apart sort terminals.Named ∷ []) befores.Other
+      (Behind (name_text (name_at source i)))
+
+pub member_written : (source : Source) (i : ℕ) → is_one_name (name_text (name_at source i)) ≡ true → IsMember source i
+member_written source i t =
+    let name = name_text (name_at source i) in
+    let it = one_name name t in record {
+      sort = sort_of it.kind name;
+      is = name_sort name it;
+      no_url = it.no_url;
+      segment = name_segment name it terminals.Named (Dashed (name_at source i)) befores.Other true refl
+          (λ new at same. ap dashed same ∙ dashed_text (bytes_at source i));
+    }
+
+module _ (source : Source) (was : WasRead source) (values : ValuesAreKnown source) where
+  pub function_written : (i : ℕ) → is_one_name (name_text (name_at source i)) ≡ true → {j k : ℕ} {params : TreeParams}
+      {tokens : List Tok} → SpellsHeadParams source j k params tokens
+      → FrontWritten modes.Head (callable_head callables.Function (name_at source i) params)
+      (again.sign terminals.AtFunction ∷ tok terminals.Named (Dashed (name_at source i)) ∷ tokens)
+  function_written i t {params = params} head before calm =
+      let name = member_written source i t in
+      let parens = parens_written source was values head false in
+      let text = name_text (name_at source i) in record {
+        passed = written sorts.AtFunction (is_spaced before) terminals.AtFunction ∷ apart name.sort terminals.Named
+            ∷ params_in false parens.passed;
+        front = belonging (function_head name.sort name.is parens.are);
+        first = refl;
+        end = befores.Other;
+        loose = λ u. refl;
+        segment = as_behind (λ after e. tt)
+            (join (sheet (at_function.segment before calm))
+            (join (sheet name.segment) (sheet parens.segment) (λ after ok. paren_behind text _ name.no_url))
+            (λ after ok. ((text ++ params_text params) ++ after, inl refl)));
+      }
+
+  mixin_parens : (i : ℕ) → is_one_name (name_text (name_at source i)) ≡ true → {j k : ℕ} {params : TreeParams}
+      {tokens : List Tok} → SpellsHeadParams source j k params tokens
+      → FrontWritten modes.Head (codes "@mixin " ++ (name_text (name_at source i) ++ params_text params))
+      (again.sign terminals.AtMixin ∷ tok terminals.Named (Dashed (name_at source i)) ∷ tokens)
+  mixin_parens i t {params = params} head before calm =
+      let name = member_written source i t in
+      let parens = parens_written source was values head false in
+      let text = name_text (name_at source i) in record {
+        passed = written sorts.AtMixin (is_spaced before) terminals.AtMixin ∷ apart name.sort terminals.Named
+            ∷ params_in false parens.passed;
+        front = belonging (mixin_head name.sort name.is parens.are);
+        first = refl;
+        end = befores.Other;
+        loose = λ u. refl;
+        segment = as_behind (λ after e. tt)
+            (join (sheet (at_mixin.segment before calm))
+            (join (sheet name.segment) (sheet parens.segment) (λ after ok. paren_behind text _ name.no_url))
+            (λ after ok. ((text ++ params_text params) ++ after, inl refl)));
+      }
+
+  lone_mixin : (i : ℕ) → is_one_name (name_text (name_at source i)) ≡ true
+      → FrontWritten modes.Head (codes "@mixin " ++ (name_text (name_at source i) ++ []))
+      (again.sign terminals.AtMixin ∷ tok terminals.Named (Dashed (name_at source i)) ∷ [])
+  lone_mixin i t before calm =
+      let name = member_written source i t in
+      let text = name_text (name_at source i) in record {
+        passed = written sorts.AtMixin (is_spaced before) terminals.AtMixin ∷ apart name.sort terminals.Named ∷ [];
+        front = belonging (lone_mixin_head name.sort name.is);
+        first = refl;
+        end = befores.Other;
+        loose = λ u. refl;
+        segment = as_text (ap (λ (x : List ℕ). codes "@mixin " ++ x) (sym (append-nil text)))
+            (as_behind
+            (λ after e. name_ends text after
+            (follows_end (codes "@mixin") text (sign " ") space_ends after
+            (subst (λ (x : List ℕ). Follows x after) (ap (λ (x : List ℕ). codes "@mixin " ++ x) (append-nil text))
+            (text_follows _ after e))))
+            (join (sheet (at_mixin.segment before calm)) (sheet name.segment) (λ after ok. (text ++ after, inl refl))));
+      }
+
+  pub mixin_written : (i : ℕ) → is_one_name (name_text (name_at source i)) ≡ true → {j k : ℕ} {params : TreeParams}
+      {tokens : List Tok} → (head : SpellsOptionalParams source j k params tokens) → writes_params head ≡ true
+      → FrontWritten modes.Head (callable_head callables.Mixin (name_at source i) params)
+      (again.sign terminals.AtMixin ∷ tok terminals.Named (Dashed (name_at source i)) ∷ tokens)
+  mixin_written i t no_head w = lone_mixin i t
+  mixin_written i t (empty_head {params = params} head items rest) w =
+      subst
+      (λ (x : List ℕ). FrontWritten modes.Head (codes "@mixin " ++ (name_text (name_at source i) ++ x)) (again.sign terminals.AtMixin ∷ tok terminals.Named (Dashed (name_at source i)) ∷ []))
+      (sym (if_true (has_none params) [] (params_text params) (none_there params items rest))) (lone_mixin i t)
+  mixin_written i t (some_head {params = params} {tokens = tokens} head) w =
+      subst
+      (λ (x : List ℕ). FrontWritten modes.Head (codes "@mixin " ++ (name_text (name_at source i) ++ x)) (again.sign terminals.AtMixin ∷ tok terminals.Named (Dashed (name_at source i)) ∷ tokens))
+      (sym (if_false (has_none params) [] (params_text params) (not_true (has_none params) w))) (mixin_parens i t head)

@@ -1,0 +1,23 @@
+-- Texts that are one name.
+use Rattle.std.specs.Prelude.{ℕ, Bool, true, false, not, ◌&&◌, ◌==◌, List, [], ◌∷◌, Option, Some, None, length}
+use Rattle.sw_tokens.specs.declared.pieces.Piece.{Piece}
+use Rattle.sw_tokens.specs.declared.token.TokenKind.{TokenKind}
+use Rattle.sw_tokens.specs.declared.token.TokenKind.TheVariants as kinds
+use Rattle.sw_tokens.specs.Pieces.{name_piece}
+use Rattle.sw_convert_written.specs.Expressions.{is_url}
+
+abbrev pub is_name_kind : Option TokenKind → Bool
+is_name_kind (Some kinds.Word) = true
+is_name_kind (Some kinds.Name) = true
+is_name_kind (Some kinds.DashedName) = true
+is_name_kind _ = false
+
+-- a name ends there
+abbrev pub is_name_to : ℕ → Option Piece → Bool
+is_name_to to None = false
+is_name_to to (Some piece) = is_name_kind piece.token && (piece.to == to)
+
+-- a name begins the text and ends where it does; `url` is none, since with a `(` behind it it is the token of a url
+abbrev pub is_one_name : List ℕ → Bool
+is_one_name [] = false
+is_one_name (b ∷ text) = is_name_to (length (b ∷ text)) (name_piece (b ∷ text) 0) && not (is_url (b ∷ text))
