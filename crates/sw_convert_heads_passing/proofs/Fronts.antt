@@ -10,7 +10,8 @@ use Rattle.sw_convert_heads_passing.specs.Heads.{takes_text, is_keyword, TextHea
 use Rattle.sw_convert_heads_passing.specs.Properties.{PropertyHead, named_property, begun_property, minus_property, CustomHead, custom_head}
 use Rattle.sw_convert_heads_passing.specs.Loads.{LoadHead, use_head, forward_head}
 use Rattle.sw_convert_heads_passing.specs.Media.{is_code}
-use Rattle.sw_convert_heads_passing.specs.Members.{MemberHead, function_head, mixin_head, lone_mixin_head, include_head, content_head}
+use Rattle.sw_convert_passing.specs.Values.{Settles, settled_end, settled_same, settled_dollar, settled_named}
+use Rattle.sw_convert_heads_passing.specs.Members.{MemberHead, function_head, mixin_head, lone_mixin_head, include_head, content_head, settled_head}
 use Rattle.sw_convert_heads_passing.specs.Flow.{FlowHead, each_head, for_head, else_if_head, assigned_head, LoneHead, else_head, charset_head}
 use Rattle.sw_convert_heads_passing.specs.Rules.{begins_other, is_rule}
 use Rattle.sw_convert_heads_passing.specs.Statements.{begins_rule, begins_else, Front, valued, flagged, assigned, declared, unvalued, flowing, bounded, named, texted, texted_apart, ruled, customised, loading, querying, belonging, alone, Headed, plainly, seamed}
@@ -62,12 +63,19 @@ load : {mode : Mode} {tokens : List Written} → LoadHead mode tokens → begins
 load (use_head _ _ _ _) = refl
 load (forward_head _ _ _ _ _) = refl
 
+settles : {loose exact : List Written} → Settles loose exact → begins_code loose ≡ true → begins_code exact ≡ true
+settles settled_end b = b
+settles (settled_same token s) b = b
+settles (settled_dollar next n s) b = refl
+settles (settled_named next n s) b = refl
+
 member : {mode : Mode} {tokens : List Written} → MemberHead mode tokens → begins_code tokens ≡ true
 member (function_head _ n _) = refl
 member (mixin_head _ n _) = refl
 member (lone_mixin_head _ n) = refl
 member (include_head _ _ _) = refl
 member (content_head _) = refl
+member (settled_head head s) = settles s (member head)
 
 lone : {mode : Mode} {tokens : List Written} → LoneHead mode tokens → begins_code tokens ≡ true
 lone else_head = refl

@@ -28,8 +28,9 @@ use Rattle.sw_convert_passing.proofs.Entries as entries
 use Rattle.sw_convert_passing.proofs.Entries.{split, closed_stops, reads, one_of, led}
 use Rattle.sw_convert_passing.proofs.Leaves.{never}
 use Rattle.sw_convert_passing.proofs.Heads.{placed_as, first_told}
+use Rattle.sw_convert_passing.proofs.Settling.{settle, stand_loose}
 use Rattle.sw_convert_passing.proofs.Told.{inner_told}
-use Rattle.sw_convert_heads_passing.specs.Members.{Params, params_in, Given, none_given, some_given, MixinName, own_name, owned_name, UsingParams, none_used, some_used, used_apart, MemberHead, function_head, mixin_head, lone_mixin_head, include_head, content_head, MembersAreTold}
+use Rattle.sw_convert_heads_passing.specs.Members.{Params, params_in, Given, none_given, some_given, MixinName, own_name, owned_name, UsingParams, none_used, some_used, used_apart, MemberHead, function_head, mixin_head, lone_mixin_head, include_head, content_head, settled_head, MembersAreTold}
 use Rattle.sw_convert_heads_passing.proofs.Loads.{Behind, Place, past_seam, Quiet, place_of, and_then, same_behind}
 use Rattle.sw_convert_heads_passing.proofs.Moves.{told_by, Passes, moved, named_here, paren_here, InParens, parens_told}
 use Rattle.sw_convert_heads_passing.proofs.Params.{params_told}
@@ -315,6 +316,10 @@ heads_told (include_head {spaced} {name} {given} {params} named called used) pla
     let two = given_told called plains frames one.end p1 p2 (place_of one) stands2 in
     let t = using_told used two.quiet two.no_include plains frames two.behind.end p2 to (place_of two.behind) others2 in
     told_by t.end (join first.reads (join one.reads (join two.behind.reads (reads t)))) t.within
+heads_told (settled_head head s) plains frames state at to starts stand closed =
+    let place = stand_loose plains s at to stand in
+    let t = heads_told head plains frames state at to starts place closed in
+    record { lexemes = t.lexemes; end = t.end; passed = settle plains s t.passed place; within = t.within }
 heads_told (content_head {spaced} {given} called) plains frames state at to starts (there, stand) closed =
     let free = given_insert called plains (at + 1) to stand closed in
     let first = first_told {mode = modes.Content} plains state at (written sorts.AtContent spaced terminals.AtContent)

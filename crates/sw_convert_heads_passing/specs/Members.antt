@@ -11,7 +11,7 @@ use Rattle.sw_parse_lexemes.specs.declared.state.State.{State}
 use Rattle.sw_parse_lexemes.specs.Classes.{is_name}
 use Rattle.sw_convert_passing.specs.Written.{Written, written, direct, apart, Stand}
 use Rattle.sw_convert_passing.specs.Places.{Told, IsClosed}
-use Rattle.sw_convert_passing.specs.Values.{Value, Items, seam, dollar, enclosed}
+use Rattle.sw_convert_passing.specs.Values.{Value, Items, Settles, seam, dollar, enclosed}
 use Rattle.sw_convert_passing.specs.Heads.{Starts}
 
 -- a parameter, with white space before it or not
@@ -79,6 +79,9 @@ pub data MemberHead : Mode → List Written → Type 0 where
       → MemberHead modes.Include (written sorts.AtInclude spaced terminals.AtInclude ∷ (name ++ (given ++ params)))
   content_head : {spaced : Bool} {given : List Written} → Given given
       → MemberHead modes.Content (written sorts.AtContent spaced terminals.AtContent ∷ given)
+  -- where the `$` of an argument is told by what stands behind its name
+  settled_head : {mode : Mode} {loose exact : List Written} → MemberHead mode loose → Settles loose exact
+      → MemberHead mode exact
 
 -- where a statement begins each is what it is written as
 abbrev pub MembersAreTold : Type 0

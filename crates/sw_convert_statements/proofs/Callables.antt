@@ -1,13 +1,17 @@
 -- The heads of functions and mixins, and `@include` without arguments.
-use Rattle.std.proofs.Common.{◌≡◌, ℕ, true, false, List, [], ◌∷◌, ◌++◌, Option, None, append-nil, inl, refl, sym, ◌∙◌, ap, subst}
+use Rattle.std.proofs.Common.{◌≡◌, ℕ, true, false, List, [], ◌∷◌, ◌++◌, Option, None, append-nil, inl, refl, sym, ◌∙◌, ap, subst, lit<}
 use Rattle.std.specs.Prelude.{codes}
 use Rattle.sw_text.specs.Names.{dashed}
-use Rattle.sw_text_scan.specs.Bytes.{sign}
+use Rattle.sw_text_scan.specs.Bytes.{sign, byte}
+use Rattle.sw_text_scan.specs.Runs.{begins_name, escape_end, run_end}
 use Rattle.sw_text_scan.proofs.Bounds.{if_true, if_false, not_true}
 use Rattle.sw_tree.specs.declared.callable.Kind.TheVariants as callables
 use Rattle.sw_tree.specs.declared.callable.Param.{Param}
 use Rattle.sw_tree.specs.declared.callable.Params.{Params as TreeParams}
+use Rattle.sw_tokens.specs.declared.pieces.Before.{Before}
 use Rattle.sw_tokens.specs.declared.pieces.Before.TheVariants as befores
+use Rattle.sw_tokens.specs.declared.token.TokenKind.TheVariants as kinds
+use Rattle.sw_tokens.specs.Pieces.{name_piece}
 use Rattle.sw_tokens.specs.Tokens.{is_spaced}
 use Rattle.sw_parse_terminals.specs.declared.terminal.Terminal.TheVariants as terminals
 use Rattle.sw_parse_lexemes.specs.declared.sort.Sort.{Sort}
@@ -18,16 +22,19 @@ use Rattle.sw_parse_lexemes.specs.Sorts.{sort_of}
 use Rattle.sw_parse_table.specs.declared.source.Source.{Source}
 use Rattle.sw_parse_table.specs.Sources.{bytes_at}
 use Rattle.sw_parse_table.specs.Actions.{name_at}
+use Rattle.sw_convert_written.specs.Escapes.{ends_unclosed}
 use Rattle.sw_convert_written.specs.Expressions.{is_url}
 use Rattle.sw_convert_written.specs.Heads.{none_in, has_none, params_text, callable_head}
 use Rattle.sw_convert_written.specs.Names.{name_text}
 use Rattle.sw_convert_passing.specs.Written.{written, apart}
-use Rattle.sw_convert_again.specs.Tokens.{Tok, tok, Old, Dashed}
+use Rattle.sw_convert_again.specs.Tokens.{Tok, tok, Old, Dashed, Nothing}
 use Rattle.sw_convert_again.specs.Tokens as again
 use Rattle.sw_convert_again.specs.Params.{SpellsHeadParams, SpellsOptionalParams, no_head, empty_head, some_head}
 use Rattle.sw_convert_tokens.specs.Joints.{Segment}
 use Rattle.sw_convert_tokens.specs.Written.{Follows}
 use Rattle.sw_convert_tokens.specs.Values.{WasRead}
+use Rattle.sw_convert_tokens.proofs.Joins as joins
+use Rattle.sw_convert_tokens.proofs.Spaces.{BeginsSpace}
 use Rattle.sw_convert_tokens.proofs.Stops.{Behind, follows_parts, parted_behind, paren_behind}
 use Rattle.sw_convert_tokens.proofs.Unclosed.{space_ends, follows_end}
 use Rattle.sw_convert_heads_passing.specs.Members.{function_head, mixin_head, lone_mixin_head, params_in}
@@ -36,7 +43,7 @@ use Rattle.sw_convert_statements.specs.Segments.{FrontWritten}
 use Rattle.sw_convert_statements.specs.OneName.{is_one_name}
 use Rattle.sw_convert_statements.specs.Fronts.{ValuesAreKnown, writes_params}
 use Rattle.sw_convert_statements.proofs.Keywords.{at_function, at_mixin}
-use Rattle.sw_convert_statements.proofs.OneName.{one_name, name_segment, name_sort, dashed_text}
+use Rattle.sw_convert_statements.proofs.OneName.{IsOneName, one_name, name_segment, name_sort, dashed_text}
 use Rattle.sw_convert_statements.proofs.Params.{parens_written}
 use Rattle.sw_convert_statements.proofs.Segments.{sheet, join, as_text, as_behind, text_follows}
 
@@ -47,6 +54,20 @@ name_ends name after f = parted_behind name after (follows_parts name after f)
 none_there : (params : TreeParams) → params.items ≡ [] → params.rest ≡ None → has_none params ≡ true
 none_there params items rest =
     ap (λ (l : List Param). none_in l params.rest) items ∙ ap (λ (o : Option (List ℕ)). none_in [] o) rest
+
+-- `using` before a space
+using_name : IsOneName (codes "using")
+unfolding name_piece byte begins_name escape_end run_end
+using_name = record { kind = kinds.Word; named = refl; some = lit< tt; piece_is = refl; no_url = refl }
+
+pub word_using : (before : Before) → Segment before (codes " using") (again.sign terminals.Using ∷ [])
+    (apart sorts.Using terminals.Using ∷ []) befores.Other BeginsSpace
+unfolding using_name ends_unclosed
+word_using before =
+    joins.as_behind
+    (λ after space. subst (Behind (codes "using")) (sym space.1)
+    (name_ends (codes "using") (codes " " ++ space.0) (record { stop = refl; closed = refl })))
+    (name_segment (codes "using") using_name terminals.Using Nothing before true refl (λ new at same. tt))
 
 -- the name of a member behind a space
 pub record IsMember (source : Source) (i : ℕ) : Type 0 where

@@ -1,18 +1,28 @@
 -- Statements with values, by their kinds.
-use Rattle.std.proofs.Common.{suc}
+use Rattle.std.proofs.Common.{ℕ, suc, List, ◌∷◌, ◌++◌, subst, append_assoc}
+use Rattle.std.specs.Prelude.{codes}
 use Rattle.sw_text_scan.proofs.Bounds.{and_left, and_right}
-use Rattle.sw_parse_table.specs.Actions.{flags_at, name_at}
+use Rattle.sw_parse_table.specs.Actions.{flags_at, name_at, mixin_of}
+use Rattle.sw_parse_terminals.specs.declared.terminal.Terminal.TheVariants as terminals
+use Rattle.sw_parse_lexemes.specs.declared.state.Mode.TheVariants as modes
+use Rattle.sw_convert_written.specs.Expressions.{space_text}
+use Rattle.sw_convert_written.specs.Heads.{given_arguments, include_text, using_params}
 use Rattle.sw_convert_written.specs.Names.{name_text}
+use Rattle.sw_convert_again.specs.Tokens.{Tok}
+use Rattle.sw_convert_again.specs.Tokens as again
 use Rattle.sw_convert_again.specs.Statements.{SpellsStatement}
 use Rattle.sw_convert_again.specs.Statements as spells
 use Rattle.sw_convert_again.specs.Loads as loads
-use Rattle.sw_convert_statements.specs.Fronts.{FrontsAreWritten, BranchesAreWritten}
+use Rattle.sw_convert_statements.specs.Fronts.{is_mixin_name, FrontsAreWritten, BranchesAreWritten}
 use Rattle.sw_convert_statements.proofs.Valued.{return_written, say_written, if_written, while_written, else_if_written}
 use Rattle.sw_convert_statements.proofs.Variables.{variable_written}
 use Rattle.sw_convert_statements.proofs.Loads.{forward_written, use_written, use_star_written}
+use Rattle.sw_convert_statements.specs.Segments.{FrontWritten}
 use Rattle.sw_convert_statements.specs.OneName.{is_one_name}
+use Rattle.sw_convert_statements.proofs.Arguments.{given_written}
+use Rattle.sw_convert_statements.proofs.Includes.{content_called, include_line_written, using_written}
 use Rattle.sw_convert_statements.proofs.Callables.{function_written, mixin_written}
-use Rattle.sw_convert_statements.proofs.Flow.{each_written, charset_written, content_written, at_root_written}
+use Rattle.sw_convert_statements.proofs.Flow.{each_written, charset_written, at_root_written}
 
 pub fronts_written : FrontsAreWritten
 fronts_written source was known i j statement tokens (spells.return_line span old inner end) t =
@@ -23,10 +33,26 @@ fronts_written source was known i j statement tokens
     (spells.variable_line {i = k} {places = places} span one two three inner flags end) t =
     variable_written source (suc k) was two (known.rows _ _ _ _ inner) (flags_at source places)
 fronts_written source was known i j statement tokens (spells.charset_line span one two end) t = charset_written
-fronts_written source was known i j statement tokens (spells.content_line span old spells.no_parens end) t =
-    content_written
-fronts_written source was known i j statement tokens (spells.content_line span old (spells.empty_parens opens closes) end)
-    t = content_written
+fronts_written source was known i j statement tokens (spells.content_line span old given end) t =
+    content_called (given_written source was known given)
+fronts_written source was known i j statement tokens
+    (spells.include_line {namespace = namespace} {name = at} {arguments = arguments} {tokens = ks} {others = os} span name_span old mixin given
+    using end) t =
+    subst
+    (λ (x : List ℕ). FrontWritten modes.Include (codes "@include " ++ x) (again.sign terminals.AtInclude ∷ (ks ++ os)))
+    (append_assoc (space_text namespace) (name_text (name_at source at)) (given_arguments arguments))
+    (include_line_written source was known mixin t (given_written source was known given))
+fronts_written source was known i j statement tokens
+    (spells.include_block {namespace = namespace} {name = at} {arguments = arguments} {params = params} {tokens = ks} {others = os} {more = more} span name_span
+    old mixin given using block) t =
+    subst
+    (λ (l : List Tok). FrontWritten modes.Include (using_params params (include_text (mixin_of source namespace at name_span arguments))) (again.sign terminals.AtInclude ∷ l))
+    (append_assoc ks os more)
+    (subst
+    (λ (x : List ℕ). FrontWritten modes.Include (using_params params (codes "@include " ++ x)) (again.sign terminals.AtInclude ∷ ((ks ++ os) ++ more)))
+    (append_assoc (space_text namespace) (name_text (name_at source at)) (given_arguments arguments))
+    (using_written source was known mixin (and_left (is_mixin_name source mixin) _ t) (given_written source was known given)
+    using (and_right (is_mixin_name source mixin) _ t)))
 fronts_written source was known i j statement tokens (spells.at_root_block span old block) t = at_root_written
 fronts_written source was known i j statement tokens
     (spells.forward_line {i = k} span one two loads.no_prefix loads.no_filter loads.no_configuration end) t =

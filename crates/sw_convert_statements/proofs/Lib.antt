@@ -7,7 +7,9 @@ pub mod Flags
 pub mod Variables
 mod Params
 mod Callables
+mod Arguments
 pub mod Flow
+mod Includes
 pub mod Loads
 pub mod Fronts
 pub mod Texts

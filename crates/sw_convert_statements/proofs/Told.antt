@@ -44,6 +44,11 @@ module _ (source : Source) (was : WasRead source) (values : ValuesAreKnown sourc
           (and_left (is_known (spells.mixin_block span one two head block)) _ k),
       block_fronts block (and_right (is_known (spells.mixin_block span one two head block)) _ k),
     )
+    fronts (spells.include_block span name_span old mixin given using block) k = (
+      front (spells.include_block span name_span old mixin given using block)
+          (and_left (is_known (spells.include_block span name_span old mixin given using block)) _ k),
+      block_fronts block (and_right (is_known (spells.include_block span name_span old mixin given using block)) _ k),
+    )
     fronts (spells.while_block span old inner block) k =
         (front (spells.while_block span old inner block) refl, block_fronts block k)
     fronts (spells.each_block span one two three names in_word inner block) k =
@@ -81,6 +86,8 @@ module _ (source : Source) (was : WasRead source) (values : ValuesAreKnown sourc
         front (spells.variable_line span one two three inner flags end) k
     fronts (spells.import_line span old inner end) k = front (spells.import_line span old inner end) k
     fronts (spells.extend_line span old inner end) k = front (spells.extend_line span old inner end) k
+    fronts (spells.include_line span name_span old mixin given using end) k =
+        front (spells.include_line span name_span old mixin given using end) k
     fronts (spells.content_line span old given end) k = front (spells.content_line span old given end) k
     fronts (spells.charset_line span one two end) k = front (spells.charset_line span one two end) k
     fronts (spells.use_line span one two name settings end) k =

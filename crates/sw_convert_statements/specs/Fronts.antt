@@ -1,8 +1,9 @@
 -- What is written of statements with values, up to their end or their block, is their tokens, where what is written of the
 -- values is.
-use Rattle.std.specs.Prelude.{◌≡◌, ℕ, suc, Bool, true, false, not, ◌&&◌, List, ◌∷◌, ◌++◌, codes}
+use Rattle.std.specs.Prelude.{◌≡◌, ℕ, suc, Bool, true, false, not, ◌&&◌, List, ◌∷◌, ◌++◌, Option, codes}
 use Rattle.sw_tree.specs.declared.callable.Params.{Params}
 use Rattle.sw_tree.specs.declared.expr.Expr.{Expr}
+use Rattle.sw_tree.specs.declared.expr.Namespaced.{Namespaced}
 use Rattle.sw_tree.specs.declared.statement.Statement.{Statement}
 use Rattle.sw_parse_terminals.specs.declared.terminal.Terminal.TheVariants as terminals
 use Rattle.sw_parse_lexemes.specs.declared.state.Mode.TheVariants as modes
@@ -18,12 +19,12 @@ use Rattle.sw_convert_again.specs.Spells.{Spells, SpellsPlain}
 use Rattle.sw_convert_again.specs.Statements.{SpellsStatement}
 use Rattle.sw_convert_again.specs.Statements as spells
 use Rattle.sw_convert_again.specs.Loads as spells_loads
-use Rattle.sw_convert_again.specs.Params.{SpellsOptionalParams, some_head}
+use Rattle.sw_convert_again.specs.Params.{SpellsOptionalParams, SpellsMixinName, SpellsUsing, some_head, own_name, owned_name, no_using, some_using}
 use Rattle.sw_convert_tokens.specs.Written.{AsRow, AsValue, WrittenAs}
 use Rattle.sw_convert_tokens.specs.Values.{WasRead}
 use Rattle.sw_convert_statements.specs.Segments.{ElseWritten}
 use Rattle.sw_convert_statements.specs.Statements.{FrontIs}
-use Rattle.sw_convert_statements.specs.OneName.{is_one_name}
+use Rattle.sw_convert_statements.specs.OneName.{is_one_name, goes_behind_dot}
 
 -- what is written of each value of a sheet is its tokens, and of one that is no list with commas and without brackets those
 -- of one value
@@ -39,17 +40,32 @@ abbrev pub writes_params : {source : Source} {i j : ℕ} {params : Params} {toke
 writes_params (some_head {params = params} head) = not (has_none params)
 writes_params _ = true
 
--- the statements of which it is proved: those of values, `@each`, variables with flags, `@charset`, `@content` without
--- arguments, `@at-root` without a selector, `@forward` of a url alone, `@use` of a url alone or `as *`, and functions and
--- mixins, where their name is one
+-- the same of the parameters of a content block
+abbrev pub writes_using : {source : Source} {i j : ℕ} {params : Params} {tokens : List Tok}
+    → SpellsUsing source i j params tokens → Bool
+writes_using no_using = true
+writes_using (some_using {params = params} old head) = not (has_none params)
+
+-- the name of a mixin is one, and makes no number of a `.` before it
+abbrev pub is_mixin_name : (source : Source) {i j : ℕ} {namespace : Option Namespaced} {at : ℕ} {tokens : List Tok}
+    → SpellsMixinName source i j namespace at tokens → Bool
+is_mixin_name source (own_name {i} old) = is_one_name (name_text (name_at source i))
+is_mixin_name source (owned_name {i} owner dot old) =
+    is_one_name (name_text (name_at source (suc (suc i)))) && goes_behind_dot (name_text (name_at source (suc (suc i))))
+
+-- the statements of which it is proved: those of values, `@each`, variables with flags, `@charset`, `@content`, `@at-root`
+-- without a selector, `@forward` of a url alone, `@use` of a url alone or `as *`, and functions, mixins and `@include`, where
+-- their name is one
 abbrev pub is_told : {source : Source} {i j : ℕ} {statement : Statement} {tokens : List Tok}
     → SpellsStatement source i j statement tokens → Bool
 is_told (spells.return_line span old inner end) = true
 is_told (spells.say_line level span old inner end) = true
 is_told (spells.variable_line span one two three inner flags end) = true
 is_told (spells.charset_line span one two end) = true
-is_told (spells.content_line span old spells.no_parens end) = true
-is_told (spells.content_line span old (spells.empty_parens opens closes) end) = true
+is_told (spells.content_line span old given end) = true
+is_told {source} (spells.include_line span name_span old mixin given using end) = is_mixin_name source mixin
+is_told {source} (spells.include_block span name_span old mixin given using block) =
+    is_mixin_name source mixin && writes_using using
 is_told (spells.at_root_block span old block) = true
 is_told (spells.forward_line span one two spells_loads.no_prefix spells_loads.no_filter spells_loads.no_configuration end) =
     true

@@ -1,5 +1,6 @@
 -- Texts that are one name.
-use Rattle.std.specs.Prelude.{ℕ, Bool, true, false, not, ◌&&◌, ◌==◌, List, [], ◌∷◌, Option, Some, None, length}
+use Rattle.std.specs.Prelude.{ℕ, Bool, true, false, not, ◌&&◌, ◌==◌, ◌||◌, List, [], ◌∷◌, Option, Some, None, length}
+use Rattle.sw_text_scan.specs.Bytes.{sign, is_digit}
 use Rattle.sw_tokens.specs.declared.pieces.Piece.{Piece}
 use Rattle.sw_tokens.specs.declared.token.TokenKind.{TokenKind}
 use Rattle.sw_tokens.specs.declared.token.TokenKind.TheVariants as kinds
@@ -21,3 +22,8 @@ is_name_to to (Some piece) = is_name_kind piece.token && (piece.to == to)
 abbrev pub is_one_name : List ℕ → Bool
 is_one_name [] = false
 is_one_name (b ∷ text) = is_name_to (length (b ∷ text)) (name_piece (b ∷ text) 0) && not (is_url (b ∷ text))
+
+-- what stands behind a `.` without making a number of it
+abbrev pub goes_behind_dot : List ℕ → Bool
+goes_behind_dot [] = false
+goes_behind_dot (b ∷ text) = not (is_digit b || (b == sign "."))
