@@ -13,10 +13,10 @@ use Rattle.sw_convert_again.specs.Tokens as again
 use Rattle.sw_convert_again.specs.Statements.{SpellsStatement}
 use Rattle.sw_convert_again.specs.Statements as spells
 use Rattle.sw_convert_again.specs.Loads as loads
-use Rattle.sw_convert_statements.specs.Fronts.{is_mixin_name, FrontsAreWritten, BranchesAreWritten}
+use Rattle.sw_convert_statements.specs.Fronts.{is_mixin_name, is_namespace, FrontsAreWritten, BranchesAreWritten}
 use Rattle.sw_convert_statements.proofs.Valued.{return_written, say_written, if_written, while_written, else_if_written}
 use Rattle.sw_convert_statements.proofs.Variables.{variable_written}
-use Rattle.sw_convert_statements.proofs.Loads.{forward_written, use_written, use_star_written}
+use Rattle.sw_convert_statements.proofs.Loads.{forward_written, use_written}
 use Rattle.sw_convert_statements.specs.Segments.{FrontWritten}
 use Rattle.sw_convert_statements.specs.OneName.{is_one_name}
 use Rattle.sw_convert_statements.proofs.Arguments.{given_written}
@@ -57,12 +57,9 @@ fronts_written source was known i j statement tokens (spells.at_root_block span 
 fronts_written source was known i j statement tokens
     (spells.forward_line {i = k} span one two loads.no_prefix loads.no_filter loads.no_configuration end) t =
     forward_written source (suc k) was
-fronts_written source was known i j statement tokens
-    (spells.use_line {i = k} span one two loads.default_namespace loads.no_configuration end) t =
-    use_written source (suc k) was t
-fronts_written source was known i j statement tokens
-    (spells.use_line {i = k} span one two (loads.without_namespace as_word star) loads.no_configuration end) t =
-    use_star_written source (suc k) was
+fronts_written source was known i j statement tokens (spells.use_line {i = k} span one two name settings end) t =
+    use_written source (suc k) was known name (and_left (is_namespace source name) _ t) settings
+    (and_right (is_namespace source name) _ t)
 fronts_written source was known i j statement tokens (spells.function_block {i = k} span one two head block) t =
     function_written source was known (suc k) t head
 fronts_written source was known i j statement tokens (spells.mixin_block {i = k} span one two head block) t =

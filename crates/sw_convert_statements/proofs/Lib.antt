@@ -10,6 +10,7 @@ mod Callables
 mod Arguments
 pub mod Flow
 mod Includes
+mod Configurations
 pub mod Loads
 pub mod Fronts
 pub mod Texts

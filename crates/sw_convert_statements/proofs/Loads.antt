@@ -1,35 +1,49 @@
 -- `@forward` and `@use` without configurations, and without names that are copied.
-use Rattle.std.proofs.Common.{◌≡◌, ◌<◌, ℕ, Bool, true, false, if◌then◌else◌, List, [], ◌∷◌, ◌++◌, length, append-nil, inl, refl, sym, ◌∙◌, ap, arith, lit<}
+use Rattle.std.proofs.Common.{◌≡◌, ◌<◌, ℕ, Bool, true, false, if◌then◌else◌, List, [], ◌∷◌, ◌++◌, length, append-nil, inl, refl, sym, ◌∙◌, ap, arith, lit<, subst, append_assoc, suc}
 use Rattle.std.specs.Prelude.{codes}
 use Rattle.sw_text_scan.specs.Bytes.{sign, byte, is_white}
+use Rattle.sw_tree.specs.declared.load.Given.{Given}
+use Rattle.sw_tree.specs.declared.load.Namespace.{Namespace}
 use Rattle.sw_tokens.specs.declared.pieces.Before.{Before}
 use Rattle.sw_tokens.specs.declared.pieces.Before.TheVariants as befores
 use Rattle.sw_tokens.specs.declared.token.TokenKind.TheVariants as kinds
 use Rattle.sw_tokens.specs.Tokens.{is_spaced}
 use Rattle.sw_parse_terminals.specs.Urls.{has_namespace}
 use Rattle.sw_parse_terminals.specs.declared.terminal.Terminal.TheVariants as terminals
+use Rattle.sw_parse_lexemes.specs.declared.sort.Sort.{Sort}
 use Rattle.sw_parse_lexemes.specs.declared.sort.Sort.TheVariants as sorts
 use Rattle.sw_parse_lexemes.specs.declared.state.Mode.TheVariants as modes
 use Rattle.sw_parse_lexemes.specs.Classes.{is_comment}
-use Rattle.sw_parse_lexemes.specs.Sorts.{quoted_sort}
+use Rattle.sw_parse_lexemes.specs.Sorts.{quoted_sort, sort_of}
 use Rattle.sw_parse_table.specs.declared.source.Source.{Source}
-use Rattle.sw_parse_table.specs.Sources.{decoded_at}
+use Rattle.sw_parse_table.specs.Sources.{bytes_at, decoded_at}
 use Rattle.sw_convert_spelling.specs.Strings.{escaped, string_text}
 use Rattle.sw_convert_spelling.proofs.StringTokens as strings
 use Rattle.sw_convert_spelling.proofs.MovedRuns.{first_byte}
-use Rattle.sw_convert_passing.specs.Written.{written, apart}
-use Rattle.sw_convert_again.specs.Tokens.{tok, Decoded}
+use Rattle.sw_convert_written.specs.Heads.{as_text, configured}
+use Rattle.sw_convert_passing.specs.Written.{Written, written, apart}
+use Rattle.sw_convert_again.specs.Tokens.{Tok, tok, Bytes, Decoded}
 use Rattle.sw_convert_again.specs.Tokens as again
+use Rattle.sw_convert_again.specs.Loads.{SpellsNamespace, SpellsConfiguration}
+use Rattle.sw_convert_again.specs.Loads as spells_loads
+use Rattle.sw_convert_again.proofs.Tokens.{one_byte}
 use Rattle.sw_convert_tokens.specs.Values.{WasRead}
+use Rattle.sw_convert_tokens.specs.Written.{Follows, is_calm}
+use Rattle.sw_convert_tokens.proofs.Unclosed.{space_ends, follows_end}
 use Rattle.sw_convert_tokens.proofs.Signs.{token_segment, sign_segment, sign_token}
 use Rattle.sw_convert_tokens.proofs.Leaves.{says_decoded}
 use Rattle.sw_convert_tokens.proofs.Decodings.{decoded_there}
-use Rattle.sw_convert_heads_passing.specs.Loads.{is_url, no_name, as_star, no_prefix, no_filter, use_head, forward_head}
+use Rattle.sw_convert_heads_passing.specs.Loads.{is_url, UseName, no_name, as_name, as_star, no_prefix, no_filter, use_head, forward_head}
 use Rattle.sw_convert_heads_passing.specs.Loads as loads
 use Rattle.sw_convert_heads_passing.specs.Statements.{loading}
 use Rattle.sw_convert_texts.specs.RawTexts.{SheetSegment}
 use Rattle.sw_convert_statements.specs.Segments.{Anything, FrontWritten}
-use Rattle.sw_convert_statements.proofs.Segments.{sheet, join, as_text, as_behind}
+use Rattle.sw_convert_statements.specs.Fronts.{ValuesAreKnown, configures_plainly, is_namespace}
+use Rattle.sw_convert_statements.proofs.Callables.{name_ends}
+use Rattle.sw_convert_statements.proofs.Configurations.{configured_written}
+use Rattle.sw_convert_statements.proofs.OneName.{one_name, name_segment, name_sort}
+use Rattle.sw_convert_statements.proofs.Segments.{sheet, join, as_behind, text_follows}
+use Rattle.sw_convert_statements.proofs.Segments as segments
 use Rattle.sw_convert_statements.proofs.Keywords.{at_use, at_forward, word_as}
 
 quoted_told : (text : List ℕ) → (is_url true (quoted_sort text) ≡ true) × (is_comment (quoted_sort text) ≡ false)
@@ -81,45 +95,94 @@ module _ (source : Source) (i : ℕ) (was : WasRead source) where
     end = befores.Other;
     loose = λ u. refl;
     segment = as_behind (λ after e. tt)
-        (as_text
+        (segments.as_text
         (ap (λ (t : List ℕ). codes "@forward " ++ t) (sym (append-nil (string_text url)))
         ∙ sym (append-nil (codes "@forward " ++ (string_text url ++ []))))
         (join (sheet (at_forward.segment before calm)) (url_segment source i was befores.Other)
         (λ after ok. (string_text url ++ after, inl refl))));
   }
 
-  -- with the namespace of its url
-  pub use_written : has_namespace url ≡ true
-      → FrontWritten modes.Use ((codes "@use " ++ (string_text url ++ [])) ++ [])
-      (again.sign terminals.AtUse ∷ tok terminals.LoadUrl (Decoded url) ∷ [])
-  use_written named before calm = record {
-    passed = written sorts.AtUse (is_spaced before) terminals.AtUse ∷ apart (quoted_sort url) terminals.LoadUrl ∷ [];
-    first = refl;
-    front = loading (use_head (quoted_sort url) (quoted_named url named) no_name loads.UseConfiguration.not_configured);
-    end = befores.Other;
-    loose = λ u. refl;
-    segment = as_behind (λ after e. tt)
-        (as_text
-        (ap (λ (t : List ℕ). codes "@use " ++ t) (sym (append-nil (string_text url)))
-        ∙ sym (append-nil (codes "@use " ++ (string_text url ++ []))))
-        (join (sheet (at_use.segment before calm)) (url_segment source i was befores.Other)
-        (λ after ok. (string_text url ++ after, inl refl))));
-  }
+-- ---- `@use`
 
-  -- and without a namespace
-  pub use_star_written : FrontWritten modes.Use ((codes "@use " ++ (string_text url ++ codes " as *")) ++ [])
-      (again.sign terminals.AtUse ∷ tok terminals.LoadUrl (Decoded url) ∷ again.sign terminals.As ∷ again.sign terminals.Star ∷ [])
-  use_star_written before calm = record {
-    passed = written sorts.AtUse (is_spaced before) terminals.AtUse ∷ apart (quoted_sort url) terminals.LoadUrl
-        ∷ apart sorts.As terminals.As ∷ apart sorts.Star terminals.Star ∷ [];
-    first = refl;
-    front = loading (use_head (quoted_sort url) (quoted_told url).0 as_star loads.UseConfiguration.not_configured);
-    end = befores.Other;
-    loose = λ u. refl;
-    segment = as_behind (λ after e. tt)
-        (as_text (sym (append-nil (codes "@use " ++ (string_text url ++ codes " as *"))))
+-- up to its configuration
+record IsUse (text : List ℕ) (tokens : List Tok) (before : Before) : Type 0 where
+  named : Bool
+  sort : Sort
+  is : is_url named sort ≡ true
+  name : List Written
+  are : UseName named name
+  segment : SheetSegment before text tokens
+      (written sorts.AtUse (is_spaced before) terminals.AtUse ∷ apart sort terminals.LoadUrl ∷ name) befores.Other
+      (Follows text)
+
+module _ (source : Source) (i : ℕ) (was : WasRead source) where
+  abbrev address : List ℕ
+  address = string_text (decoded_at source i)
+
+  abbrev address_token : Tok
+  address_token = tok terminals.LoadUrl (Decoded (decoded_at source i))
+
+  use_of : {j k : ℕ} {namespace : Namespace} {tokens : List Tok}
+      → (name : SpellsNamespace source i j k namespace tokens) → is_namespace source name ≡ true → (before : Before)
+      → is_calm before ≡ true
+      → IsUse (codes "@use " ++ (address ++ as_text namespace)) (again.sign terminals.AtUse ∷ address_token ∷ tokens) before
+  use_of spells_loads.default_namespace t before calm = record {
+    named = false;
+    sort = quoted_sort (decoded_at source i);
+    is = quoted_named (decoded_at source i) t;
+    name = [];
+    are = no_name;
+    segment = segments.as_text (ap (λ (x : List ℕ). codes "@use " ++ x) (sym (append-nil address)))
+        (as_behind (λ after f. tt)
+        (join (sheet (at_use.segment before calm)) (url_segment source i was befores.Other)
+        (λ after ok. (address ++ after, inl refl))));
+  }
+  use_of (spells_loads.written_namespace {i = k} as_word name) t before calm =
+      let text = bytes_at source (suc k) in
+      let it = one_name text t in
+      let last = name_segment text it terminals.Named (Bytes 1 text) befores.Other true refl
+      (λ new at same. one_byte new at ∙ same) in record {
+        named = true;
+        sort = quoted_sort (decoded_at source i);
+        is = (quoted_told (decoded_at source i)).0;
+        name = _;
+        are = as_name (sort_of it.kind text) (name_sort text it);
+        segment = as_behind
+            (λ after f. name_ends text after
+            (follows_end (codes "@use " ++ (address ++ codes " as")) text (sign " ") space_ends after
+            (subst (λ (x : List ℕ). Follows x after)
+            (ap (λ (x : List ℕ). codes "@use " ++ x) (sym (append_assoc address (codes " as") (codes " " ++ text)))) f)))
+            (join (sheet (at_use.segment before calm))
+            (join (url_segment source i was befores.Other)
+            (join (sheet (word_as befores.Other)) (sheet last) (λ after ok. (text ++ after, refl))) (λ after ok. tt))
+            (λ after ok. ((address ++ (codes " as " ++ text)) ++ after, inl refl)));
+      }
+  use_of (spells_loads.without_namespace as_word star) t before calm = record {
+    named = true;
+    sort = quoted_sort (decoded_at source i);
+    is = (quoted_told (decoded_at source i)).0;
+    name = _;
+    are = as_star;
+    segment = as_behind (λ after f. tt)
         (join (sheet (at_use.segment before calm))
         (join (url_segment source i was befores.Other)
         (join (sheet (word_as befores.Other)) (star_segment befores.Other) (λ after ok. (codes "*" ++ after, refl)))
-        (λ after ok. tt)) (λ after ok. ((string_text url ++ codes " as *") ++ after, inl refl))));
+        (λ after ok. tt)) (λ after ok. ((address ++ codes " as *") ++ after, inl refl)));
   }
+
+  pub use_written : ValuesAreKnown source → {j k m : ℕ} {namespace : Namespace} {givens : List Given}
+      {tokens others : List Tok} → (name : SpellsNamespace source i j k namespace tokens) → is_namespace source name ≡ true
+      → (settings : SpellsConfiguration source k m givens others) → configures_plainly settings ≡ true
+      → FrontWritten modes.Use (configured givens (codes "@use " ++ (address ++ as_text namespace)))
+      (again.sign terminals.AtUse ∷ address_token ∷ (tokens ++ others))
+  use_written values name t settings s before calm =
+      let it = use_of name t before calm in
+      let all = configured_written was values it.segment settings s in record {
+        passed = written sorts.AtUse (is_spaced before) terminals.AtUse ∷ apart it.sort terminals.LoadUrl
+            ∷ (it.name ++ all.configuration);
+        first = refl;
+        front = loading (use_head it.sort it.is it.are all.are);
+        end = befores.Other;
+        loose = λ u. refl;
+        segment = as_behind (λ after e. text_follows _ after e) all.segment;
+      }

@@ -57,10 +57,10 @@ comma_follows text rest = record { stop = refl; closed = refl }
 -- ---- one parameter
 
 -- a variable, with a space before it or none
-record IsVariable (source : Source) (i : ℕ) (spaced : Bool) : Type 0 where
-  sort : Sort
-  is : is_name sort ≡ true
-  segment : Segment befores.Other (gap_of spaced ++ dollar_name (name_at source i)) (dollar_tokens (name_at source i))
+pub record IsVariable (source : Source) (i : ℕ) (spaced : Bool) : Type 0 where
+  pub sort : Sort
+  pub is : is_name sort ≡ true
+  pub segment : Segment befores.Other (gap_of spaced ++ dollar_name (name_at source i)) (dollar_tokens (name_at source i))
       (dollar spaced ∷ direct sort terminals.VariableName ∷ []) befores.Other (Follows (dollar_name (name_at source i)))
 
 -- a parameter
@@ -84,7 +84,7 @@ dots_segment =
     (λ inside after code ok. sign_token kinds.Ellipsis after inside befores.Other refl code refl refl)
 
 module _ (source : Source) (was : WasRead source) where
-  variable_at : (i : ℕ) → Old source i (just terminals.VariableName) → (spaced : Bool) → IsVariable source i spaced
+  pub variable_at : (i : ℕ) → Old source i (just terminals.VariableName) → (spaced : Bool) → IsVariable source i spaced
   variable_at i old true =
       let name = variable_name source i was old in record {
         sort = name.sort;
@@ -265,7 +265,7 @@ pub record AreParens (params : TreeParams) (tokens : List Tok) (spaced : Bool) :
   pub segment : Segment befores.Other (gap_of spaced ++ params_text params) tokens (told.params_in spaced passed)
       befores.Other Anything
 
-open_segment : (spaced : Bool)
+pub open_segment : (spaced : Bool)
     → Segment befores.Other (gap_of spaced ++ codes "(") (again.sign terminals.HeadParen ∷ [])
     (written sorts.OpenParen spaced terminals.HeadParen ∷ []) befores.Other Anything
 open_segment true = lone_segment (sign "(") (terminals.HeadParen ∷ []) befores.Other true refl refl refl (λ inside code. refl)

@@ -4,12 +4,14 @@ use Rattle.std.specs.Prelude.{◌≡◌, ℕ, suc, Bool, true, false, not, ◌&&
 use Rattle.sw_tree.specs.declared.callable.Params.{Params}
 use Rattle.sw_tree.specs.declared.expr.Expr.{Expr}
 use Rattle.sw_tree.specs.declared.expr.Namespaced.{Namespaced}
+use Rattle.sw_tree.specs.declared.load.Given.{Given}
+use Rattle.sw_tree.specs.declared.load.Namespace.{Namespace}
 use Rattle.sw_tree.specs.declared.statement.Statement.{Statement}
 use Rattle.sw_parse_terminals.specs.declared.terminal.Terminal.TheVariants as terminals
 use Rattle.sw_parse_lexemes.specs.declared.state.Mode.TheVariants as modes
 use Rattle.sw_parse_table.specs.declared.source.Source.{Source}
 use Rattle.sw_parse_terminals.specs.Urls.{has_namespace}
-use Rattle.sw_parse_table.specs.Sources.{decoded_at}
+use Rattle.sw_parse_table.specs.Sources.{bytes_at, decoded_at}
 use Rattle.sw_parse_table.specs.Actions.{name_at}
 use Rattle.sw_convert_written.specs.Expressions.{expr_text}
 use Rattle.sw_convert_written.specs.Heads.{has_none}
@@ -18,6 +20,8 @@ use Rattle.sw_convert_again.specs.Tokens.{Tok, sign}
 use Rattle.sw_convert_again.specs.Spells.{Spells, SpellsPlain}
 use Rattle.sw_convert_again.specs.Statements.{SpellsStatement}
 use Rattle.sw_convert_again.specs.Statements as spells
+use Rattle.sw_convert_again.specs.Bare.{is_bare}
+use Rattle.sw_convert_again.specs.Loads.{SpellsConfigured, SpellsMoreConfigured, SpellsConfiguration, SpellsNamespace}
 use Rattle.sw_convert_again.specs.Loads as spells_loads
 use Rattle.sw_convert_again.specs.Params.{SpellsOptionalParams, SpellsMixinName, SpellsUsing, some_head, own_name, owned_name, no_using, some_using}
 use Rattle.sw_convert_tokens.specs.Written.{AsRow, AsValue, WrittenAs}
@@ -53,9 +57,32 @@ is_mixin_name source (own_name {i} old) = is_one_name (name_text (name_at source
 is_mixin_name source (owned_name {i} owner dot old) =
     is_one_name (name_text (name_at source (suc (suc i)))) && goes_behind_dot (name_text (name_at source (suc (suc i))))
 
+-- variables are configured with single values, and without `!default`
+abbrev pub is_single_value : {source : Source} {i j : ℕ} {given : Given} {tokens : List Tok}
+    → SpellsConfigured source i j given tokens → Bool
+is_single_value (spells_loads.configured_variable {value = value} dollar name colon spelt) = not (is_bare value)
+is_single_value _ = false
+
+abbrev pub are_single_values : {source : Source} {i j : ℕ} {givens : List Given} {tokens : List Tok}
+    → SpellsMoreConfigured source i j givens tokens → Bool
+are_single_values spells_loads.no_more_configured = true
+are_single_values (spells_loads.more_configured comma one more) = is_single_value one && are_single_values more
+
+abbrev pub configures_plainly : {source : Source} {i j : ℕ} {givens : List Given} {tokens : List Tok}
+    → SpellsConfiguration source i j givens tokens → Bool
+configures_plainly spells_loads.no_configuration = true
+configures_plainly (spells_loads.some_configuration with_word opens one more end closes) =
+    is_single_value one && are_single_values more
+
+-- the url gives a namespace, or one is written, and is one name
+abbrev pub is_namespace : (source : Source) {url i j : ℕ} {namespace : Namespace} {tokens : List Tok}
+    → SpellsNamespace source url i j namespace tokens → Bool
+is_namespace source {url = url} spells_loads.default_namespace = has_namespace (decoded_at source url)
+is_namespace source (spells_loads.written_namespace {i} as_word name) = is_one_name (bytes_at source (suc i))
+is_namespace source (spells_loads.without_namespace as_word star) = true
+
 -- the statements of which it is proved: those of values, `@each`, variables with flags, `@charset`, `@content`, `@at-root`
--- without a selector, `@forward` of a url alone, `@use` of a url alone or `as *`, and functions, mixins and `@include`, where
--- their name is one
+-- without a selector, `@forward` of a url alone, `@use`, and functions, mixins and `@include`, where their names are such
 abbrev pub is_told : {source : Source} {i j : ℕ} {statement : Statement} {tokens : List Tok}
     → SpellsStatement source i j statement tokens → Bool
 is_told (spells.return_line span old inner end) = true
@@ -69,9 +96,8 @@ is_told {source} (spells.include_block span name_span old mixin given using bloc
 is_told (spells.at_root_block span old block) = true
 is_told (spells.forward_line span one two spells_loads.no_prefix spells_loads.no_filter spells_loads.no_configuration end) =
     true
-is_told {source} (spells.use_line {i} span one two spells_loads.default_namespace spells_loads.no_configuration end) =
-    has_namespace (decoded_at source (suc i))
-is_told (spells.use_line span one two (spells_loads.without_namespace as_word star) spells_loads.no_configuration end) = true
+is_told {source} (spells.use_line span one two name settings end) =
+    is_namespace source name && configures_plainly settings
 is_told {source} (spells.function_block {i} span one two head block) = is_one_name (name_text (name_at source (suc i)))
 is_told {source} (spells.mixin_block {i} span one two head block) =
     is_one_name (name_text (name_at source (suc i))) && writes_params head
