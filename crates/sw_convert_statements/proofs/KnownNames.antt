@@ -47,7 +47,8 @@ use Rattle.sw_convert_texts.specs.Names.{joined, is_mixed, word_plain, name_plai
 use Rattle.sw_convert_texts.specs.RawTexts.{SheetSegment}
 use Rattle.sw_convert_texts.proofs.WordsWithValues.{words_written, custom_names_written, at_names_written}
 use Rattle.sw_convert_statements.specs.Fronts.{ValuesAreKnown}
-use Rattle.sw_convert_statements.specs.Names.{NamedAs, begins_dashed, is_free_word, is_property, is_custom, names_rule, is_at_rule}
+use Rattle.sw_convert_statements.specs.OneName.{begins_dashed}
+use Rattle.sw_convert_statements.specs.Names.{NamedAs, is_free_word, is_property, is_custom, names_rule, is_at_rule}
 use Rattle.sw_convert_statements.proofs.Dashes.{first_dashed}
 use Rattle.sw_convert_statements.proofs.Segments.{sheet}
 
@@ -77,10 +78,10 @@ module _ {source : Source} (values : ValuesAreKnown source) where
   name_values (name_row old row) = row_values row
 
 -- a `:` stands behind a name
-before_colon : (name : List ℕ) → Follows name (codes ":")
+pub before_colon : (name : List ℕ) → Follows name (codes ":")
 before_colon name = record { stop = refl; closed = refl }
 
-name_else : (sort : Sort) → is_name sort ≡ true → is_else sort ≡ false
+pub name_else : (sort : Sort) → is_name sort ≡ true → is_else sort ≡ false
 name_else sorts.AtElse n = absurd (cc)
 name_else sorts.AtElseIf n = absurd (cc)
 name_else _ n = refl

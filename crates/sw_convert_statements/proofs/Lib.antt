@@ -16,6 +16,7 @@ pub mod Fronts
 pub mod Texts
 mod Dashes
 mod KnownNames
+mod Assignments
 pub mod Names
 pub mod Blocks
 pub mod Statements

@@ -84,6 +84,8 @@ module _ (source : Source) (was : WasRead source) (values : ValuesAreKnown sourc
     fronts (spells.say_line level span old inner end) k = front (spells.say_line level span old inner end) k
     fronts (spells.variable_line span one two three inner flags end) k =
         front (spells.variable_line span one two three inner flags end) k
+    fronts (spells.assignment_line span target_span one two three four five inner flags end) k =
+        front (spells.assignment_line span target_span one two three four five inner flags end) k
     fronts (spells.import_line span old inner end) k = front (spells.import_line span old inner end) k
     fronts (spells.extend_line span old inner end) k = front (spells.extend_line span old inner end) k
     fronts (spells.include_line span name_span old mixin given using end) k =

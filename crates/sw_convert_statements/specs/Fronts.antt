@@ -12,7 +12,7 @@ use Rattle.sw_parse_lexemes.specs.declared.state.Mode.TheVariants as modes
 use Rattle.sw_parse_table.specs.declared.source.Source.{Source}
 use Rattle.sw_parse_terminals.specs.Urls.{has_namespace}
 use Rattle.sw_parse_table.specs.Sources.{bytes_at, decoded_at}
-use Rattle.sw_parse_table.specs.Actions.{name_at}
+use Rattle.sw_parse_table.specs.Actions.{name_at, flags_at}
 use Rattle.sw_convert_written.specs.Expressions.{expr_text}
 use Rattle.sw_convert_written.specs.Heads.{has_none}
 use Rattle.sw_convert_written.specs.Names.{name_text}
@@ -28,7 +28,7 @@ use Rattle.sw_convert_tokens.specs.Written.{AsRow, AsValue, WrittenAs}
 use Rattle.sw_convert_tokens.specs.Values.{WasRead}
 use Rattle.sw_convert_statements.specs.Segments.{ElseWritten}
 use Rattle.sw_convert_statements.specs.Statements.{FrontIs}
-use Rattle.sw_convert_statements.specs.OneName.{is_one_name, goes_behind_dot}
+use Rattle.sw_convert_statements.specs.OneName.{is_one_name, goes_behind_dot, is_owner}
 
 -- what is written of each value of a sheet is its tokens, and of one that is no list with commas and without brackets those
 -- of one value
@@ -81,13 +81,16 @@ is_namespace source {url = url} spells_loads.default_namespace = has_namespace (
 is_namespace source (spells_loads.written_namespace {i} as_word name) = is_one_name (bytes_at source (suc i))
 is_namespace source (spells_loads.without_namespace as_word star) = true
 
--- the statements of which it is proved: those of values, `@each`, variables with flags, `@charset`, `@content`, `@at-root`
+-- the statements of which it is proved: those of values, `@each`, variables with flags,
+-- assignments, `@charset`, `@content`, `@at-root`
 -- without a selector, `@forward` of a url alone, `@use`, and functions, mixins and `@include`, where their names are such
 abbrev pub is_told : {source : Source} {i j : ℕ} {statement : Statement} {tokens : List Tok}
     → SpellsStatement source i j statement tokens → Bool
 is_told (spells.return_line span old inner end) = true
 is_told (spells.say_line level span old inner end) = true
 is_told (spells.variable_line span one two three inner flags end) = true
+is_told {source} (spells.assignment_line {i} {places = places} span target_span one two three four five inner flags end) =
+    is_owner (bytes_at source i) && not (flags_at source places).global
 is_told (spells.charset_line span one two end) = true
 is_told (spells.content_line span old given end) = true
 is_told {source} (spells.include_line span name_span old mixin given using end) = is_mixin_name source mixin

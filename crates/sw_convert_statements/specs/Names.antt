@@ -1,7 +1,6 @@
 -- What is written of declarations, custom properties, at-rules of CSS and rules, up to their end or their block, is their
 -- tokens, where what is written of their values and texts is.
-use Rattle.std.specs.Prelude.{◌≡◌, ℕ, Bool, true, false, not, ◌&&◌, ◌==◌, List, ◌++◌, codes}
-use Rattle.sw_text_scan.specs.Bytes.{sign, byte}
+use Rattle.std.specs.Prelude.{◌≡◌, ℕ, Bool, true, false, not, ◌&&◌, List, ◌++◌}
 use Rattle.sw_tree.specs.declared.text.Parts.{Parts}
 use Rattle.sw_tree.specs.declared.statement.Statement.{Statement}
 use Rattle.sw_tokens.specs.declared.pieces.Before.{Before}
@@ -31,6 +30,7 @@ use Rattle.sw_convert_texts.specs.Names.{joined, word_plain, name_plain, name_in
 use Rattle.sw_convert_texts.specs.RawTexts.{SheetSegment}
 use Rattle.sw_convert_statements.specs.Segments.{RuleWritten}
 use Rattle.sw_convert_statements.specs.Statements.{FrontIs}
+use Rattle.sw_convert_statements.specs.OneName.{begins_dashed}
 use Rattle.sw_convert_statements.specs.Fronts.{ValuesAreKnown}
 use Rattle.sw_convert_statements.specs.Texts.{TextsAreKnown}
 
@@ -52,10 +52,6 @@ SelectorsAreKnown source =
     → RuleWritten (selector_text (text_between source i j values)) (raw_tokens source i j values extents tokens)
 
 -- ---- names of which it is proved, told by their bytes
-
--- with a `:` behind it, a name begins with `--`
-abbrev pub begins_dashed : List ℕ → Bool
-begins_dashed name = (byte (name ++ codes ":") 0 == sign "-") && (byte (name ++ codes ":") 1 == sign "-")
 
 -- a name that is no constant and no operator by itself, or a word with more in it, whose numbers are plain
 abbrev pub is_free_word : (source : Source) {i j : ℕ} {parts : Parts} {tokens : List Tok}

@@ -1,11 +1,12 @@
 -- Texts that are one name.
-use Rattle.std.specs.Prelude.{ℕ, Bool, true, false, not, ◌&&◌, ◌==◌, ◌||◌, List, [], ◌∷◌, Option, Some, None, length}
-use Rattle.sw_text_scan.specs.Bytes.{sign, is_digit}
+use Rattle.std.specs.Prelude.{ℕ, Bool, true, false, not, ◌&&◌, ◌==◌, ◌||◌, List, [], ◌∷◌, Option, Some, None, ◌++◌, length, codes}
+use Rattle.sw_text_scan.specs.Bytes.{sign, byte, is_digit}
 use Rattle.sw_tokens.specs.declared.pieces.Piece.{Piece}
 use Rattle.sw_tokens.specs.declared.token.TokenKind.{TokenKind}
 use Rattle.sw_tokens.specs.declared.token.TokenKind.TheVariants as kinds
 use Rattle.sw_tokens.specs.Pieces.{name_piece}
 use Rattle.sw_convert_written.specs.Expressions.{is_url}
+use Rattle.sw_convert_tokens.specs.Written.{begins_white}
 
 abbrev pub is_name_kind : Option TokenKind → Bool
 is_name_kind (Some kinds.Word) = true
@@ -27,3 +28,11 @@ is_one_name (b ∷ text) = is_name_to (length (b ∷ text)) (name_piece (b ∷ t
 abbrev pub goes_behind_dot : List ℕ → Bool
 goes_behind_dot [] = false
 goes_behind_dot (b ∷ text) = not (is_digit b || (b == sign "."))
+
+-- with a `:` behind it, a name begins with `--`
+abbrev pub begins_dashed : List ℕ → Bool
+begins_dashed name = (byte (name ++ codes ":") 0 == sign "-") && (byte (name ++ codes ":") 1 == sign "-")
+
+-- the namespace of an assignment begins neither with white space nor so
+abbrev pub is_owner : List ℕ → Bool
+is_owner name = not (begins_white name) && not (begins_dashed name)
