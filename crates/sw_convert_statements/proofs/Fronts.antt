@@ -13,11 +13,11 @@ use Rattle.sw_convert_again.specs.Tokens.{Tok}
 use Rattle.sw_convert_again.specs.Tokens as again
 use Rattle.sw_convert_again.specs.Statements.{SpellsStatement}
 use Rattle.sw_convert_again.specs.Statements as spells
-use Rattle.sw_convert_again.specs.Loads as loads
-use Rattle.sw_convert_statements.specs.Fronts.{is_mixin_name, is_namespace, FrontsAreWritten, BranchesAreWritten}
+use Rattle.sw_convert_statements.specs.Fronts.{is_mixin_name, is_namespace, is_prefix, is_filter, FrontsAreWritten, BranchesAreWritten}
 use Rattle.sw_convert_statements.proofs.Valued.{return_written, say_written, if_written, while_written, else_if_written}
 use Rattle.sw_convert_statements.proofs.Variables.{variable_written}
-use Rattle.sw_convert_statements.proofs.Loads.{forward_written, use_written}
+use Rattle.sw_convert_statements.proofs.Loads.{use_written}
+use Rattle.sw_convert_statements.proofs.Forwards.{forward_written}
 use Rattle.sw_convert_statements.specs.Segments.{FrontWritten}
 use Rattle.sw_convert_statements.specs.OneName.{is_one_name, is_owner}
 use Rattle.sw_convert_statements.proofs.Assignments.{assignment_written}
@@ -62,8 +62,10 @@ fronts_written source was known i j statement tokens
     using (and_right (is_mixin_name source mixin) _ t)))
 fronts_written source was known i j statement tokens (spells.at_root_block span old block) t = at_root_written
 fronts_written source was known i j statement tokens
-    (spells.forward_line {i = k} span one two loads.no_prefix loads.no_filter loads.no_configuration end) t =
-    forward_written source (suc k) was
+    (spells.forward_line {i = k} span one two renamed members settings end) t =
+    let rest = and_right (is_prefix source renamed) _ t in
+    forward_written source (suc k) was renamed (and_left (is_prefix source renamed) _ t) members
+    (and_left (is_filter source members) _ rest) settings (and_right (is_filter source members) _ rest)
 fronts_written source was known i j statement tokens (spells.use_line {i = k} span one two name settings end) t =
     use_written source (suc k) was known name (and_left (is_namespace source name) _ t) settings
     (and_right (is_namespace source name) _ t)

@@ -12,6 +12,7 @@ pub mod Flow
 mod Includes
 mod Configurations
 pub mod Loads
+mod Forwards
 pub mod Fronts
 pub mod Texts
 mod Dashes

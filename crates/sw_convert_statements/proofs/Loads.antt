@@ -1,4 +1,4 @@
--- `@forward` and `@use` without configurations, and without names that are copied.
+-- Urls of loads, and `@use`.
 use Rattle.std.proofs.Common.{◌≡◌, ◌<◌, ℕ, Bool, true, false, if◌then◌else◌, List, [], ◌∷◌, ◌++◌, length, append-nil, inl, refl, sym, ◌∙◌, ap, arith, lit<, subst, append_assoc, suc}
 use Rattle.std.specs.Prelude.{codes}
 use Rattle.sw_text_scan.specs.Bytes.{sign, byte, is_white}
@@ -33,8 +33,7 @@ use Rattle.sw_convert_tokens.proofs.Unclosed.{space_ends, follows_end}
 use Rattle.sw_convert_tokens.proofs.Signs.{token_segment, sign_segment, sign_token}
 use Rattle.sw_convert_tokens.proofs.Leaves.{says_decoded}
 use Rattle.sw_convert_tokens.proofs.Decodings.{decoded_there}
-use Rattle.sw_convert_heads_passing.specs.Loads.{is_url, UseName, no_name, as_name, as_star, no_prefix, no_filter, use_head, forward_head}
-use Rattle.sw_convert_heads_passing.specs.Loads as loads
+use Rattle.sw_convert_heads_passing.specs.Loads.{is_url, UseName, no_name, as_name, as_star, use_head}
 use Rattle.sw_convert_heads_passing.specs.Statements.{loading}
 use Rattle.sw_convert_texts.specs.RawTexts.{SheetSegment}
 use Rattle.sw_convert_statements.specs.Segments.{Anything, FrontWritten}
@@ -44,9 +43,9 @@ use Rattle.sw_convert_statements.proofs.Configurations.{configured_written}
 use Rattle.sw_convert_statements.proofs.OneName.{one_name, name_segment, name_sort}
 use Rattle.sw_convert_statements.proofs.Segments.{sheet, join, as_behind, text_follows}
 use Rattle.sw_convert_statements.proofs.Segments as segments
-use Rattle.sw_convert_statements.proofs.Keywords.{at_use, at_forward, word_as}
+use Rattle.sw_convert_statements.proofs.Keywords.{at_use, word_as}
 
-quoted_told : (text : List ℕ) → (is_url true (quoted_sort text) ≡ true) × (is_comment (quoted_sort text) ≡ false)
+pub quoted_told : (text : List ℕ) → (is_url true (quoted_sort text) ≡ true) × (is_comment (quoted_sort text) ≡ false)
 quoted_told text = go (has_namespace text)
   where
     go : (t : Bool)
@@ -59,7 +58,7 @@ quoted_named : (text : List ℕ) → has_namespace text ≡ true → is_url fals
 quoted_named text n = ap (λ (t : Bool). is_url false (if t then sorts.Quoted else sorts.Unnamed)) n
 
 -- the url behind a space
-url_segment : (source : Source) (i : ℕ) → WasRead source → (before : Before)
+pub url_segment : (source : Source) (i : ℕ) → WasRead source → (before : Before)
     → SheetSegment before (codes " " ++ string_text (decoded_at source i))
     (tok terminals.LoadUrl (Decoded (decoded_at source i)) ∷ [])
     (apart (quoted_sort (decoded_at source i)) terminals.LoadUrl ∷ []) befores.Other Anything
@@ -81,26 +80,6 @@ star_segment before =
     sheet
     (sign_segment kinds.Star (codes "*") (terminals.Star ∷ []) before true Anything refl refl refl (lit< tt)
     (λ inside after code ok. sign_token kinds.Star after inside befores.White refl code refl refl))
-
-module _ (source : Source) (i : ℕ) (was : WasRead source) where
-  abbrev url : List ℕ
-  url = decoded_at source i
-
-  pub forward_written : FrontWritten modes.Forward ((codes "@forward " ++ (string_text url ++ [])) ++ [])
-      (again.sign terminals.AtForward ∷ tok terminals.LoadUrl (Decoded url) ∷ [])
-  forward_written before calm = record {
-    passed = written sorts.AtForward (is_spaced before) terminals.AtForward ∷ apart (quoted_sort url) terminals.LoadUrl ∷ [];
-    first = refl;
-    front = loading (forward_head (quoted_sort url) (quoted_told url).0 no_prefix no_filter loads.ForwardConfiguration.not_configured);
-    end = befores.Other;
-    loose = λ u. refl;
-    segment = as_behind (λ after e. tt)
-        (segments.as_text
-        (ap (λ (t : List ℕ). codes "@forward " ++ t) (sym (append-nil (string_text url)))
-        ∙ sym (append-nil (codes "@forward " ++ (string_text url ++ []))))
-        (join (sheet (at_forward.segment before calm)) (url_segment source i was befores.Other)
-        (λ after ok. (string_text url ++ after, inl refl))));
-  }
 
 -- ---- `@use`
 

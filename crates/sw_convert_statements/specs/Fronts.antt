@@ -4,7 +4,9 @@ use Rattle.std.specs.Prelude.{◌≡◌, ℕ, suc, Bool, true, false, not, ◌&&
 use Rattle.sw_tree.specs.declared.callable.Params.{Params}
 use Rattle.sw_tree.specs.declared.expr.Expr.{Expr}
 use Rattle.sw_tree.specs.declared.expr.Namespaced.{Namespaced}
+use Rattle.sw_tree.specs.declared.load.Filter.{Filter}
 use Rattle.sw_tree.specs.declared.load.Given.{Given}
+use Rattle.sw_tree.specs.declared.load.Member.{Member}
 use Rattle.sw_tree.specs.declared.load.Namespace.{Namespace}
 use Rattle.sw_tree.specs.declared.statement.Statement.{Statement}
 use Rattle.sw_parse_terminals.specs.declared.terminal.Terminal.TheVariants as terminals
@@ -21,7 +23,7 @@ use Rattle.sw_convert_again.specs.Spells.{Spells, SpellsPlain}
 use Rattle.sw_convert_again.specs.Statements.{SpellsStatement}
 use Rattle.sw_convert_again.specs.Statements as spells
 use Rattle.sw_convert_again.specs.Bare.{is_bare}
-use Rattle.sw_convert_again.specs.Loads.{SpellsConfigured, SpellsMoreConfigured, SpellsConfiguration, SpellsNamespace}
+use Rattle.sw_convert_again.specs.Loads.{SpellsConfigured, SpellsMoreConfigured, SpellsConfiguration, SpellsNamespace, SpellsPrefix, SpellsMember, SpellsMoreMembers, SpellsFilter}
 use Rattle.sw_convert_again.specs.Loads as spells_loads
 use Rattle.sw_convert_again.specs.Params.{SpellsOptionalParams, SpellsMixinName, SpellsUsing, some_head, own_name, owned_name, no_using, some_using}
 use Rattle.sw_convert_tokens.specs.Written.{AsRow, AsValue, WrittenAs}
@@ -81,9 +83,36 @@ is_namespace source {url = url} spells_loads.default_namespace = has_namespace (
 is_namespace source (spells_loads.written_namespace {i} as_word name) = is_one_name (bytes_at source (suc i))
 is_namespace source (spells_loads.without_namespace as_word star) = true
 
+-- the prefix of `@forward` is one name, and so are the members that it shows or hides; nothing is configured
+abbrev pub is_prefix : (source : Source) {i j : ℕ} {prefix : Option (List ℕ)} {tokens : List Tok}
+    → SpellsPrefix source i j prefix tokens → Bool
+is_prefix source spells_loads.no_prefix = true
+is_prefix source (spells_loads.some_prefix {i} as_word name star) = is_one_name (bytes_at source (suc i))
+
+abbrev pub is_member : (source : Source) {i j : ℕ} {member : Member} {tokens : List Tok}
+    → SpellsMember source i j member tokens → Bool
+is_member source (spells_loads.named_member {i} old) = is_one_name (name_text (name_at source i))
+is_member source (spells_loads.variable_member dollar old) = true
+
+abbrev pub are_members : (source : Source) {i j : ℕ} {members : List Member} {tokens : List Tok}
+    → SpellsMoreMembers source i j members tokens → Bool
+are_members source spells_loads.no_more_members = true
+are_members source (spells_loads.more_members comma one more) = is_member source one && are_members source more
+
+abbrev pub is_filter : (source : Source) {i j : ℕ} {filter : Filter} {tokens : List Tok}
+    → SpellsFilter source i j filter tokens → Bool
+is_filter source spells_loads.no_filter = true
+is_filter source (spells_loads.shown old one more) = is_member source one && are_members source more
+is_filter source (spells_loads.hidden old one more) = is_member source one && are_members source more
+
+abbrev pub is_unconfigured : {source : Source} {i j : ℕ} {givens : List Given} {tokens : List Tok}
+    → SpellsConfiguration source i j givens tokens → Bool
+is_unconfigured spells_loads.no_configuration = true
+is_unconfigured _ = false
+
 -- the statements of which it is proved: those of values, `@each`, variables with flags,
 -- assignments, `@charset`, `@content`, `@at-root`
--- without a selector, `@forward` of a url alone, `@use`, and functions, mixins and `@include`, where their names are such
+-- without a selector, `@forward` without a configuration, `@use`, and functions, mixins and `@include`, where their names are such
 abbrev pub is_told : {source : Source} {i j : ℕ} {statement : Statement} {tokens : List Tok}
     → SpellsStatement source i j statement tokens → Bool
 is_told (spells.return_line span old inner end) = true
@@ -97,8 +126,8 @@ is_told {source} (spells.include_line span name_span old mixin given using end) 
 is_told {source} (spells.include_block span name_span old mixin given using block) =
     is_mixin_name source mixin && writes_using using
 is_told (spells.at_root_block span old block) = true
-is_told (spells.forward_line span one two spells_loads.no_prefix spells_loads.no_filter spells_loads.no_configuration end) =
-    true
+is_told {source} (spells.forward_line span one two renamed members settings end) =
+    is_prefix source renamed && (is_filter source members && is_unconfigured settings)
 is_told {source} (spells.use_line span one two name settings end) =
     is_namespace source name && configures_plainly settings
 is_told {source} (spells.function_block {i} span one two head block) = is_one_name (name_text (name_at source (suc i)))

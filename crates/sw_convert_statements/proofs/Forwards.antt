@@ -1,0 +1,233 @@
+-- `@forward` with a prefix and with members that are shown or hidden.
+use Rattle.std.proofs.Common.{◌≡◌, ℕ, suc, true, false, List, [], ◌∷◌, ◌++◌, map, Option, append-nil, inl, refl, sym, ◌∙◌, ap, subst, append_assoc, lit<}
+use Rattle.std.specs.Prelude.{codes}
+use Rattle.sw_text_scan.specs.Bytes.{sign, byte}
+use Rattle.sw_text_scan.proofs.Bounds.{and_left, and_right}
+use Rattle.sw_tree.specs.declared.load.Filter.{Filter}
+use Rattle.sw_tree.specs.declared.load.Given.{Given}
+use Rattle.sw_tree.specs.declared.load.Member.{Member}
+use Rattle.sw_tokens.specs.declared.pieces.Before.TheVariants as befores
+use Rattle.sw_tokens.specs.declared.token.TokenKind.TheVariants as kinds
+use Rattle.sw_tokens.specs.Tokens.{is_spaced}
+use Rattle.sw_parse_terminals.specs.declared.terminal.Terminal.TheVariants as terminals
+use Rattle.sw_parse_lexemes.specs.declared.sort.Sort.TheVariants as sorts
+use Rattle.sw_parse_lexemes.specs.declared.state.Mode.TheVariants as modes
+use Rattle.sw_parse_lexemes.specs.Sorts.{quoted_sort, sort_of}
+use Rattle.sw_parse_table.specs.declared.source.Source.{Source}
+use Rattle.sw_parse_table.specs.Sources.{bytes_at, decoded_at}
+use Rattle.sw_convert_spelling.specs.Strings.{string_text}
+use Rattle.sw_convert_spelling.proofs.Choices.{right_no}
+use Rattle.sw_convert_written.specs.Escapes.{ends_unclosed}
+use Rattle.sw_convert_written.specs.Expressions.{with_commas}
+use Rattle.sw_convert_written.specs.Heads.{prefix_text, member_text, filter_text, configured}
+use Rattle.sw_convert_passing.specs.Written.{Written, written, direct, apart}
+use Rattle.sw_convert_again.specs.Tokens.{Tok, tok, Bytes, Decoded}
+use Rattle.sw_convert_again.specs.Tokens as again
+use Rattle.sw_convert_again.specs.Loads.{SpellsPrefix, SpellsMember, SpellsMoreMembers, SpellsFilter, SpellsConfiguration}
+use Rattle.sw_convert_again.specs.Loads as spells
+use Rattle.sw_convert_again.proofs.Tokens.{one_byte}
+use Rattle.sw_convert_tokens.specs.Joints.{Segment}
+use Rattle.sw_convert_tokens.specs.Written.{Follows}
+use Rattle.sw_convert_tokens.specs.Values.{WasRead}
+use Rattle.sw_convert_tokens.proofs.Joins.{join, as_behind}
+use Rattle.sw_convert_tokens.proofs.Signs.{Anything, sign_segment, sign_token}
+use Rattle.sw_convert_tokens.proofs.Stops.{Behind}
+use Rattle.sw_convert_tokens.proofs.Unclosed.{space_ends, follows_end}
+use Rattle.sw_convert_heads_passing.specs.Loads.{ForwardPrefix, MemberName, MemberNames, ForwardFilter, no_prefix, as_prefix, named_member, variable_member, one_member, more_members, no_filter, shown, hidden, forward_head}
+use Rattle.sw_convert_heads_passing.specs.Loads as loads
+use Rattle.sw_convert_heads_passing.specs.Statements.{loading}
+use Rattle.sw_convert_statements.specs.Segments.{FrontWritten}
+use Rattle.sw_convert_statements.specs.Fronts.{is_prefix, is_member, are_members, is_filter, is_unconfigured}
+use Rattle.sw_convert_statements.proofs.Callables.{name_ends, member_written}
+use Rattle.sw_convert_statements.proofs.Keywords.{at_forward, word_as, word_show, word_hide}
+use Rattle.sw_convert_statements.proofs.Loads.{quoted_told, url_segment}
+use Rattle.sw_convert_statements.proofs.OneName.{one_name, name_segment, name_sort}
+use Rattle.sw_convert_statements.proofs.Params.{comma_segment, behind_comma, variable_at}
+use Rattle.sw_convert_statements.proofs.Segments.{sheet, text_follows}
+use Rattle.sw_convert_statements.proofs.Segments as segments
+
+nothing : {P : List ℕ → Type 0} → Segment befores.Other [] [] [] befores.Other P
+nothing = record {
+  joints = [];
+  spelling = refl;
+  seen = refl;
+  written = refl;
+  last = refl;
+  tells = tt;
+  stand = λ stack after code ok. refl;
+}
+
+-- ---- the prefix
+
+record IsPrefix (text : List ℕ) (tokens : List Tok) : Type 0 where
+  passed : List Written
+  are : ForwardPrefix passed
+  segment : Segment befores.Other text tokens passed befores.Other Anything
+
+before_star : (name rest : List ℕ) → Behind name (codes "*" ++ rest)
+unfolding byte
+before_star name rest = record {
+  dim = record { name = refl; slash = refl; feed = refl; sign_before = refl; equals = refl };
+  closed = refl;
+  url = λ e. absurd (let wrong : false ≡ true = e in cc);
+}
+
+star_segment : Segment befores.Other (codes "*") (again.sign terminals.PrefixStar ∷ [])
+    (direct sorts.Star terminals.PrefixStar ∷ []) befores.Other Anything
+unfolding byte
+star_segment =
+    sign_segment kinds.Star (codes "*") (terminals.PrefixStar ∷ []) befores.Other false Anything refl refl refl (lit< tt)
+    (λ inside after code ok. sign_token kinds.Star after inside befores.Other refl code refl refl)
+
+prefix_written : (source : Source) {i j : ℕ} {prefix : Option (List ℕ)} {tokens : List Tok}
+    → (it : SpellsPrefix source i j prefix tokens) → is_prefix source it ≡ true → IsPrefix (prefix_text prefix) tokens
+prefix_written source spells.no_prefix t = record { passed = []; are = no_prefix; segment = nothing }
+prefix_written source (spells.some_prefix {i} as_word name star) t =
+    let text = bytes_at source (suc i) in
+    let it = one_name text t in record {
+      passed = _;
+      are = as_prefix (sort_of it.kind text) (name_sort text it);
+      segment = join (word_as befores.Other)
+          (join
+          (name_segment text it terminals.Prefix (Bytes 1 text) befores.Other true refl (λ new at same. one_byte new at ∙ same))
+          star_segment (λ after ok. before_star text after))
+          (λ after ok. ((text ++ codes "*") ++ after, refl));
+    }
+
+-- ---- members
+
+record IsNamed (text : List ℕ) (tokens : List Tok) : Type 0 where
+  passed : List Written
+  are : MemberName passed
+  segment : Segment befores.Other (codes " " ++ text) tokens passed befores.Other (Follows text)
+
+member_named : (source : Source) → WasRead source → {i j : ℕ} {member : Member} {tokens : List Tok}
+    → (it : SpellsMember source i j member tokens) → is_member source it ≡ true → IsNamed (member_text member) tokens
+member_named source was (spells.named_member {i} old) t =
+    let name = member_written source i t in record {
+      passed = _;
+      are = named_member name.sort name.is;
+      segment = as_behind (λ after f. name_ends _ after f) name.segment;
+    }
+member_named source was (spells.variable_member {i} sign_of old) t =
+    let name = variable_at source was (suc i) old true in
+    record { passed = _; are = variable_member name.sort name.is; segment = name.segment }
+
+record AreNamed (text : List ℕ) (tokens : List Tok) : Type 0 where
+  passed : List Written
+  are : MemberNames passed
+  segment : Segment befores.Other (codes " " ++ text) tokens passed befores.Other (Follows text)
+
+same_named : {xs ys : List ℕ} {ks ls : List Tok} → xs ≡ ys → ks ≡ ls → AreNamed xs ks → AreNamed ys ls
+same_named {xs} {ys} {ks} {ls} e f it =
+    subst (λ (t : List Tok). AreNamed ys t) f (subst (λ (t : List ℕ). AreNamed t ks) e it)
+
+more_named : (source : Source) → WasRead source → {i j : ℕ} {members : List Member} {ks others : List Tok}
+    {first : List ℕ} → IsNamed first ks → (more : SpellsMoreMembers source i j members others)
+    → are_members source more ≡ true
+    → AreNamed (first ++ with_commas false (map member_text members)) (ks ++ others)
+more_named source was {ks = ks} {first = first} one spells.no_more_members t =
+    same_named (sym (append-nil first)) (sym (append-nil ks))
+    (record { passed = one.passed; are = one_member one.are; segment = one.segment })
+more_named source was {first = first} one
+    (spells.more_members {member = member} {members = members} comma it more) t =
+    let rest = more_named source was (member_named source was it (and_left (is_member source it) _ t)) more
+    (and_right (is_member source it) _ t) in
+    let text = member_text member ++ with_commas false (map member_text members) in record {
+      passed = _;
+      are = more_members one.are rest.are;
+      segment = as_behind (λ after f. behind_comma first text after f)
+          (join one.segment (join comma_segment rest.segment (λ after ok. tt))
+          (λ after ok. record { stop = refl; closed = refl }));
+    }
+
+-- ---- the members that are shown or hidden
+
+record IsFilter (text : List ℕ) (tokens : List Tok) : Type 0 where
+  passed : List Written
+  are : ForwardFilter passed
+  last : List ℕ
+  ends : (front after : List ℕ) → Follows (front ++ text) after → Follows last after
+  segment : Segment befores.Other text tokens passed befores.Other (Follows last)
+
+filter_written : (source : Source) → WasRead source → {i j : ℕ} {filter : Filter} {tokens : List Tok}
+    → (it : SpellsFilter source i j filter tokens) → is_filter source it ≡ true → IsFilter (filter_text filter) tokens
+unfolding ends_unclosed
+filter_written source was spells.no_filter t = record {
+  passed = [];
+  are = no_filter;
+  last = [];
+  ends = λ front after f. record { stop = f.stop; closed = right_no _ _ refl };
+  segment = nothing;
+}
+filter_written source was (spells.shown {member = member} {members = members} old one more) t =
+    let names = more_named source was (member_named source was one (and_left (is_member source one) _ t)) more
+    (and_right (is_member source one) _ t) in
+    let text = member_text member ++ with_commas false (map member_text members) in record {
+      passed = _;
+      are = shown names.are;
+      last = text;
+      ends = λ front after f.
+          follows_end (front ++ codes " show") text (sign " ") space_ends after
+          (subst (λ (x : List ℕ). Follows x after) (sym (append_assoc front (codes " show") (codes " " ++ text))) f);
+      segment = join (word_show befores.Other) names.segment (λ after ok. (text ++ after, refl));
+    }
+filter_written source was (spells.hidden {member = member} {members = members} old one more) t =
+    let names = more_named source was (member_named source was one (and_left (is_member source one) _ t)) more
+    (and_right (is_member source one) _ t) in
+    let text = member_text member ++ with_commas false (map member_text members) in record {
+      passed = _;
+      are = hidden names.are;
+      last = text;
+      ends = λ front after f.
+          follows_end (front ++ codes " hide") text (sign " ") space_ends after
+          (subst (λ (x : List ℕ). Follows x after) (sym (append_assoc front (codes " hide") (codes " " ++ text))) f);
+      segment = join (word_hide befores.Other) names.segment (λ after ok. (text ++ after, refl));
+    }
+
+-- ---- all of it, without a configuration
+
+module _ (source : Source) (i : ℕ) (was : WasRead source) where
+  abbrev address : List ℕ
+  address = string_text (decoded_at source i)
+
+  pub forward_written : {j k m l : ℕ} {prefix : Option (List ℕ)} {filter : Filter} {givens : List Given}
+      {tokens others more : List Tok} → (renamed : SpellsPrefix source j k prefix tokens) → is_prefix source renamed ≡ true
+      → (members : SpellsFilter source k m filter others) → is_filter source members ≡ true
+      → (settings : SpellsConfiguration source m l givens more) → is_unconfigured settings ≡ true
+      → FrontWritten modes.Forward
+      (configured givens (codes "@forward " ++ (address ++ (prefix_text prefix ++ filter_text filter))))
+      (again.sign terminals.AtForward ∷ tok terminals.LoadUrl (Decoded (decoded_at source i))
+      ∷ (tokens ++ (others ++ more)))
+  forward_written {prefix = prefix} {filter = filter} {tokens = tokens} {others = others} renamed t members u
+      spells.no_configuration n before calm =
+      let one = prefix_written source renamed t in
+      let two = filter_written source was members u in
+      let url = decoded_at source i in
+      let tail = prefix_text prefix ++ filter_text filter in
+      let front = codes "@forward " ++ (address ++ prefix_text prefix) in
+      let whole : front ++ filter_text filter ≡ codes "@forward " ++ (address ++ tail) =
+      ap (λ (x : List ℕ). codes "@forward " ++ x) (append_assoc address (prefix_text prefix) (filter_text filter)) in record {
+        passed = written sorts.AtForward (is_spaced before) terminals.AtForward ∷ apart (quoted_sort url) terminals.LoadUrl
+            ∷ (one.passed ++ (two.passed ++ []));
+        first = refl;
+        front = loading (forward_head (quoted_sort url) (quoted_told url).0 one.are two.are loads.ForwardConfiguration.not_configured);
+        end = befores.Other;
+        loose = λ x. refl;
+        segment = segments.as_text (sym (append-nil (codes "@forward " ++ (address ++ tail))))
+            (segments.as_toks
+            (ap (λ (l : List Tok). again.sign terminals.AtForward ∷ tok terminals.LoadUrl (Decoded url) ∷ (tokens ++ l))
+            (sym (append-nil others)))
+            (segments.as_passed
+            (ap (λ (l : List Written). written sorts.AtForward (is_spaced before) terminals.AtForward ∷ apart (quoted_sort url) terminals.LoadUrl ∷ (one.passed ++ l))
+            (sym (append-nil two.passed)))
+            (segments.as_behind
+            (λ after e. two.ends front after
+            (subst (λ (x : List ℕ). Follows x after)
+            (append-nil (codes "@forward " ++ (address ++ tail)) ∙ sym whole) (text_follows _ after e)))
+            (segments.join (sheet (at_forward.segment before calm))
+            (segments.join (url_segment source i was befores.Other)
+            (sheet (join one.segment two.segment (λ after ok. tt))) (λ after ok. tt))
+            (λ after ok. ((address ++ tail) ++ after, inl refl))))));
+      }
+  forward_written renamed t members u _ n before calm = absurd (cc)
