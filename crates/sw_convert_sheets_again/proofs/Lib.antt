@@ -7,4 +7,4 @@ mod Comments
 mod Filters
 mod Loads
 mod Configurations
-mod Sheets
+pub mod Sheets

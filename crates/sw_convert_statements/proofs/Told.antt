@@ -12,7 +12,10 @@ use Rattle.sw_convert_tokens.specs.Values.{WasRead}
 use Rattle.sw_convert_statements.specs.Statements.{FrontIs, HasFronts, BlockHasFronts, BranchesHaveFronts, ElseHasFronts, ListHasFronts}
 use Rattle.sw_convert_statements.specs.Fronts.{ValuesAreKnown, is_told}
 use Rattle.sw_convert_statements.specs.Texts.{TextsAreKnown, has_text}
+use Rattle.sw_convert_statements.specs.ReadsBack.{ScssIsReadBack}
 use Rattle.sw_convert_statements.specs.Told.{is_known, are_known, block_known, branches_known, else_known, list_known, KnownSheetsHaveFronts}
+use Rattle.sw_convert_sheets_again.proofs.Sheets.{all_sheets_again}
+use Rattle.sw_convert_statements.proofs.ReadsBack.{sheets_read_back}
 use Rattle.sw_convert_statements.proofs.Fronts.{fronts_written, branches_written}
 use Rattle.sw_convert_statements.specs.Names.{SelectorsAreKnown, has_name}
 use Rattle.sw_convert_statements.proofs.Names.{named_fronts_written}
@@ -132,3 +135,13 @@ module _ (source : Source) (was : WasRead source) (values : ValuesAreKnown sourc
 pub known_sheets_have_fronts : KnownSheetsHaveFronts
 known_sheets_have_fronts source was values raws customs selectors i j list tokens spelt k =
     list_fronts source was values raws customs selectors spelt k
+
+-- what is written of such a sheet reads back
+pub scss_read_back : ScssIsReadBack
+scss_read_back source written levels parts derived was values raws customs selectors =
+    let again = all_sheets_again source written levels parts derived in record {
+      again = again;
+      back = λ known text.
+          sheets_read_back source written levels parts again
+          (list_fronts source was values raws customs selectors again.spells known) text;
+    }

@@ -6,5 +6,5 @@ pub mod OneName
 pub mod Fronts
 pub mod Texts
 pub mod Names
-pub mod ReadsBack
 pub mod Told
+pub mod ReadsBack

@@ -1,7 +1,7 @@
 // What is written of statements is their tokens.
 ghost use Rattle.sw_convert_statements.specs.Fronts.{BranchesAreWritten, FrontsAreWritten};
 ghost use Rattle.sw_convert_statements.specs.Names.{NamedFrontsAreWritten};
-ghost use Rattle.sw_convert_statements.specs.ReadsBack.{SheetsReadBack};
+ghost use Rattle.sw_convert_statements.specs.ReadsBack.{ScssIsReadBack, SheetsReadBack};
 ghost use Rattle.sw_convert_statements.specs.Sheets.{SheetsAreWritten};
 ghost use Rattle.sw_convert_statements.specs.Texts.{TextFrontsAreWritten};
 ghost use Rattle.sw_convert_statements.specs.Told.{KnownSheetsHaveFronts};
@@ -46,4 +46,10 @@ pub fn sheets_are_written()
 /// statements up to their ends and their blocks is their tokens.
 pub fn sheets_read_back()
     ensures { SheetsReadBack }
+{}
+
+/// A law: where a sheet was read whose values, raw texts and selectors are written as their tokens, and all its statements
+/// are of the kinds that are, the text that is written of it is read to a sheet alike.
+pub fn scss_is_read_back()
+    ensures { ScssIsReadBack }
 {}

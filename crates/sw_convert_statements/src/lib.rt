@@ -6,6 +6,6 @@
 mod laws;
 
 pub use laws::{
-    fronts_are_written, known_sheets_have_fronts, named_fronts_are_written, sheets_are_written,
-    sheets_read_back, statements_are_written, text_fronts_are_written,
+    fronts_are_written, known_sheets_have_fronts, named_fronts_are_written, scss_is_read_back,
+    sheets_are_written, sheets_read_back, statements_are_written, text_fronts_are_written,
 };
