@@ -42,7 +42,7 @@ use Rattle.sw_convert_heads_passing.specs.Statements.{belonging}
 use Rattle.sw_convert_statements.specs.Segments.{FrontWritten}
 use Rattle.sw_convert_statements.specs.OneName.{is_one_name}
 use Rattle.sw_convert_statements.specs.Fronts.{ValuesAreKnown, writes_params}
-use Rattle.sw_convert_statements.proofs.Keywords.{at_function, at_mixin}
+use Rattle.sw_convert_statements.proofs.Keywords.{keyword}
 use Rattle.sw_convert_statements.proofs.OneName.{IsOneName, one_name, name_segment, name_sort, dashed_text}
 use Rattle.sw_convert_statements.proofs.Params.{parens_written}
 use Rattle.sw_convert_statements.proofs.Segments.{sheet, join, as_text, as_behind, text_follows}
@@ -105,7 +105,7 @@ module _ (source : Source) (was : WasRead source) (values : ValuesAreKnown sourc
         end = befores.Other;
         loose = λ u. refl;
         segment = as_behind (λ after e. tt)
-            (join (sheet (at_function.segment before calm))
+            (join (sheet ((keyword terminals.AtFunction sorts.AtFunction refl).segment before calm))
             (join (sheet name.segment) (sheet parens.segment) (λ after ok. paren_behind text _ name.no_url))
             (λ after ok. ((text ++ params_text params) ++ after, inl refl)));
       }
@@ -125,7 +125,7 @@ module _ (source : Source) (was : WasRead source) (values : ValuesAreKnown sourc
         end = befores.Other;
         loose = λ u. refl;
         segment = as_behind (λ after e. tt)
-            (join (sheet (at_mixin.segment before calm))
+            (join (sheet ((keyword terminals.AtMixin sorts.AtMixin refl).segment before calm))
             (join (sheet name.segment) (sheet parens.segment) (λ after ok. paren_behind text _ name.no_url))
             (λ after ok. ((text ++ params_text params) ++ after, inl refl)));
       }
@@ -147,7 +147,7 @@ module _ (source : Source) (was : WasRead source) (values : ValuesAreKnown sourc
             (follows_end (codes "@mixin") text (sign " ") space_ends after
             (subst (λ (x : List ℕ). Follows x after) (ap (λ (x : List ℕ). codes "@mixin " ++ x) (append-nil text))
             (text_follows _ after e))))
-            (join (sheet (at_mixin.segment before calm)) (sheet name.segment) (λ after ok. (text ++ after, inl refl))));
+            (join (sheet ((keyword terminals.AtMixin sorts.AtMixin refl).segment before calm)) (sheet name.segment) (λ after ok. (text ++ after, inl refl))));
       }
 
   pub mixin_written : (i : ℕ) → is_one_name (name_text (name_at source i)) ≡ true → {j k : ℕ} {params : TreeParams}

@@ -34,7 +34,7 @@ use Rattle.sw_convert_heads_passing.specs.Loads as loads
 use Rattle.sw_convert_texts.specs.RawTexts.{SheetSegment}
 use Rattle.sw_convert_statements.specs.Segments.{seams}
 use Rattle.sw_convert_statements.specs.Fronts.{ValuesAreKnown, is_single_value, are_single_values, configures_plainly}
-use Rattle.sw_convert_statements.proofs.Keywords.{word_with}
+use Rattle.sw_convert_statements.proofs.Keywords.{spaced_word}
 use Rattle.sw_convert_statements.proofs.Params.{comma_segment, close_segment, open_segment, behind_comma, variable_at}
 use Rattle.sw_convert_statements.proofs.Segments.{sheet, join, as_text, as_toks, as_passed, as_behind, value_pads, padded}
 use Rattle.sw_convert_statements.proofs.Variables.{colon_segment}
@@ -173,7 +173,7 @@ configured_written {source} was values {text = text} {tokens = tokens} {passed =
           (as_text (space_text [] text last unclosed ∙ whole)
           (as_passed (append_assoc passed (seams unclosed) (configuration_in inner.passed))
           (join pads.segment
-          (join (sheet (word_with pads.end))
+          (join (sheet (spaced_word sorts.With refl pads.end))
           (join (sheet (open_segment true))
           (join (sheet inner.segment) (sheet close_segment) (λ after ok. record { stop = refl; closed = refl }))
           (λ after ok. tt))

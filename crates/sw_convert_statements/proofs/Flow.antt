@@ -44,7 +44,7 @@ use Rattle.sw_convert_heads_passing.specs.Statements.{flowing, alone, named, bel
 use Rattle.sw_convert_texts.specs.RawTexts.{SheetSegment}
 use Rattle.sw_convert_statements.specs.Segments.{Anything, seams, FrontWritten}
 use Rattle.sw_convert_statements.proofs.Segments.{sheet, join, as_text, as_toks, as_passed, as_behind, text_follows, value_pads, padded}
-use Rattle.sw_convert_statements.proofs.Keywords.{at_each, at_charset, at_content, at_root, word_in, text_ends}
+use Rattle.sw_convert_statements.proofs.Keywords.{text_ends, keyword, spaced_word}
 
 -- a variable behind a space
 record DollarName (source : Source) (i : ℕ) (before : Before) : Type 0 where
@@ -125,7 +125,7 @@ each_written source was {k = k} {places = places} {tokens = tokens} old names {v
     let head = codes "@each " ++ texts in
     let unclosed = ends_unclosed head in
     let front = as_behind (λ after f. follows_end (codes "@each") texts (sign " ") space_ends after f)
-    (join (sheet (at_each.segment before calm)) all.segment (λ after f. (texts ++ after, inl refl))) in
+    (join (sheet ((keyword terminals.AtEach sorts.AtEach refl).segment before calm)) all.segment (λ after f. (texts ++ after, inl refl))) in
     let pads = padded unclosed refl (λ u. refl) (value_pads head) front in
     let last = codes "in" ++ (codes " " ++ value) in
     let whole : head ++ (space_by unclosed ++ last) ≡ each_text (name_at source k ∷ names_at source places) value =
@@ -144,7 +144,7 @@ each_written source was {k = k} {places = places} {tokens = tokens} old names {v
           (as_toks (ap (λ (l : List Tok). again.sign terminals.AtEach ∷ l)
           (append_assoc (dollar_tokens (name_at source k)) tokens (again.sign terminals.In ∷ others)))
           (as_passed (between (written sorts.AtEach (is_spaced before) terminals.AtEach ∷ all.passed) unclosed (apart sorts.In terminals.In) one.passed)
-          (join pads.segment (join (sheet (word_in pads.end)) (sheet one.segment) (λ after f. (value ++ after, refl)))
+          (join pads.segment (join (sheet (spaced_word sorts.In refl pads.end)) (sheet one.segment) (λ after f. (value ++ after, refl)))
           (λ after f. (last ++ after, refl))))));
     }
   where
@@ -179,7 +179,7 @@ charset_written before calm = record {
   end = befores.Other;
   loose = λ u. refl;
   segment = as_behind (λ after e. tt)
-      (join (sheet (at_charset.segment before calm))
+      (join (sheet ((keyword terminals.AtCharset sorts.AtCharset refl).segment before calm))
       (sheet
       (sign_segment (kinds.Quoted utf) (string_text utf) (terminals.Plain ∷ []) befores.Other true Anything refl
       (string_sort utf).1 refl (lit< tt)
@@ -196,8 +196,8 @@ content_written before calm = record {
   front = belonging (content_head none_given);
   end = befores.Other;
   loose = λ u. refl;
-  segment = as_behind (λ after e. text_ends (codes "@content") after at_content.closed e)
-      (sheet (at_content.segment before calm));
+  segment = as_behind (λ after e. text_ends (codes "@content") after (keyword terminals.AtContent sorts.AtContent refl).closed e)
+      (sheet ((keyword terminals.AtContent sorts.AtContent refl).segment before calm));
 }
 
 pub at_root_written : FrontWritten modes.Raw (codes "@at-root") (again.sign terminals.AtRoot ∷ [])
@@ -207,5 +207,5 @@ at_root_written before calm = record {
   front = named (text_head sorts.AtRoot refl);
   end = befores.Other;
   loose = λ u. refl;
-  segment = as_behind (λ after e. text_ends (codes "@at-root") after at_root.closed e) (sheet (at_root.segment before calm));
+  segment = as_behind (λ after e. text_ends (codes "@at-root") after (keyword terminals.AtRoot sorts.AtRoot refl).closed e) (sheet ((keyword terminals.AtRoot sorts.AtRoot refl).segment before calm));
 }

@@ -39,7 +39,7 @@ use Rattle.sw_convert_heads_passing.specs.Statements.{loading}
 use Rattle.sw_convert_statements.specs.Segments.{FrontWritten}
 use Rattle.sw_convert_statements.specs.Fronts.{is_prefix, is_member, are_members, is_filter, is_unconfigured}
 use Rattle.sw_convert_statements.proofs.Callables.{name_ends, member_written}
-use Rattle.sw_convert_statements.proofs.Keywords.{at_forward, word_as, word_show, word_hide}
+use Rattle.sw_convert_statements.proofs.Keywords.{keyword, spaced_word}
 use Rattle.sw_convert_statements.proofs.Loads.{quoted_told, url_segment}
 use Rattle.sw_convert_statements.proofs.OneName.{one_name, name_segment, name_sort}
 use Rattle.sw_convert_statements.proofs.Params.{comma_segment, behind_comma, variable_at}
@@ -87,7 +87,7 @@ prefix_written source (spells.some_prefix {i} as_word name star) t =
     let it = one_name text t in record {
       passed = _;
       are = as_prefix (sort_of it.kind text) (name_sort text it);
-      segment = join (word_as befores.Other)
+      segment = join (spaced_word sorts.As refl befores.Other)
           (join
           (name_segment text it terminals.Prefix (Bytes 1 text) befores.Other true refl (λ new at same. one_byte new at ∙ same))
           star_segment (λ after ok. before_star text after))
@@ -170,7 +170,7 @@ filter_written source was (spells.shown {member = member} {members = members} ol
       ends = λ front after f.
           follows_end (front ++ codes " show") text (sign " ") space_ends after
           (subst (λ (x : List ℕ). Follows x after) (sym (append_assoc front (codes " show") (codes " " ++ text))) f);
-      segment = join (word_show befores.Other) names.segment (λ after ok. (text ++ after, refl));
+      segment = join (spaced_word sorts.Show refl befores.Other) names.segment (λ after ok. (text ++ after, refl));
     }
 filter_written source was (spells.hidden {member = member} {members = members} old one more) t =
     let names = more_named source was (member_named source was one (and_left (is_member source one) _ t)) more
@@ -182,7 +182,7 @@ filter_written source was (spells.hidden {member = member} {members = members} o
       ends = λ front after f.
           follows_end (front ++ codes " hide") text (sign " ") space_ends after
           (subst (λ (x : List ℕ). Follows x after) (sym (append_assoc front (codes " hide") (codes " " ++ text))) f);
-      segment = join (word_hide befores.Other) names.segment (λ after ok. (text ++ after, refl));
+      segment = join (spaced_word sorts.Hide refl befores.Other) names.segment (λ after ok. (text ++ after, refl));
     }
 
 -- ---- all of it, without a configuration
@@ -225,7 +225,7 @@ module _ (source : Source) (i : ℕ) (was : WasRead source) where
             (λ after e. two.ends front after
             (subst (λ (x : List ℕ). Follows x after)
             (append-nil (codes "@forward " ++ (address ++ tail)) ∙ sym whole) (text_follows _ after e)))
-            (segments.join (sheet (at_forward.segment before calm))
+            (segments.join (sheet ((keyword terminals.AtForward sorts.AtForward refl).segment before calm))
             (segments.join (url_segment source i was befores.Other)
             (sheet (join one.segment two.segment (λ after ok. tt))) (λ after ok. tt))
             (λ after ok. ((address ++ tail) ++ after, inl refl))))));

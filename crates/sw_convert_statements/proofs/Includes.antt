@@ -53,7 +53,7 @@ use Rattle.sw_convert_statements.specs.Fronts.{ValuesAreKnown, is_mixin_name, wr
 use Rattle.sw_convert_statements.proofs.Arguments.{IsGiven, nothing_given, arguments_given, settles_around}
 use Rattle.sw_convert_statements.proofs.Callables.{name_ends, word_using, member_written}
 use Rattle.sw_convert_statements.proofs.Flow.{content_written}
-use Rattle.sw_convert_statements.proofs.Keywords.{at_include, at_content}
+use Rattle.sw_convert_statements.proofs.Keywords.{keyword}
 use Rattle.sw_convert_statements.proofs.OneName.{one_name, name_segment, name_sort, dashed_text}
 use Rattle.sw_convert_statements.proofs.Params.{parens_written}
 use Rattle.sw_convert_statements.proofs.Segments.{sheet, join, as_text, as_toks, as_passed, as_behind, text_follows, value_pads, padded}
@@ -137,7 +137,7 @@ content_called (arguments_given {text} {passed = passed} call segment) before ca
   end = befores.Other;
   loose = λ u. refl;
   segment = as_behind (λ after e. tt)
-      (join (sheet (at_content.segment before calm)) (sheet segment) (λ after ok. (text ++ after, inr (inr refl))));
+      (join (sheet ((keyword terminals.AtContent sorts.AtContent refl).segment before calm)) (sheet segment) (λ after ok. (text ++ after, inr (inr refl))));
 }
 
 include_of : {spaced : Bool} {name call params : List Written} → Call call → MixinName name → UsingParams params
@@ -167,7 +167,7 @@ include_given {text} {ks = ks} name nothing_given before calm = record {
       (name.ends after
       (follows_end (codes "@include") text (sign " ") space_ends after
       (subst (λ (x : List ℕ). Follows x after) (ap (λ (x : List ℕ). codes "@include " ++ x) (append-nil text)) f))))
-      (join (sheet (at_include.segment before calm)) (sheet name.segment) (λ after ok. (text ++ after, inl refl)))));
+      (join (sheet ((keyword terminals.AtInclude sorts.AtInclude refl).segment before calm)) (sheet name.segment) (λ after ok. (text ++ after, inl refl)))));
 }
 include_given {text} name (arguments_given {text = given} {passed = call} called segment) before calm = record {
   passed = name.passed ++ call;
@@ -176,7 +176,7 @@ include_given {text} name (arguments_given {text = given} {passed = call} called
       (λ (l : List Written). MemberHead modes.Include (written sorts.AtInclude (is_spaced before) terminals.AtInclude ∷ l))
       (sym (append_assoc name.passed call params)) (include_of called name.are used);
   segment = as_behind (λ after f. tt)
-      (join (sheet (at_include.segment before calm))
+      (join (sheet ((keyword terminals.AtInclude sorts.AtInclude refl).segment before calm))
       (join (sheet name.segment) (sheet segment) (λ after ok. paren_behind name.last (given ++ after) name.no_url))
       (λ after ok. ((text ++ (codes "(" ++ given)) ++ after, inl refl)));
 }

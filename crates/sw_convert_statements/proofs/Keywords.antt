@@ -27,6 +27,7 @@ use Rattle.sw_convert_tokens.specs.Joints.{Segment}
 use Rattle.sw_convert_tokens.specs.Written.{is_calm}
 use Rattle.sw_convert_tokens.proofs.Signs.{sign_segment, token_by}
 use Rattle.sw_convert_tokens.proofs.Spaces.{BeginsSpace}
+use Rattle.sw_convert_heads_passing.specs.Heads.{is_keyword}
 use Rattle.sw_convert_texts.specs.RawTexts.{ends_statement, EndsText}
 use Rattle.sw_convert_tokens.proofs.Between.{spaced_segment}
 
@@ -96,137 +97,129 @@ keyword_by terminal sort word is seen closed alone spaced ended opened = record 
     fits after rest (inr (inr e)) =
         subst (λ (t : List ℕ). may_stand_behind befores.White kinds.AtName (sign "@" ∷ word) t ≡ true) (sym e) (opened rest)
 
-pub at_return : IsKeyword terminals.AtReturn sorts.AtReturn (codes "@return")
-unfolding code_piece word_piece name_piece sign_piece opens_url number_piece byte begins_name escape_end run_end is_hex_form quote_piece loud_piece locality.ends_unclosed locality.is_unclosed ends_unclosed
-at_return = keyword_by terminals.AtReturn sorts.AtReturn (codes "return") refl refl refl refl (λ rest. refl) (λ rest. refl) (λ rest. refl)
+-- the text of each
+abbrev pub keyword_text : Sort → List ℕ
+keyword_text sorts.AtReturn = codes "@return"
+keyword_text sorts.AtWarn = codes "@warn"
+keyword_text sorts.AtDebug = codes "@debug"
+keyword_text sorts.AtError = codes "@error"
+keyword_text sorts.AtIf = codes "@if"
+keyword_text sorts.AtWhile = codes "@while"
+keyword_text sorts.AtEach = codes "@each"
+keyword_text sorts.AtFor = codes "@for"
+keyword_text sorts.AtElse = codes "@else"
+keyword_text sorts.AtFunction = codes "@function"
+keyword_text sorts.AtMixin = codes "@mixin"
+keyword_text sorts.AtInclude = codes "@include"
+keyword_text sorts.AtUse = codes "@use"
+keyword_text sorts.AtForward = codes "@forward"
+keyword_text sorts.AtCharset = codes "@charset"
+keyword_text sorts.AtMedia = codes "@media"
+keyword_text sorts.AtSupports = codes "@supports"
+keyword_text sorts.AtRoot = codes "@at-root"
+keyword_text sorts.AtImport = codes "@import"
+keyword_text sorts.AtExtend = codes "@extend"
+keyword_text sorts.AtContent = codes "@content"
+keyword_text sorts.AtElseIf = codes "@elseif"
+keyword_text _ = []
 
-pub at_warn : IsKeyword terminals.AtWarn sorts.AtWarn (codes "@warn")
+pub keyword : (terminal : Terminal) (sort : Sort) → is_keyword sort ≡ true → IsKeyword terminal sort (keyword_text sort)
 unfolding code_piece word_piece name_piece sign_piece opens_url number_piece byte begins_name escape_end run_end is_hex_form quote_piece loud_piece locality.ends_unclosed locality.is_unclosed ends_unclosed
-at_warn = keyword_by terminals.AtWarn sorts.AtWarn (codes "warn") refl refl refl refl (λ rest. refl) (λ rest. refl) (λ rest. refl)
-
-pub at_debug : IsKeyword terminals.AtDebug sorts.AtDebug (codes "@debug")
-unfolding code_piece word_piece name_piece sign_piece opens_url number_piece byte begins_name escape_end run_end is_hex_form quote_piece loud_piece locality.ends_unclosed locality.is_unclosed ends_unclosed
-at_debug = keyword_by terminals.AtDebug sorts.AtDebug (codes "debug") refl refl refl refl (λ rest. refl) (λ rest. refl) (λ rest. refl)
-
-pub at_error : IsKeyword terminals.AtError sorts.AtError (codes "@error")
-unfolding code_piece word_piece name_piece sign_piece opens_url number_piece byte begins_name escape_end run_end is_hex_form quote_piece loud_piece locality.ends_unclosed locality.is_unclosed ends_unclosed
-at_error = keyword_by terminals.AtError sorts.AtError (codes "error") refl refl refl refl (λ rest. refl) (λ rest. refl) (λ rest. refl)
-
-pub at_if : IsKeyword terminals.AtIf sorts.AtIf (codes "@if")
-unfolding code_piece word_piece name_piece sign_piece opens_url number_piece byte begins_name escape_end run_end is_hex_form quote_piece loud_piece locality.ends_unclosed locality.is_unclosed ends_unclosed
-at_if = keyword_by terminals.AtIf sorts.AtIf (codes "if") refl refl refl refl (λ rest. refl) (λ rest. refl) (λ rest. refl)
-
-pub at_while : IsKeyword terminals.AtWhile sorts.AtWhile (codes "@while")
-unfolding code_piece word_piece name_piece sign_piece opens_url number_piece byte begins_name escape_end run_end is_hex_form quote_piece loud_piece locality.ends_unclosed locality.is_unclosed ends_unclosed
-at_while = keyword_by terminals.AtWhile sorts.AtWhile (codes "while") refl refl refl refl (λ rest. refl) (λ rest. refl) (λ rest. refl)
-
-pub at_each : IsKeyword terminals.AtEach sorts.AtEach (codes "@each")
-unfolding code_piece word_piece name_piece sign_piece opens_url number_piece byte begins_name escape_end run_end is_hex_form quote_piece loud_piece locality.ends_unclosed locality.is_unclosed ends_unclosed
-at_each = keyword_by terminals.AtEach sorts.AtEach (codes "each") refl refl refl refl (λ rest. refl) (λ rest. refl) (λ rest. refl)
-
-pub at_for : IsKeyword terminals.AtFor sorts.AtFor (codes "@for")
-unfolding code_piece word_piece name_piece sign_piece opens_url number_piece byte begins_name escape_end run_end is_hex_form quote_piece loud_piece locality.ends_unclosed locality.is_unclosed ends_unclosed
-at_for = keyword_by terminals.AtFor sorts.AtFor (codes "for") refl refl refl refl (λ rest. refl) (λ rest. refl) (λ rest. refl)
-
-pub at_else : IsKeyword terminals.AtElse sorts.AtElse (codes "@else")
-unfolding code_piece word_piece name_piece sign_piece opens_url number_piece byte begins_name escape_end run_end is_hex_form quote_piece loud_piece locality.ends_unclosed locality.is_unclosed ends_unclosed
-at_else = keyword_by terminals.AtElse sorts.AtElse (codes "else") refl refl refl refl (λ rest. refl) (λ rest. refl) (λ rest. refl)
-
-pub at_else_if : IsKeyword terminals.AtElseIf sorts.AtElse (codes "@else")
-unfolding code_piece word_piece name_piece sign_piece opens_url number_piece byte begins_name escape_end run_end is_hex_form quote_piece loud_piece locality.ends_unclosed locality.is_unclosed ends_unclosed
-at_else_if = keyword_by terminals.AtElseIf sorts.AtElse (codes "else") refl refl refl refl (λ rest. refl) (λ rest. refl) (λ rest. refl)
-
-pub at_function : IsKeyword terminals.AtFunction sorts.AtFunction (codes "@function")
-unfolding code_piece word_piece name_piece sign_piece opens_url number_piece byte begins_name escape_end run_end is_hex_form quote_piece loud_piece locality.ends_unclosed locality.is_unclosed ends_unclosed
-at_function = keyword_by terminals.AtFunction sorts.AtFunction (codes "function") refl refl refl refl (λ rest. refl) (λ rest. refl) (λ rest. refl)
-
-pub at_mixin : IsKeyword terminals.AtMixin sorts.AtMixin (codes "@mixin")
-unfolding code_piece word_piece name_piece sign_piece opens_url number_piece byte begins_name escape_end run_end is_hex_form quote_piece loud_piece locality.ends_unclosed locality.is_unclosed ends_unclosed
-at_mixin = keyword_by terminals.AtMixin sorts.AtMixin (codes "mixin") refl refl refl refl (λ rest. refl) (λ rest. refl) (λ rest. refl)
-
-pub at_include : IsKeyword terminals.AtInclude sorts.AtInclude (codes "@include")
-unfolding code_piece word_piece name_piece sign_piece opens_url number_piece byte begins_name escape_end run_end is_hex_form quote_piece loud_piece locality.ends_unclosed locality.is_unclosed ends_unclosed
-at_include = keyword_by terminals.AtInclude sorts.AtInclude (codes "include") refl refl refl refl (λ rest. refl) (λ rest. refl) (λ rest. refl)
-
-pub at_use : IsKeyword terminals.AtUse sorts.AtUse (codes "@use")
-unfolding code_piece word_piece name_piece sign_piece opens_url number_piece byte begins_name escape_end run_end is_hex_form quote_piece loud_piece locality.ends_unclosed locality.is_unclosed ends_unclosed
-at_use = keyword_by terminals.AtUse sorts.AtUse (codes "use") refl refl refl refl (λ rest. refl) (λ rest. refl) (λ rest. refl)
-
-pub at_forward : IsKeyword terminals.AtForward sorts.AtForward (codes "@forward")
-unfolding code_piece word_piece name_piece sign_piece opens_url number_piece byte begins_name escape_end run_end is_hex_form quote_piece loud_piece locality.ends_unclosed locality.is_unclosed ends_unclosed
-at_forward = keyword_by terminals.AtForward sorts.AtForward (codes "forward") refl refl refl refl (λ rest. refl) (λ rest. refl) (λ rest. refl)
-
-pub at_charset : IsKeyword terminals.AtCharset sorts.AtCharset (codes "@charset")
-unfolding code_piece word_piece name_piece sign_piece opens_url number_piece byte begins_name escape_end run_end is_hex_form quote_piece loud_piece locality.ends_unclosed locality.is_unclosed ends_unclosed
-at_charset = keyword_by terminals.AtCharset sorts.AtCharset (codes "charset") refl refl refl refl (λ rest. refl) (λ rest. refl) (λ rest. refl)
-
-pub at_media : IsKeyword terminals.AtMedia sorts.AtMedia (codes "@media")
-unfolding code_piece word_piece name_piece sign_piece opens_url number_piece byte begins_name escape_end run_end is_hex_form quote_piece loud_piece locality.ends_unclosed locality.is_unclosed ends_unclosed
-at_media = keyword_by terminals.AtMedia sorts.AtMedia (codes "media") refl refl refl refl (λ rest. refl) (λ rest. refl) (λ rest. refl)
-
-pub at_supports : IsKeyword terminals.AtSupports sorts.AtSupports (codes "@supports")
-unfolding code_piece word_piece name_piece sign_piece opens_url number_piece byte begins_name escape_end run_end is_hex_form quote_piece loud_piece locality.ends_unclosed locality.is_unclosed ends_unclosed
-at_supports = keyword_by terminals.AtSupports sorts.AtSupports (codes "supports") refl refl refl refl (λ rest. refl) (λ rest. refl) (λ rest. refl)
-
-pub at_root : IsKeyword terminals.AtRoot sorts.AtRoot (codes "@at-root")
-unfolding code_piece word_piece name_piece sign_piece opens_url number_piece byte begins_name escape_end run_end is_hex_form quote_piece loud_piece locality.ends_unclosed locality.is_unclosed ends_unclosed
-at_root = keyword_by terminals.AtRoot sorts.AtRoot (codes "at-root") refl refl refl refl (λ rest. refl) (λ rest. refl) (λ rest. refl)
-
-pub at_import : IsKeyword terminals.AtImport sorts.AtImport (codes "@import")
-unfolding code_piece word_piece name_piece sign_piece opens_url number_piece byte begins_name escape_end run_end is_hex_form quote_piece loud_piece locality.ends_unclosed locality.is_unclosed ends_unclosed
-at_import = keyword_by terminals.AtImport sorts.AtImport (codes "import") refl refl refl refl (λ rest. refl) (λ rest. refl) (λ rest. refl)
-
-pub at_extend : IsKeyword terminals.AtExtend sorts.AtExtend (codes "@extend")
-unfolding code_piece word_piece name_piece sign_piece opens_url number_piece byte begins_name escape_end run_end is_hex_form quote_piece loud_piece locality.ends_unclosed locality.is_unclosed ends_unclosed
-at_extend = keyword_by terminals.AtExtend sorts.AtExtend (codes "extend") refl refl refl refl (λ rest. refl) (λ rest. refl) (λ rest. refl)
-
-pub at_content : IsKeyword terminals.AtContent sorts.AtContent (codes "@content")
-unfolding code_piece word_piece name_piece sign_piece opens_url number_piece byte begins_name escape_end run_end is_hex_form quote_piece loud_piece locality.ends_unclosed locality.is_unclosed ends_unclosed
-at_content = keyword_by terminals.AtContent sorts.AtContent (codes "content") refl refl refl refl (λ rest. refl) (λ rest. refl) (λ rest. refl)
+keyword terminal sorts.AtReturn k = keyword_by terminal sorts.AtReturn (codes "return") refl refl refl refl (λ rest. refl) (λ rest. refl)
+    (λ rest. refl)
+keyword terminal sorts.AtWarn k = keyword_by terminal sorts.AtWarn (codes "warn") refl refl refl refl (λ rest. refl) (λ rest. refl)
+    (λ rest. refl)
+keyword terminal sorts.AtDebug k = keyword_by terminal sorts.AtDebug (codes "debug") refl refl refl refl (λ rest. refl) (λ rest. refl)
+    (λ rest. refl)
+keyword terminal sorts.AtError k = keyword_by terminal sorts.AtError (codes "error") refl refl refl refl (λ rest. refl) (λ rest. refl)
+    (λ rest. refl)
+keyword terminal sorts.AtIf k = keyword_by terminal sorts.AtIf (codes "if") refl refl refl refl (λ rest. refl) (λ rest. refl)
+    (λ rest. refl)
+keyword terminal sorts.AtWhile k = keyword_by terminal sorts.AtWhile (codes "while") refl refl refl refl (λ rest. refl) (λ rest. refl)
+    (λ rest. refl)
+keyword terminal sorts.AtEach k = keyword_by terminal sorts.AtEach (codes "each") refl refl refl refl (λ rest. refl) (λ rest. refl)
+    (λ rest. refl)
+keyword terminal sorts.AtFor k = keyword_by terminal sorts.AtFor (codes "for") refl refl refl refl (λ rest. refl) (λ rest. refl)
+    (λ rest. refl)
+keyword terminal sorts.AtElse k = keyword_by terminal sorts.AtElse (codes "else") refl refl refl refl (λ rest. refl) (λ rest. refl)
+    (λ rest. refl)
+keyword terminal sorts.AtFunction k = keyword_by terminal sorts.AtFunction (codes "function") refl refl refl refl (λ rest. refl) (λ rest. refl)
+    (λ rest. refl)
+keyword terminal sorts.AtMixin k = keyword_by terminal sorts.AtMixin (codes "mixin") refl refl refl refl (λ rest. refl) (λ rest. refl)
+    (λ rest. refl)
+keyword terminal sorts.AtInclude k = keyword_by terminal sorts.AtInclude (codes "include") refl refl refl refl (λ rest. refl) (λ rest. refl)
+    (λ rest. refl)
+keyword terminal sorts.AtUse k = keyword_by terminal sorts.AtUse (codes "use") refl refl refl refl (λ rest. refl) (λ rest. refl)
+    (λ rest. refl)
+keyword terminal sorts.AtForward k = keyword_by terminal sorts.AtForward (codes "forward") refl refl refl refl (λ rest. refl) (λ rest. refl)
+    (λ rest. refl)
+keyword terminal sorts.AtCharset k = keyword_by terminal sorts.AtCharset (codes "charset") refl refl refl refl (λ rest. refl) (λ rest. refl)
+    (λ rest. refl)
+keyword terminal sorts.AtMedia k = keyword_by terminal sorts.AtMedia (codes "media") refl refl refl refl (λ rest. refl) (λ rest. refl)
+    (λ rest. refl)
+keyword terminal sorts.AtSupports k = keyword_by terminal sorts.AtSupports (codes "supports") refl refl refl refl (λ rest. refl) (λ rest. refl)
+    (λ rest. refl)
+keyword terminal sorts.AtRoot k = keyword_by terminal sorts.AtRoot (codes "at-root") refl refl refl refl (λ rest. refl) (λ rest. refl)
+    (λ rest. refl)
+keyword terminal sorts.AtImport k = keyword_by terminal sorts.AtImport (codes "import") refl refl refl refl (λ rest. refl) (λ rest. refl)
+    (λ rest. refl)
+keyword terminal sorts.AtExtend k = keyword_by terminal sorts.AtExtend (codes "extend") refl refl refl refl (λ rest. refl) (λ rest. refl)
+    (λ rest. refl)
+keyword terminal sorts.AtContent k = keyword_by terminal sorts.AtContent (codes "content") refl refl refl refl (λ rest. refl) (λ rest. refl)
+    (λ rest. refl)
+keyword terminal sorts.AtElseIf k = keyword_by terminal sorts.AtElseIf (codes "elseif") refl refl refl refl (λ rest. refl) (λ rest. refl)
+    (λ rest. refl)
+keyword terminal _ k = absurd (cc)
 
 -- ---- words with a space before and behind each
 
-pub word_if : (before : Before) → Segment before (codes " if") (again.sign terminals.If ∷ [])
-    (passing.apart sorts.If terminals.If ∷ []) befores.Other BeginsSpace
-unfolding code_piece word_piece name_piece sign_piece opens_url number_piece byte begins_name escape_end run_end is_hex_form quote_piece loud_piece locality.ends_unclosed locality.is_unclosed
-word_if before = spaced_segment kinds.Word (sign "i") (codes "f") terminals.If before refl refl refl refl refl refl (λ rest. refl)
+abbrev pub word_text : Sort → List ℕ
+word_text sorts.If = codes "if"
+word_text sorts.In = codes "in"
+word_text sorts.From = codes "from"
+word_text sorts.Through = codes "through"
+word_text sorts.To = codes "to"
+word_text sorts.As = codes "as"
+word_text sorts.With = codes "with"
+word_text sorts.Show = codes "show"
+word_text sorts.Hide = codes "hide"
+word_text _ = []
 
-pub word_in : (before : Before) → Segment before (codes " in") (again.sign terminals.In ∷ [])
-    (passing.apart sorts.In terminals.In ∷ []) befores.Other BeginsSpace
-unfolding code_piece word_piece name_piece sign_piece opens_url number_piece byte begins_name escape_end run_end is_hex_form quote_piece loud_piece locality.ends_unclosed locality.is_unclosed
-word_in before = spaced_segment kinds.Word (sign "i") (codes "n") terminals.In before refl refl refl refl refl refl (λ rest. refl)
+abbrev pub word_terminal : Sort → Terminal
+word_terminal sorts.If = terminals.If
+word_terminal sorts.In = terminals.In
+word_terminal sorts.From = terminals.From
+word_terminal sorts.Through = terminals.Through
+word_terminal sorts.To = terminals.To
+word_terminal sorts.As = terminals.As
+word_terminal sorts.With = terminals.With
+word_terminal sorts.Show = terminals.Show
+word_terminal sorts.Hide = terminals.Hide
+word_terminal _ = terminals.Other
 
-pub word_from : (before : Before) → Segment before (codes " from") (again.sign terminals.From ∷ [])
-    (passing.apart sorts.From terminals.From ∷ []) befores.Other BeginsSpace
-unfolding code_piece word_piece name_piece sign_piece opens_url number_piece byte begins_name escape_end run_end is_hex_form quote_piece loud_piece locality.ends_unclosed locality.is_unclosed
-word_from before = spaced_segment kinds.Word (sign "f") (codes "rom") terminals.From before refl refl refl refl refl refl (λ rest. refl)
+abbrev pub is_spaced_word : Sort → Bool
+is_spaced_word sorts.If = true
+is_spaced_word sorts.In = true
+is_spaced_word sorts.From = true
+is_spaced_word sorts.Through = true
+is_spaced_word sorts.To = true
+is_spaced_word sorts.As = true
+is_spaced_word sorts.With = true
+is_spaced_word sorts.Show = true
+is_spaced_word sorts.Hide = true
+is_spaced_word _ = false
 
-pub word_through : (before : Before) → Segment before (codes " through") (again.sign terminals.Through ∷ [])
-    (passing.apart sorts.Through terminals.Through ∷ []) befores.Other BeginsSpace
+pub spaced_word : (sort : Sort) → is_spaced_word sort ≡ true → (before : Before)
+    → Segment before (codes " " ++ word_text sort) (again.sign (word_terminal sort) ∷ [])
+    (passing.apart sort (word_terminal sort) ∷ []) befores.Other BeginsSpace
 unfolding code_piece word_piece name_piece sign_piece opens_url number_piece byte begins_name escape_end run_end is_hex_form quote_piece loud_piece locality.ends_unclosed locality.is_unclosed
-word_through before = spaced_segment kinds.Word (sign "t") (codes "hrough") terminals.Through before refl refl refl refl refl refl (λ rest. refl)
-
-pub word_to : (before : Before) → Segment before (codes " to") (again.sign terminals.To ∷ [])
-    (passing.apart sorts.To terminals.To ∷ []) befores.Other BeginsSpace
-unfolding code_piece word_piece name_piece sign_piece opens_url number_piece byte begins_name escape_end run_end is_hex_form quote_piece loud_piece locality.ends_unclosed locality.is_unclosed
-word_to before = spaced_segment kinds.Word (sign "t") (codes "o") terminals.To before refl refl refl refl refl refl (λ rest. refl)
-
-pub word_as : (before : Before) → Segment before (codes " as") (again.sign terminals.As ∷ [])
-    (passing.apart sorts.As terminals.As ∷ []) befores.Other BeginsSpace
-unfolding code_piece word_piece name_piece sign_piece opens_url number_piece byte begins_name escape_end run_end is_hex_form quote_piece loud_piece locality.ends_unclosed locality.is_unclosed
-word_as before = spaced_segment kinds.Word (sign "a") (codes "s") terminals.As before refl refl refl refl refl refl (λ rest. refl)
-
-pub word_with : (before : Before) → Segment before (codes " with") (again.sign terminals.With ∷ [])
-    (passing.apart sorts.With terminals.With ∷ []) befores.Other BeginsSpace
-unfolding code_piece word_piece name_piece sign_piece opens_url number_piece byte begins_name escape_end run_end is_hex_form quote_piece loud_piece locality.ends_unclosed locality.is_unclosed
-word_with before = spaced_segment kinds.Word (sign "w") (codes "ith") terminals.With before refl refl refl refl refl refl (λ rest. refl)
-
-pub word_show : (before : Before) → Segment before (codes " show") (again.sign terminals.Show ∷ [])
-    (passing.apart sorts.Show terminals.Show ∷ []) befores.Other BeginsSpace
-unfolding code_piece word_piece name_piece sign_piece opens_url number_piece byte begins_name escape_end run_end is_hex_form quote_piece loud_piece locality.ends_unclosed locality.is_unclosed
-word_show before = spaced_segment kinds.Word (sign "s") (codes "how") terminals.Show before refl refl refl refl refl refl (λ rest. refl)
-
-pub word_hide : (before : Before) → Segment before (codes " hide") (again.sign terminals.Hide ∷ [])
-    (passing.apart sorts.Hide terminals.Hide ∷ []) befores.Other BeginsSpace
-unfolding code_piece word_piece name_piece sign_piece opens_url number_piece byte begins_name escape_end run_end is_hex_form quote_piece loud_piece locality.ends_unclosed locality.is_unclosed
-word_hide before = spaced_segment kinds.Word (sign "h") (codes "ide") terminals.Hide before refl refl refl refl refl refl (λ rest. refl)
+spaced_word sorts.If w before = spaced_segment kinds.Word (sign "i") (codes "f") terminals.If before refl refl refl refl refl refl (λ rest. refl)
+spaced_word sorts.In w before = spaced_segment kinds.Word (sign "i") (codes "n") terminals.In before refl refl refl refl refl refl (λ rest. refl)
+spaced_word sorts.From w before = spaced_segment kinds.Word (sign "f") (codes "rom") terminals.From before refl refl refl refl refl refl (λ rest. refl)
+spaced_word sorts.Through w before = spaced_segment kinds.Word (sign "t") (codes "hrough") terminals.Through before refl refl refl refl refl refl (λ rest. refl)
+spaced_word sorts.To w before = spaced_segment kinds.Word (sign "t") (codes "o") terminals.To before refl refl refl refl refl refl (λ rest. refl)
+spaced_word sorts.As w before = spaced_segment kinds.Word (sign "a") (codes "s") terminals.As before refl refl refl refl refl refl (λ rest. refl)
+spaced_word sorts.With w before = spaced_segment kinds.Word (sign "w") (codes "ith") terminals.With before refl refl refl refl refl refl (λ rest. refl)
+spaced_word sorts.Show w before = spaced_segment kinds.Word (sign "s") (codes "how") terminals.Show before refl refl refl refl refl refl (λ rest. refl)
+spaced_word sorts.Hide w before = spaced_segment kinds.Word (sign "h") (codes "ide") terminals.Hide before refl refl refl refl refl refl (λ rest. refl)
+spaced_word _ w before = absurd (cc)

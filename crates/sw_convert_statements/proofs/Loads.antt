@@ -43,7 +43,7 @@ use Rattle.sw_convert_statements.proofs.Configurations.{configured_written}
 use Rattle.sw_convert_statements.proofs.OneName.{one_name, name_segment, name_sort}
 use Rattle.sw_convert_statements.proofs.Segments.{sheet, join, as_behind, text_follows}
 use Rattle.sw_convert_statements.proofs.Segments as segments
-use Rattle.sw_convert_statements.proofs.Keywords.{at_use, word_as}
+use Rattle.sw_convert_statements.proofs.Keywords.{keyword, spaced_word}
 
 pub quoted_told : (text : List ℕ) → (is_url true (quoted_sort text) ≡ true) × (is_comment (quoted_sort text) ≡ false)
 quoted_told text = go (has_namespace text)
@@ -113,7 +113,7 @@ module _ (source : Source) (i : ℕ) (was : WasRead source) where
     are = no_name;
     segment = segments.as_text (ap (λ (x : List ℕ). codes "@use " ++ x) (sym (append-nil address)))
         (as_behind (λ after f. tt)
-        (join (sheet (at_use.segment before calm)) (url_segment source i was befores.Other)
+        (join (sheet ((keyword terminals.AtUse sorts.AtUse refl).segment before calm)) (url_segment source i was befores.Other)
         (λ after ok. (address ++ after, inl refl))));
   }
   use_of (spells_loads.written_namespace {i = k} as_word name) t before calm =
@@ -131,9 +131,9 @@ module _ (source : Source) (i : ℕ) (was : WasRead source) where
             (follows_end (codes "@use " ++ (address ++ codes " as")) text (sign " ") space_ends after
             (subst (λ (x : List ℕ). Follows x after)
             (ap (λ (x : List ℕ). codes "@use " ++ x) (sym (append_assoc address (codes " as") (codes " " ++ text)))) f)))
-            (join (sheet (at_use.segment before calm))
+            (join (sheet ((keyword terminals.AtUse sorts.AtUse refl).segment before calm))
             (join (url_segment source i was befores.Other)
-            (join (sheet (word_as befores.Other)) (sheet last) (λ after ok. (text ++ after, refl))) (λ after ok. tt))
+            (join (sheet (spaced_word sorts.As refl befores.Other)) (sheet last) (λ after ok. (text ++ after, refl))) (λ after ok. tt))
             (λ after ok. ((address ++ (codes " as " ++ text)) ++ after, inl refl)));
       }
   use_of (spells_loads.without_namespace as_word star) t before calm = record {
@@ -143,9 +143,9 @@ module _ (source : Source) (i : ℕ) (was : WasRead source) where
     name = _;
     are = as_star;
     segment = as_behind (λ after f. tt)
-        (join (sheet (at_use.segment before calm))
+        (join (sheet ((keyword terminals.AtUse sorts.AtUse refl).segment before calm))
         (join (url_segment source i was befores.Other)
-        (join (sheet (word_as befores.Other)) (star_segment befores.Other) (λ after ok. (codes "*" ++ after, refl)))
+        (join (sheet (spaced_word sorts.As refl befores.Other)) (star_segment befores.Other) (λ after ok. (codes "*" ++ after, refl)))
         (λ after ok. tt)) (λ after ok. ((address ++ codes " as *") ++ after, inl refl)));
   }
 

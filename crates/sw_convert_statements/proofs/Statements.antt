@@ -10,6 +10,7 @@ use Rattle.sw_tokens.specs.declared.pieces.Before.{Before}
 use Rattle.sw_tokens.specs.declared.pieces.Before.TheVariants as befores
 use Rattle.sw_tokens.specs.Tokens.{is_spaced}
 use Rattle.sw_parse_terminals.specs.declared.terminal.Terminal.TheVariants as terminals
+use Rattle.sw_parse_lexemes.specs.declared.sort.Sort.TheVariants as sorts
 use Rattle.sw_parse_lexemes.specs.declared.state.Mode.{Mode}
 use Rattle.sw_parse_lexemes.specs.declared.state.Mode.TheVariants as modes
 use Rattle.sw_parse_lexemes.specs.Brackets.{is_custom}
@@ -40,7 +41,7 @@ use Rattle.sw_convert_texts.specs.RawTexts.{SheetSegment}
 use Rattle.sw_convert_statements.specs.Segments.{seams, FrontWritten, ElseWritten}
 use Rattle.sw_convert_statements.specs.Statements.{HasFronts, BranchesHaveFronts, ElseHasFronts, ListHasFronts}
 use Rattle.sw_convert_statements.specs.Written.{AreLinesWritten, StatementsAreWritten}
-use Rattle.sw_convert_statements.proofs.Keywords.{text_ends, at_else}
+use Rattle.sw_convert_statements.proofs.Keywords.{text_ends, keyword}
 use Rattle.sw_convert_statements.proofs.Segments.{sheet, join, as_behind}
 use Rattle.sw_convert_statements.proofs.Gaps.{gapped}
 use Rattle.sw_convert_statements.proofs.Blocks.{end_segment, indent_white, line_gap, front_head, rule_head, IsBlock, block_written}
@@ -164,7 +165,7 @@ else_written before calm = record {
   front = alone else_head;
   end = befores.Other;
   loose = λ u. refl;
-  segment = as_behind (λ after e. text_ends (codes "@else") after at_else.closed e) (sheet (at_else.segment before calm));
+  segment = as_behind (λ after e. text_ends (codes "@else") after (keyword terminals.AtElse sorts.AtElse refl).closed e) (sheet ((keyword terminals.AtElse sorts.AtElse refl).segment before calm));
 }
 
 -- ---- statements by their kinds

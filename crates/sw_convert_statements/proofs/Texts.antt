@@ -5,6 +5,7 @@ use Rattle.sw_text_scan.specs.Bytes.{sign, byte, is_white}
 use Rattle.sw_tokens.specs.declared.pieces.Before.{Before}
 use Rattle.sw_tokens.specs.declared.pieces.Before.TheVariants as befores
 use Rattle.sw_tokens.specs.Tokens.{is_spaced}
+use Rattle.sw_parse_terminals.specs.declared.terminal.Terminal.TheVariants as terminals
 use Rattle.sw_parse_lexemes.specs.declared.sort.Sort.{Sort}
 use Rattle.sw_parse_lexemes.specs.declared.sort.Sort.TheVariants as sorts
 use Rattle.sw_parse_lexemes.specs.declared.state.Mode.TheVariants as modes
@@ -27,7 +28,7 @@ use Rattle.sw_convert_statements.specs.Segments.{FrontWritten, TextWritten}
 use Rattle.sw_convert_statements.specs.Texts.{TextFrontsAreWritten}
 use Rattle.sw_convert_statements.proofs.Segments.{sheet, join, as_behind}
 use Rattle.sw_convert_statements.proofs.Gaps.{code_black, first_white}
-use Rattle.sw_convert_statements.proofs.Keywords.{IsKeyword, at_import, at_extend, at_supports, at_root}
+use Rattle.sw_convert_statements.proofs.Keywords.{IsKeyword, keyword}
 
 -- ---- a space before the first token
 
@@ -103,11 +104,11 @@ rule_with_text {word} {value} sort takes no_else key it before calm =
 
 pub text_fronts_written : TextFrontsAreWritten
 text_fronts_written source known i j statement tokens (spells.import_line span old inner end) t =
-    rule_with_text sorts.AtImport refl refl at_import (known _ _ _ _ _ inner)
+    rule_with_text sorts.AtImport refl refl (keyword terminals.AtImport sorts.AtImport refl) (known _ _ _ _ _ inner)
 text_fronts_written source known i j statement tokens (spells.extend_line span old inner end) t =
-    rule_with_text sorts.AtExtend refl refl at_extend (known _ _ _ _ _ inner)
+    rule_with_text sorts.AtExtend refl refl (keyword terminals.AtExtend sorts.AtExtend refl) (known _ _ _ _ _ inner)
 text_fronts_written source known i j statement tokens (spells.supports_block span old raw block) t =
-    rule_with_text sorts.AtSupports refl refl at_supports (known _ _ _ _ _ raw)
+    rule_with_text sorts.AtSupports refl refl (keyword terminals.AtSupports sorts.AtSupports refl) (known _ _ _ _ _ raw)
 text_fronts_written source known i j statement tokens (spells.at_root_text_block span old raw block) t =
-    rule_with_text sorts.AtRoot refl refl at_root (known _ _ _ _ _ raw)
+    rule_with_text sorts.AtRoot refl refl (keyword terminals.AtRoot sorts.AtRoot refl) (known _ _ _ _ _ raw)
 text_fronts_written source known i j statement tokens _ t = absurd (cc)

@@ -21,7 +21,7 @@ use Rattle.sw_convert_heads_passing.specs.Flow.{else_if_head}
 use Rattle.sw_convert_heads_passing.specs.Statements.{valued, flowing}
 use Rattle.sw_convert_statements.specs.Segments.{FrontWritten, ElseWritten}
 use Rattle.sw_convert_statements.proofs.Segments.{sheet, join, as_behind, text_follows}
-use Rattle.sw_convert_statements.proofs.Keywords.{IsKeyword, at_return, at_warn, at_debug, at_error, at_if, at_while, at_else_if, word_if}
+use Rattle.sw_convert_statements.proofs.Keywords.{IsKeyword, keyword, spaced_word}
 
 -- a keyword, a space and a value
 pub value_rule : {word value : List ℕ} {tokens : List Tok} (sort : Sort) → takes_value sort ≡ true → is_else sort ≡ false
@@ -41,19 +41,19 @@ value_rule {word} {value} sort takes no_else key it before calm =
 
 module _ {value : List ℕ} {tokens : List Tok} (it : WrittenAs AsRow value tokens) where
   pub return_written : FrontWritten modes.Expression (codes "@return " ++ value) (again.sign terminals.AtReturn ∷ tokens)
-  return_written = value_rule sorts.AtReturn refl refl at_return it
+  return_written = value_rule sorts.AtReturn refl refl (keyword terminals.AtReturn sorts.AtReturn refl) it
 
   pub say_written : (level : Level)
       → FrontWritten modes.Expression (say_word level ++ value) (again.sign (say_name level) ∷ tokens)
-  say_written levels.Warn = value_rule sorts.AtWarn refl refl at_warn it
-  say_written levels.Debug = value_rule sorts.AtDebug refl refl at_debug it
-  say_written levels.Error = value_rule sorts.AtError refl refl at_error it
+  say_written levels.Warn = value_rule sorts.AtWarn refl refl (keyword terminals.AtWarn sorts.AtWarn refl) it
+  say_written levels.Debug = value_rule sorts.AtDebug refl refl (keyword terminals.AtDebug sorts.AtDebug refl) it
+  say_written levels.Error = value_rule sorts.AtError refl refl (keyword terminals.AtError sorts.AtError refl) it
 
   pub if_written : FrontWritten modes.Expression (codes "@if " ++ value) (again.sign terminals.AtIf ∷ tokens)
-  if_written = value_rule sorts.AtIf refl refl at_if it
+  if_written = value_rule sorts.AtIf refl refl (keyword terminals.AtIf sorts.AtIf refl) it
 
   pub while_written : FrontWritten modes.Expression (codes "@while " ++ value) (again.sign terminals.AtWhile ∷ tokens)
-  while_written = value_rule sorts.AtWhile refl refl at_while it
+  while_written = value_rule sorts.AtWhile refl refl (keyword terminals.AtWhile sorts.AtWhile refl) it
 
   -- `@else if` in two words
   pub else_if_written : ElseWritten modes.Expression (codes "@else if " ++ value)
@@ -68,7 +68,7 @@ module _ {value : List ℕ} {tokens : List Tok} (it : WrittenAs AsRow value toke
         segment = as_behind
             (λ after e. follows_end (codes "@else if") value (sign " ") space_ends after
             (text_follows (codes "@else if " ++ value) after e))
-            (join (sheet (at_else_if.segment before calm))
-            (join (sheet (word_if befores.Other)) (sheet one.segment) (λ after f. (value ++ after, refl)))
+            (join (sheet ((keyword terminals.AtElseIf sorts.AtElse refl).segment before calm))
+            (join (sheet (spaced_word sorts.If refl befores.Other)) (sheet one.segment) (λ after f. (value ++ after, refl)))
             (λ after f. (codes "if " ++ (value ++ after), inl refl)));
       }
