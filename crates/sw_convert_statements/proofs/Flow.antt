@@ -47,13 +47,13 @@ use Rattle.sw_convert_statements.proofs.Segments.{sheet, join, as_text, as_toks,
 use Rattle.sw_convert_statements.proofs.Keywords.{text_ends, keyword, spaced_word}
 
 -- a variable behind a space
-record DollarName (source : Source) (i : ℕ) (before : Before) : Type 0 where
-  sort : Sort
-  is : is_name sort ≡ true
-  segment : SheetSegment before (codes " " ++ dollar_name (name_at source i)) (dollar_tokens (name_at source i))
+pub record DollarName (source : Source) (i : ℕ) (before : Before) : Type 0 where
+  pub sort : Sort
+  pub is : is_name sort ≡ true
+  pub segment : SheetSegment before (codes " " ++ dollar_name (name_at source i)) (dollar_tokens (name_at source i))
       (dollar true ∷ direct sort terminals.VariableName ∷ []) befores.Other (Follows (dollar_name (name_at source i)))
 
-dollar_written : (source : Source) (i : ℕ) → WasRead source → Old source i (just terminals.VariableName)
+pub dollar_written : (source : Source) (i : ℕ) → WasRead source → Old source i (just terminals.VariableName)
     → (before : Before) → DollarName source i before
 unfolding byte
 dollar_written source i was old before =

@@ -13,13 +13,14 @@ use Rattle.sw_convert_again.specs.Tokens.{Tok}
 use Rattle.sw_convert_again.specs.Tokens as again
 use Rattle.sw_convert_again.specs.Statements.{SpellsStatement}
 use Rattle.sw_convert_again.specs.Statements as spells
-use Rattle.sw_convert_statements.specs.Fronts.{is_mixin_name, is_namespace, is_prefix, is_filter, FrontsAreWritten, BranchesAreWritten}
+use Rattle.sw_convert_statements.specs.Fronts.{wordless, is_mixin_name, is_namespace, is_prefix, is_filter, FrontsAreWritten, BranchesAreWritten}
 use Rattle.sw_convert_statements.proofs.Valued.{return_written, say_written, if_written, while_written, else_if_written}
 use Rattle.sw_convert_statements.proofs.Variables.{variable_written}
 use Rattle.sw_convert_statements.proofs.Loads.{use_written}
 use Rattle.sw_convert_statements.proofs.Forwards.{forward_written}
 use Rattle.sw_convert_statements.specs.Segments.{FrontWritten}
 use Rattle.sw_convert_statements.specs.OneName.{is_one_name, is_owner}
+use Rattle.sw_convert_statements.proofs.Bounds.{for_written}
 use Rattle.sw_convert_statements.proofs.Assignments.{assignment_written}
 use Rattle.sw_convert_statements.proofs.Arguments.{given_written}
 use Rattle.sw_convert_statements.proofs.Includes.{content_called, include_line_written, using_written}
@@ -74,6 +75,10 @@ fronts_written source was known i j statement tokens (spells.function_block {i =
 fronts_written source was known i j statement tokens (spells.mixin_block {i = k} span one two head block) t =
     mixin_written source was known (suc k) (and_left (is_one_name (name_text (name_at source (suc k)))) _ t) head
     (and_right (is_one_name (name_text (name_at source (suc k)))) _ t)
+fronts_written source was known i j statement tokens
+    (spells.for_block {tokens = ks} {others = os} span one two three four low old high block) t =
+    for_written source was three old (known.rows _ _ _ _ low) (and_left (wordless ks) _ t) (known.rows _ _ _ _ high)
+    (and_right (wordless ks) _ t)
 fronts_written source was known i j statement tokens (spells.while_block span old inner block) t =
     while_written (known.rows _ _ _ _ inner)
 fronts_written source was known i j statement tokens (spells.if_block span old inner block further otherwise) t =

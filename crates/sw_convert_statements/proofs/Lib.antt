@@ -9,6 +9,7 @@ mod Params
 mod Callables
 mod Arguments
 pub mod Flow
+mod Bounds
 mod Includes
 mod Configurations
 pub mod Loads

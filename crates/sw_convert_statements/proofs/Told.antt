@@ -52,6 +52,11 @@ module _ (source : Source) (was : WasRead source) (values : ValuesAreKnown sourc
           (and_left (is_known (spells.include_block span name_span old mixin given using block)) _ k),
       block_fronts block (and_right (is_known (spells.include_block span name_span old mixin given using block)) _ k),
     )
+    fronts (spells.for_block span one two three four low old high block) k = (
+      front (spells.for_block span one two three four low old high block)
+          (and_left (is_known (spells.for_block span one two three four low old high block)) _ k),
+      block_fronts block (and_right (is_known (spells.for_block span one two three four low old high block)) _ k),
+    )
     fronts (spells.while_block span old inner block) k =
         (front (spells.while_block span old inner block) refl, block_fronts block k)
     fronts (spells.each_block span one two three names in_word inner block) k =

@@ -1,6 +1,6 @@
 -- What is written of statements with values, up to their end or their block, is their tokens, where what is written of the
 -- values is.
-use Rattle.std.specs.Prelude.{◌≡◌, ℕ, suc, Bool, true, false, not, ◌&&◌, List, ◌∷◌, ◌++◌, Option, codes}
+use Rattle.std.specs.Prelude.{◌≡◌, ℕ, suc, Bool, true, false, not, ◌&&◌, List, ◌∷◌, ◌++◌, Option, codes, []}
 use Rattle.sw_tree.specs.declared.callable.Params.{Params}
 use Rattle.sw_tree.specs.declared.expr.Expr.{Expr}
 use Rattle.sw_tree.specs.declared.expr.Namespaced.{Namespaced}
@@ -9,6 +9,7 @@ use Rattle.sw_tree.specs.declared.load.Given.{Given}
 use Rattle.sw_tree.specs.declared.load.Member.{Member}
 use Rattle.sw_tree.specs.declared.load.Namespace.{Namespace}
 use Rattle.sw_tree.specs.declared.statement.Statement.{Statement}
+use Rattle.sw_parse_terminals.specs.declared.terminal.Terminal.{Terminal}
 use Rattle.sw_parse_terminals.specs.declared.terminal.Terminal.TheVariants as terminals
 use Rattle.sw_parse_lexemes.specs.declared.state.Mode.TheVariants as modes
 use Rattle.sw_parse_table.specs.declared.source.Source.{Source}
@@ -110,7 +111,17 @@ abbrev pub is_unconfigured : {source : Source} {i j : ℕ} {givens : List Given}
 is_unconfigured spells_loads.no_configuration = true
 is_unconfigured _ = false
 
--- the statements of which it is proved: those of values, `@each`, variables with flags,
+-- no word stands among these tokens
+abbrev pub is_word_token : List Terminal → Bool
+is_word_token (terminals.Word ∷ []) = true
+is_word_token _ = false
+
+abbrev pub wordless : List Tok → Bool
+wordless [] = true
+wordless (token ∷ tokens) = not (is_word_token token.kinds) && wordless tokens
+
+-- the statements of which it is proved: those of values, `@each`, `@for` with bounds without
+-- words, variables with flags,
 -- assignments, `@charset`, `@content`, `@at-root`
 -- without a selector, `@forward` without a configuration, `@use`, and functions, mixins and `@include`, where their names are such
 abbrev pub is_told : {source : Source} {i j : ℕ} {statement : Statement} {tokens : List Tok}
@@ -133,6 +144,8 @@ is_told {source} (spells.use_line span one two name settings end) =
 is_told {source} (spells.function_block {i} span one two head block) = is_one_name (name_text (name_at source (suc i)))
 is_told {source} (spells.mixin_block {i} span one two head block) =
     is_one_name (name_text (name_at source (suc i))) && writes_params head
+is_told (spells.for_block {tokens = tokens} {others = others} span one two three four low old high block) =
+    wordless tokens && wordless others
 is_told (spells.while_block span old inner block) = true
 is_told (spells.if_block span old inner block further otherwise) = true
 is_told (spells.each_block span one two three names in_word inner block) = true

@@ -28,6 +28,8 @@ abbrev mutual
       is_known (spells.mixin_block span one two head block) && block_known block
   are_known (spells.include_block span name_span old mixin given using block) =
       is_known (spells.include_block span name_span old mixin given using block) && block_known block
+  are_known (spells.for_block span one two three four low old high block) =
+      is_known (spells.for_block span one two three four low old high block) && block_known block
   are_known (spells.while_block span old inner block) = block_known block
   are_known (spells.each_block span one two three names in_word inner block) = block_known block
   are_known (spells.supports_block span old raw block) = block_known block
