@@ -1,4 +1,6 @@
 pub mod Segments
+mod TokenEnds
+mod Loose
 pub mod Gaps
 pub mod Keywords
 mod OneName

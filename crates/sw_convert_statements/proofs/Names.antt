@@ -29,6 +29,7 @@ use Rattle.sw_convert_statements.specs.Segments.{Anything, seams, FrontWritten}
 use Rattle.sw_convert_statements.specs.Texts.{TextsAreKnown}
 use Rattle.sw_convert_statements.specs.Names.{NamedAs, NamedFrontsAreWritten}
 use Rattle.sw_convert_statements.proofs.KnownNames.{AsProperty, AsCustom, properties_written, customs_written, at_rules_written}
+use Rattle.sw_convert_statements.proofs.Loose.{text_of_raw}
 use Rattle.sw_convert_statements.proofs.Segments.{sheet, join, as_text, as_toks, as_passed, as_behind, text_follows, value_pads, padded}
 use Rattle.sw_convert_statements.proofs.Texts.{begins_spaced, text_end}
 use Rattle.sw_convert_statements.proofs.Variables.{colon_segment}
@@ -89,7 +90,7 @@ custom_written {name = name} {ks = ks} is known no_raw before calm =
     }
 custom_written {name = name} {ks = ks} is known (some_raw {i} {j} {values} {tokens} {extents} spelt) before calm =
     let one = is before calm in
-    let two = known i j values tokens extents spelt befores.Other in
+    let two = text_of_raw (known i j values tokens extents spelt) befores.Other in
     let value = raw_text (text_between _ i j values) in record {
       passed = (one.passed ++ colon ∷ []) ++ two.passed;
       front = customised one.head two.raw;
@@ -127,7 +128,7 @@ rule_written {name = name} {ks = ks} is known (some_raw {i} {j} {values} {tokens
     let one = is before calm in
     let unclosed = ends_unclosed name in
     let pads = padded unclosed refl (λ u. refl) (value_pads name) one.segment in
-    let two = known i j values tokens extents spelt pads.end in
+    let two = text_of_raw (known i j values tokens extents spelt) pads.end in
     let value = raw_text (text_between _ i j values) in
     let b = begins_spaced two.segment in record {
       passed = (one.passed ++ seams unclosed) ++ two.passed;

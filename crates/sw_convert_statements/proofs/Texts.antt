@@ -28,6 +28,7 @@ use Rattle.sw_convert_statements.specs.Segments.{FrontWritten, TextWritten}
 use Rattle.sw_convert_statements.specs.Texts.{TextFrontsAreWritten}
 use Rattle.sw_convert_statements.proofs.Segments.{sheet, join, as_behind}
 use Rattle.sw_convert_statements.proofs.Gaps.{code_black, first_white}
+use Rattle.sw_convert_statements.proofs.Loose.{text_of_raw}
 use Rattle.sw_convert_statements.proofs.Keywords.{IsKeyword, keyword}
 
 -- ---- a space before the first token
@@ -104,11 +105,11 @@ rule_with_text {word} {value} sort takes no_else key it before calm =
 
 pub text_fronts_written : TextFrontsAreWritten
 text_fronts_written source known i j statement tokens (spells.import_line span old inner end) t =
-    rule_with_text sorts.AtImport refl refl (keyword terminals.AtImport sorts.AtImport refl) (known _ _ _ _ _ inner)
+    rule_with_text sorts.AtImport refl refl (keyword terminals.AtImport sorts.AtImport refl) (text_of_raw (known _ _ _ _ _ inner))
 text_fronts_written source known i j statement tokens (spells.extend_line span old inner end) t =
-    rule_with_text sorts.AtExtend refl refl (keyword terminals.AtExtend sorts.AtExtend refl) (known _ _ _ _ _ inner)
+    rule_with_text sorts.AtExtend refl refl (keyword terminals.AtExtend sorts.AtExtend refl) (text_of_raw (known _ _ _ _ _ inner))
 text_fronts_written source known i j statement tokens (spells.supports_block span old raw block) t =
-    rule_with_text sorts.AtSupports refl refl (keyword terminals.AtSupports sorts.AtSupports refl) (known _ _ _ _ _ raw)
+    rule_with_text sorts.AtSupports refl refl (keyword terminals.AtSupports sorts.AtSupports refl) (text_of_raw (known _ _ _ _ _ raw))
 text_fronts_written source known i j statement tokens (spells.at_root_text_block span old raw block) t =
-    rule_with_text sorts.AtRoot refl refl (keyword terminals.AtRoot sorts.AtRoot refl) (known _ _ _ _ _ raw)
+    rule_with_text sorts.AtRoot refl refl (keyword terminals.AtRoot sorts.AtRoot refl) (text_of_raw (known _ _ _ _ _ raw))
 text_fronts_written source known i j statement tokens _ t = absurd (cc)

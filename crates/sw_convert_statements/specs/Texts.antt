@@ -6,21 +6,18 @@ use Rattle.sw_parse_lexemes.specs.declared.state.Mode.{Mode}
 use Rattle.sw_parse_lexemes.specs.declared.state.Mode.TheVariants as modes
 use Rattle.sw_parse_table.specs.declared.source.Source.{Source}
 use Rattle.sw_parse_table.specs.Parts.{Part}
-use Rattle.sw_parse_table.specs.Sources.{text_between}
-use Rattle.sw_convert_written.specs.Heads.{raw_text}
 use Rattle.sw_convert_again.specs.Tokens.{Tok, Extent}
-use Rattle.sw_convert_again.specs.RawTexts.{SpellsRawText, raw_tokens}
+use Rattle.sw_convert_again.specs.RawTexts.{SpellsRawText}
 use Rattle.sw_convert_again.specs.Statements.{SpellsStatement}
 use Rattle.sw_convert_again.specs.Statements as spells
-use Rattle.sw_convert_statements.specs.Segments.{TextWritten}
+use Rattle.sw_convert_texts.specs.RawTexts.{IsText}
 use Rattle.sw_convert_statements.specs.Statements.{FrontIs}
 
 -- what is written of each raw text of a sheet is its tokens
 abbrev pub TextsAreKnown : Mode → Source → Type 0
 TextsAreKnown mode source =
     (i j : ℕ) (values : List Part) (tokens : List Tok) (extents : List Extent)
-    → SpellsRawText source i j values tokens extents
-    → TextWritten mode (raw_text (text_between source i j values)) (raw_tokens source i j values extents tokens)
+    → SpellsRawText source i j values tokens extents → IsText source mode i j values extents tokens
 
 -- `@import`, `@extend`, `@supports`, and `@at-root` with a selector
 abbrev pub has_text : {source : Source} {i j : ℕ} {statement : Statement} {tokens : List Tok}
