@@ -9,6 +9,7 @@ use Rattle.sw_convert_again.specs.Tokens.{Tok}
 use Rattle.sw_convert_again.specs.Statements.{SpellsStatement, SpellsBlock, SpellsBranches, SpellsElse, SpellsStatements}
 use Rattle.sw_convert_again.specs.Statements as spells
 use Rattle.sw_convert_tokens.specs.Values.{WasRead}
+use Rattle.sw_convert_values.proofs.Values.{values_written, plains_written}
 use Rattle.sw_convert_statements.specs.Statements.{FrontIs, HasFronts, BlockHasFronts, BranchesHaveFronts, ElseHasFronts, ListHasFronts}
 use Rattle.sw_convert_statements.specs.Fronts.{ValuesAreKnown, is_told}
 use Rattle.sw_convert_statements.specs.Texts.{TextsAreKnown, has_text}
@@ -143,8 +144,12 @@ known_sheets_have_fronts source was values raws customs selectors i j list token
 
 -- what is written of such a sheet reads back
 pub scss_read_back : ScssIsReadBack
-scss_read_back source written levels parts derived was values raws customs selectors =
-    let again = all_sheets_again source written levels parts derived in record {
+scss_read_back source written levels parts derived was singles raws customs selectors =
+    let again = all_sheets_again source written levels parts derived in
+    let values : ValuesAreKnown source = record {
+      rows = values_written source was singles;
+      plains = plains_written source was singles;
+    } in record {
       again = again;
       back = λ known text.
           sheets_read_back source written levels parts again

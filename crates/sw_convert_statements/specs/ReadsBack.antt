@@ -15,7 +15,7 @@ use Rattle.sw_convert_written.specs.Statements.{sheet_text}
 use Rattle.sw_convert_again.specs.Claims.{IsSheetAgain}
 use Rattle.sw_convert_tokens.specs.Values.{WasRead}
 use Rattle.sw_convert_statements.specs.Statements.{ListHasFronts}
-use Rattle.sw_convert_statements.specs.Fronts.{ValuesAreKnown}
+use Rattle.sw_convert_values.specs.Values.{SinglesAreWritten}
 use Rattle.sw_convert_statements.specs.Texts.{TextsAreKnown}
 use Rattle.sw_convert_statements.specs.Names.{SelectorsAreKnown}
 use Rattle.sw_convert_statements.specs.Told.{list_known}
@@ -47,10 +47,10 @@ pub record IsReadBack (source written : Source) (levels : ℕ) (parts : List Par
       × (reader written levels (forms written Whole) 0 ≡ Got (map States found) (length written.lexemes.now))
       × LikeBlock again.list found
 
--- that is so of every sheet whose values, raw texts and selectors are written as their tokens
+-- that is so of every sheet whose raw texts, selectors and these single values are written as their tokens
 abbrev pub ScssIsReadBack : Type 0
 ScssIsReadBack =
     (source written : Source) (levels : ℕ) (parts : List Part)
     → Derives (forms source) (text_of source) (suc levels) Whole 0 (length source.lexemes.now) parts
-    → WasRead source → ValuesAreKnown source → TextsAreKnown modes.Raw source → TextsAreKnown modes.Custom source
-    → SelectorsAreKnown source → IsReadBack source written levels parts
+    → WasRead source → SinglesAreWritten source → TextsAreKnown modes.Raw source
+    → TextsAreKnown modes.Custom source → SelectorsAreKnown source → IsReadBack source written levels parts

@@ -48,8 +48,8 @@ pub fn sheets_read_back()
     ensures { SheetsReadBack }
 {}
 
-/// A law: where a sheet was read whose values, raw texts and selectors are written as their tokens, and all its statements
-/// are of the kinds that are, the text that is written of it is read to a sheet alike.
+/// A law: where a sheet was read whose raw texts, selectors and those single values that `SinglesAreWritten` names are
+/// written as their tokens, and all its statements are of the kinds that are, the text that is written of it is read to a sheet alike.
 pub fn scss_is_read_back()
     ensures { ScssIsReadBack }
 {}

@@ -2,5 +2,5 @@ mod Quotients
 mod Shapes
 mod Called
 mod Strings
-mod Values
+pub mod Values
 pub mod ReadsBack

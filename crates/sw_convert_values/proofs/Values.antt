@@ -47,7 +47,7 @@ use Rattle.sw_convert_again.specs.Spells.{from_start, is_named, without_named, u
 use Rattle.sw_convert_again.specs.Spells as spells
 use Rattle.sw_convert_tokens.specs.Written.{AsValue, AsRow, WrittenAs}
 use Rattle.sw_convert_tokens.specs.Values.{WasRead, IsValueWritten}
-use Rattle.sw_convert_values.specs.Values.{is_called, is_text, are_some, begins_plus, is_single_word, is_single, SinglesAreWritten, ValuesAreWritten}
+use Rattle.sw_convert_values.specs.Values.{is_called, is_text, are_some, begins_plus, is_single_word, is_single, SinglesAreWritten, ValuesAreWritten, PlainsAreWritten}
 use Rattle.sw_convert_tokens.proofs.Ends.{bare_list, no_sign_behind}
 use Rattle.sw_convert_tokens.proofs.Signs.{Fits}
 use Rattle.sw_convert_tokens.proofs.Unclosed.{slash_ends, unclosed_behind}
@@ -437,3 +437,7 @@ module _ (source : Source) (was : WasRead source) (known : SinglesAreWritten sou
 
 pub values_written : ValuesAreWritten
 values_written source was known i j value tokens spelt = row_in source was known value (either source was known spelt)
+
+pub plains_written : PlainsAreWritten
+plains_written source was known i j value tokens spelt =
+    let one = plain source was known spelt in (one.signed, one.written)

@@ -80,3 +80,9 @@ abbrev pub ValuesAreWritten : Type 0
 ValuesAreWritten =
     (source : Source) → WasRead source → SinglesAreWritten source → (i j : ℕ) (value : Expr) (tokens : List Tok)
     → Spells source i j value tokens → WrittenAs AsRow (expr_text value) tokens
+
+-- of one that is no list with commas and without brackets, as those of one value
+abbrev pub PlainsAreWritten : Type 0
+PlainsAreWritten =
+    (source : Source) → WasRead source → SinglesAreWritten source → (i j : ℕ) (value : Expr) (tokens : List Tok)
+    → SpellsPlain source i j value tokens → (signed : Bool) × WrittenAs (AsValue signed) (expr_text value) tokens
