@@ -33,8 +33,8 @@ use Rattle.sw_convert_statements.specs.Segments.{ElseWritten}
 use Rattle.sw_convert_statements.specs.Statements.{FrontIs}
 use Rattle.sw_convert_statements.specs.OneName.{is_one_name, goes_behind_dot, is_owner}
 
--- what is written of each value of a sheet is its tokens, and of one that is no list with commas and without brackets those
--- of one value
+-- what is written of each value of a sheet is its tokens, and of one that is no list with commas and without brackets
+-- those of one value
 pub record ValuesAreKnown (source : Source) : Type 0 where
   pub rows : (i j : ℕ) (value : Expr) (tokens : List Tok) → Spells source i j value tokens
       → WrittenAs AsRow (expr_text value) tokens
@@ -120,16 +120,16 @@ abbrev pub wordless : List Tok → Bool
 wordless [] = true
 wordless (token ∷ tokens) = not (is_word_token token.kinds) && wordless tokens
 
--- the statements of which it is proved: those of values, `@each`, `@for` with bounds without
--- words, variables with flags,
--- assignments, `@charset`, `@content`, `@at-root`
--- without a selector, `@forward` without a configuration, `@use`, and functions, mixins and `@include`, where their names are such
+-- the statements of which it is proved: those of values, `@each`, `@for` with bounds without words, variables with flags,
+-- assignments, `@charset`, `@content`, `@at-root` without a selector, `@forward` without a configuration, `@use`, and
+-- functions, mixins and `@include`, where their names are such
 abbrev pub is_told : {source : Source} {i j : ℕ} {statement : Statement} {tokens : List Tok}
     → SpellsStatement source i j statement tokens → Bool
 is_told (spells.return_line span old inner end) = true
 is_told (spells.say_line level span old inner end) = true
 is_told (spells.variable_line span one two three inner flags end) = true
-is_told {source} (spells.assignment_line {i} {places = places} span target_span one two three four five inner flags end) =
+is_told {source}
+    (spells.assignment_line {i} {places = places} span target_span one two three four five inner flags end) =
     is_owner (bytes_at source i) && not (flags_at source places).global
 is_told (spells.charset_line span one two end) = true
 is_told (spells.content_line span old given end) = true

@@ -49,7 +49,8 @@ pub fn sheets_read_back()
 {}
 
 /// A law: where a sheet was read whose raw texts, selectors and those single values that `SinglesAreWritten` names are
-/// written as their tokens, and all its statements are of the kinds that are, the text that is written of it is read to a sheet alike.
+/// written as their tokens, and all its statements are of the kinds that are, the text that is written of it is read to a
+/// sheet alike.
 pub fn scss_is_read_back()
     ensures { ScssIsReadBack }
 {}
