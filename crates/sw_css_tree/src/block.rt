@@ -5,7 +5,7 @@ ghost use Rattle.sw_css_tree.specs.Output.{is_written};
 use sw_text::{List, Name, Shared};
 
 /// A line of a block, or of the top level.
-#[derive(Debug, Drop)]
+#[derive(Debug)]
 pub enum Line {
     Declaration { property: Name, value: Name },
     /// A comment with its `/*` and `*/`.
@@ -16,8 +16,25 @@ pub enum Line {
     Import { text: Name },
 }
 
+impl Drop for Line {
+    fn drop(self) {
+        match self {
+            Line::Declaration {
+                property: _,
+                value: _,
+            } => {}
+            Line::Comment { text: _ } => {}
+            Line::At {
+                name: _,
+                prelude: _,
+            } => {}
+            Line::Import { text: _ } => {}
+        }
+    }
+}
+
 /// An at-rule with a block that stands round a block of the output.
-#[derive(Debug, Drop)]
+#[derive(Debug)]
 pub struct Wrapper {
     /// How many at-rules with a block were opened before it. No other one has this number.
     pub number: usize,
@@ -26,8 +43,18 @@ pub struct Wrapper {
     pub prelude: Name,
 }
 
+impl Drop for Wrapper {
+    fn drop(self) {
+        let Wrapper {
+            number: _,
+            name: _,
+            prelude: _,
+        } = self;
+    }
+}
+
 /// A rule with some of its lines; or, without a selector, lines that stand outside every rule.
-#[derive(Debug, Drop)]
+#[derive(Debug)]
 pub struct Block {
     /// The number of the top-level statement that it belongs to.
     pub statement: usize,
@@ -36,6 +63,17 @@ pub struct Block {
     /// The rule's selectors as they are written. Where they are the empty text, nothing of the rule is written.
     pub selector: Option<Name>,
     pub lines: List<Line>,
+}
+
+impl Drop for Block {
+    fn drop(self) {
+        let Block {
+            statement: _,
+            wrappers: _,
+            selector: _,
+            lines: _,
+        } = self;
+    }
 }
 
 impl Block {

@@ -8,11 +8,20 @@ use std::marker::Model;
 use sw_text::Memory;
 
 /// Blocks in the order of opening.
-#[derive(Debug, Drop)]
+#[derive(Debug)]
 pub struct Blocks {
     items: Vec<Block>,
     // the place past the last block that is written
     written: usize,
+}
+
+impl Drop for Blocks {
+    fn drop(self) {
+        let Blocks {
+            items: _,
+            written: _,
+        } = self;
+    }
 }
 
 impl Model for Blocks {

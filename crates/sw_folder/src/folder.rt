@@ -32,11 +32,20 @@ struct Marks {
 
 /// The files of a folder, each a text in UTF-8 under its path, which contracts see in byte order of the paths. Both are
 /// shared with those who ask for them.
-#[derive(Drop)]
 pub struct Folder {
     table: IndexMap<Name, Name>,
     marks: Marks,
     alloc: Global,
+}
+
+impl Drop for Folder {
+    fn drop(self) {
+        let Folder {
+            table: _,
+            marks: _,
+            alloc: _,
+        } = self;
+    }
 }
 
 impl Model for Folder {

@@ -8,10 +8,18 @@ use sw_text::{Memory, Shared};
 use sw_tree::{Callable, Kind};
 
 /// A module's own functions and mixins by their names, each shared with the body that left it behind.
-#[derive(Drop)]
 pub struct Callables {
     pub functions: RareTable<Shared<Callable>>,
     pub mixins: RareTable<Shared<Callable>>,
+}
+
+impl Drop for Callables {
+    fn drop(self) {
+        let Callables {
+            functions: _,
+            mixins: _,
+        } = self;
+    }
 }
 
 impl Callables {

@@ -15,9 +15,14 @@ use sw_values::Value;
 use sw_world::{Finish, find_in};
 
 /// The loaded modules by their paths. Contracts see the list of the entries.
-#[derive(Drop)]
 pub struct Loaded {
     entries: IndexMap<Name, Module>,
+}
+
+impl Drop for Loaded {
+    fn drop(self) {
+        let Loaded { entries: _ } = self;
+    }
 }
 
 impl Model for Loaded {

@@ -11,26 +11,49 @@ use sw_tree::Kind;
 
 /// Where a member is from: the path of the module that declares it, or the URL of the built-in module that has it, and
 /// its name there.
-#[derive(Drop)]
 pub struct Origin {
     pub path: Name,
     pub name: Name,
 }
 
+impl Drop for Origin {
+    fn drop(self) {
+        let Origin { path: _, name: _ } = self;
+    }
+}
+
 /// A member of an interface: its kind, its name there and its origin.
-#[derive(Drop)]
 pub struct Entry {
     pub kind: Kind,
     pub name: Name,
     pub origin: Origin,
 }
 
+impl Drop for Entry {
+    fn drop(self) {
+        let Entry {
+            kind: _,
+            name: _,
+            origin: _,
+        } = self;
+    }
+}
+
 /// The members that the forwards of a module brought, by their names in its interface.
-#[derive(Drop)]
 pub struct Members {
     pub variables: RareTable<Origin>,
     pub functions: RareTable<Origin>,
     pub mixins: RareTable<Origin>,
+}
+
+impl Drop for Members {
+    fn drop(self) {
+        let Members {
+            variables: _,
+            functions: _,
+            mixins: _,
+        } = self;
+    }
 }
 
 /// How many members there are of each kind.

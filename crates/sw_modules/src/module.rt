@@ -9,12 +9,21 @@ use sw_text::{Memory, Name, Shared};
 use sw_world::Finish;
 
 /// A loaded module.
-#[derive(Drop)]
 pub struct Module {
     /// The values that its own variables have now.
     pub variables: Variables,
     pub callables: Callables,
     pub uses: Uses,
+}
+
+impl Drop for Module {
+    fn drop(self) {
+        let Module {
+            variables: _,
+            callables: _,
+            uses: _,
+        } = self;
+    }
 }
 
 /// A load whose body hasn't ended.

@@ -8,9 +8,14 @@ use sw_world::Finish;
 
 /// The outputs of the modules whose bodies ended, in that order. Contracts see the outputs; what is held is what the
 /// bodies left behind, which the modules share anyway.
-#[derive(Drop)]
 pub(crate) struct Outputs {
     ended: List<Shared<Finish>>,
+}
+
+impl Drop for Outputs {
+    fn drop(self) {
+        let Outputs { ended: _ } = self;
+    }
 }
 
 impl Model for Outputs {

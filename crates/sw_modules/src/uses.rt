@@ -10,10 +10,15 @@ use sw_world::How;
 
 /// The path of a module that is used, or the URL of a built-in one, with a guess of its place among the loaded ones.
 /// Contracts see the path.
-#[derive(Drop)]
 pub struct Used {
     pub(crate) path: Name,
     pub(crate) near: usize,
+}
+
+impl Drop for Used {
+    fn drop(self) {
+        let Used { path: _, near: _ } = self;
+    }
 }
 
 impl Model for Used {
@@ -49,11 +54,20 @@ pub(crate) struct Source {
 
 /// What a module uses, in the order of its loads: the modules behind a namespace by its name, those whose members are
 /// written as its own, and the members that its forwards brought.
-#[derive(Drop)]
 pub struct Uses {
     pub named: RareTable<Used>,
     pub stars: List<Name>,
     pub forwarded: Members,
+}
+
+impl Drop for Uses {
+    fn drop(self) {
+        let Uses {
+            named: _,
+            stars: _,
+            forwarded: _,
+        } = self;
+    }
 }
 
 /// How many uses there are of each kind.

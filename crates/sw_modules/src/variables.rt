@@ -11,10 +11,15 @@ use sw_world::{Finish, Table};
 
 /// The variables of a loaded module: those that its body left behind, shared with its run, until the first of them is
 /// given another value. Contracts see the names with their values.
-#[derive(Drop)]
 pub struct Variables {
     finish: Shared<Finish>,
     own: Option<Box<Table<Value>>>,
+}
+
+impl Drop for Variables {
+    fn drop(self) {
+        let Variables { finish: _, own: _ } = self;
+    }
 }
 
 impl Model for Variables {

@@ -19,11 +19,20 @@ use sw_values::Value;
 
 /// The local variables of running code. Contracts see the frames, each with the number of the one on which it stands,
 /// the innermost first.
-#[derive(Drop)]
 pub(crate) struct Frames {
     vars: List<(Name, Value)>,
     marks: List<FrameMark>,
     alloc: Global,
+}
+
+impl Drop for Frames {
+    fn drop(self) {
+        let Frames {
+            vars: _,
+            marks: _,
+            alloc: _,
+        } = self;
+    }
 }
 
 impl Model for Frames {

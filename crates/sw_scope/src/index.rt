@@ -13,9 +13,14 @@ use sw_values::Value;
 pub(crate) const MANY: usize = 32;
 
 /// The last place of each name. Contracts see the list of the names and places.
-#[derive(Drop)]
 pub(crate) struct Index {
     places: IndexMap<Name, usize>,
+}
+
+impl Drop for Index {
+    fn drop(self) {
+        let Index { places: _ } = self;
+    }
 }
 
 impl Model for Index {

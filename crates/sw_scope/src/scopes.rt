@@ -12,10 +12,15 @@ use sw_values::Value;
 
 /// The variables that running code sees: those of the module's top, and those of the frames, of which the running code
 /// is in the innermost.
-#[derive(Drop)]
 pub struct Scopes {
     top: Table,
     frames: Frames,
+}
+
+impl Drop for Scopes {
+    fn drop(self) {
+        let Scopes { top: _, frames: _ } = self;
+    }
 }
 
 impl Scopes {

@@ -12,9 +12,14 @@ use sw_values::Value;
 
 /// Variables in the order in which their names came, of which calls often have none: then no name is hashed. Contracts
 /// see the list of the names and values.
-#[derive(Drop)]
 pub(crate) struct Table {
     entries: IndexMap<Name, Value>,
+}
+
+impl Drop for Table {
+    fn drop(self) {
+        let Table { entries: _ } = self;
+    }
 }
 
 impl Model for Table {

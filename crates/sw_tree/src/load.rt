@@ -3,7 +3,6 @@ use crate::Expr;
 use sw_text::{List, Name, Span};
 
 /// `@use "url" as namespace with (..)`
-#[derive(Drop)]
 pub struct Use {
     pub url: Url,
     pub namespace: Namespace,
@@ -12,8 +11,18 @@ pub struct Use {
     pub span: Span,
 }
 
+impl Drop for Use {
+    fn drop(self) {
+        let Use {
+            url: _,
+            namespace: _,
+            configuration: _,
+            span: _,
+        } = self;
+    }
+}
+
 /// `@forward "url" as prefix* show .. with (..)`
-#[derive(Drop)]
 pub struct Forward {
     pub url: Url,
     /// The prefix as the sheet writes it.
@@ -24,8 +33,19 @@ pub struct Forward {
     pub span: Span,
 }
 
+impl Drop for Forward {
+    fn drop(self) {
+        let Forward {
+            url: _,
+            prefix: _,
+            filter: _,
+            configuration: _,
+            span: _,
+        } = self;
+    }
+}
+
 /// The address of a load.
-#[derive(Drop)]
 pub struct Url {
     /// The text that the string stands for.
     pub text: Name,
@@ -33,8 +53,13 @@ pub struct Url {
     pub span: Span,
 }
 
+impl Drop for Url {
+    fn drop(self) {
+        let Url { text: _, span: _ } = self;
+    }
+}
+
 /// The namespace under which a loaded module's members are written.
-#[derive(Drop)]
 pub enum Namespace {
     /// No `as` is written: the default namespace of the URL.
     Default(Name),
@@ -44,8 +69,17 @@ pub enum Namespace {
     Without,
 }
 
+impl Drop for Namespace {
+    fn drop(self) {
+        match self {
+            Namespace::Default(_) => {}
+            Namespace::Written(_) => {}
+            Namespace::Without => {}
+        }
+    }
+}
+
 /// `$name: value` in the configuration of a load.
-#[derive(Drop)]
 pub struct Given {
     /// The name without `$`, with `-` for each `_`.
     pub name: Name,
@@ -56,8 +90,18 @@ pub struct Given {
     pub default: bool,
 }
 
+impl Drop for Given {
+    fn drop(self) {
+        let Given {
+            name: _,
+            name_span: _,
+            value: _,
+            default: _,
+        } = self;
+    }
+}
+
 /// A name behind `show` or `hide`.
-#[derive(Drop)]
 pub struct Member {
     /// It is the name of a variable, and not of functions and mixins.
     pub variable: bool,
@@ -65,10 +109,28 @@ pub struct Member {
     pub name: Name,
 }
 
+impl Drop for Member {
+    fn drop(self) {
+        let Member {
+            variable: _,
+            name: _,
+        } = self;
+    }
+}
+
 /// Which members of a module are passed on.
-#[derive(Drop)]
 pub enum Filter {
     All,
     Show(List<Member>),
     Hide(List<Member>),
+}
+
+impl Drop for Filter {
+    fn drop(self) {
+        match self {
+            Filter::All => {}
+            Filter::Show(_) => {}
+            Filter::Hide(_) => {}
+        }
+    }
 }

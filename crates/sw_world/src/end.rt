@@ -11,7 +11,6 @@ use sw_values::Value;
 pub type Config = Shared<List<(Name, Value)>>;
 
 /// What a body leaves behind.
-#[derive(Drop)]
 pub struct Finish {
     /// The module's own variables with their values.
     pub variables: Table<Value>,
@@ -20,6 +19,17 @@ pub struct Finish {
     pub css: Shared<CssTree>,
     /// The names of the configuration that the module took.
     pub taken: List<Name>,
+}
+
+impl Drop for Finish {
+    fn drop(self) {
+        let Finish {
+            variables: _,
+            callables: _,
+            css: _,
+            taken: _,
+        } = self;
+    }
 }
 
 /// How a body ended.

@@ -21,12 +21,21 @@ const MARKS: usize = 1_024;
 
 /// Questions with their answers, in order, and room for others. A question for a name or a value that was asked before
 /// and answered the same is kept by its place alone.
-#[derive(Drop)]
 pub struct GrowingPairs {
     distinct: Vec<(Question, Answer)>,
     places: Vec<u32>,
     /// For each mark the place of a distinct pair whose question has it, counted from 1: a guess.
     recent: Vec<u32>,
+}
+
+impl Drop for GrowingPairs {
+    fn drop(self) {
+        let GrowingPairs {
+            distinct: _,
+            places: _,
+            recent: _,
+        } = self;
+    }
 }
 
 impl Model for GrowingPairs {

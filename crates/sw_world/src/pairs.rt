@@ -14,10 +14,18 @@ use sw_text::{List, Memory};
 
 /// Questions with their answers, in order. A pair that stands there again is kept once, and each of its places takes
 /// four bytes.
-#[derive(Drop)]
 pub struct Pairs {
     distinct: List<(Question, Answer)>,
     places: List<u32>,
+}
+
+impl Drop for Pairs {
+    fn drop(self) {
+        let Pairs {
+            distinct: _,
+            places: _,
+        } = self;
+    }
 }
 
 impl Model for Pairs {

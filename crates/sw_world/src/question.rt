@@ -16,31 +16,56 @@ pub enum SayKind {
 }
 
 /// A message that a body said.
-#[derive(Drop)]
 pub struct Saying {
     pub kind: SayKind,
     pub span: Span,
     pub text: Name,
 }
 
+impl Drop for Saying {
+    fn drop(self) {
+        let Saying {
+            kind: _,
+            span: _,
+            text: _,
+        } = self;
+    }
+}
+
 /// A member that `show` or `hide` names.
-#[derive(Drop)]
 pub struct Member {
     /// It is named with `$`.
     pub variable: bool,
     pub name: Name,
 }
 
+impl Drop for Member {
+    fn drop(self) {
+        let Member {
+            variable: _,
+            name: _,
+        } = self;
+    }
+}
+
 /// Which members a forward lets through.
-#[derive(Drop)]
 pub enum Filter {
     All,
     Show(Shared<List<Member>>),
     Hide(Shared<List<Member>>),
 }
 
+impl Drop for Filter {
+    fn drop(self) {
+        match self {
+            Filter::All => {}
+            Filter::Show(_) => {}
+            Filter::Hide(_) => {}
+        }
+    }
+}
+
 /// How a module is loaded.
-#[derive(Drop)]
 pub enum How {
     /// Its members are written behind this namespace; without one, as the sheet's own (`as *`).
     Use { space: Option<Name> },
@@ -48,8 +73,19 @@ pub enum How {
     Forward { prefix: Name, filter: Filter },
 }
 
+impl Drop for How {
+    fn drop(self) {
+        match self {
+            How::Use { space: _ } => {}
+            How::Forward {
+                prefix: _,
+                filter: _,
+            } => {}
+        }
+    }
+}
+
 /// A value that a load gives to the loaded module.
-#[derive(Drop)]
 pub struct Given {
     pub name: Name,
     pub value: Value,
@@ -58,8 +94,18 @@ pub struct Given {
     pub explicit: bool,
 }
 
+impl Drop for Given {
+    fn drop(self) {
+        let Given {
+            name: _,
+            value: _,
+            span: _,
+            explicit: _,
+        } = self;
+    }
+}
+
 /// A question to the outside.
-#[derive(Drop)]
 pub enum Question {
     /// Loads the module at a URL for the module at `site`.
     Load {
@@ -98,6 +144,38 @@ pub enum Question {
         name: Name,
         args: Shared<List<Value>>,
     },
+}
+
+impl Drop for Question {
+    fn drop(self) {
+        match self {
+            Question::Load {
+                site: _,
+                url: _,
+                span: _,
+                how: _,
+                config: _,
+            } => {}
+            Question::Find {
+                site: _,
+                space: _,
+                kind: _,
+                name: _,
+            } => {}
+            Question::Get { owner: _, name: _ } => {}
+            Question::Put {
+                owner: _,
+                name: _,
+                value: _,
+            } => {}
+            Question::Say {
+                kind: _,
+                span: _,
+                text: _,
+            } => {}
+            Question::Call { name: _, args: _ } => {}
+        }
+    }
 }
 
 impl Filter {

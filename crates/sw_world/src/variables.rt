@@ -11,12 +11,22 @@ use sw_values::Value;
 
 /// The variables of the module at `path` that the module at `site` names behind the namespace `space`, each with its
 /// value. They stand for two questions each: which variable a name is, and what its value is.
-#[derive(Drop)]
 pub struct NamedVariables {
     pub site: Name,
     pub space: Name,
     pub path: Name,
     pub values: Table<Value>,
+}
+
+impl Drop for NamedVariables {
+    fn drop(self) {
+        let NamedVariables {
+            site: _,
+            space: _,
+            path: _,
+            values: _,
+        } = self;
+    }
 }
 
 impl NamedVariables {

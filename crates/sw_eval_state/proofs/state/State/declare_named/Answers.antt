@@ -17,7 +17,7 @@ returns-in_err-add-in-Function c =
 
 pub returns-in_ok-add-in-Function : goal.returns-in_ok-add-in-Function
 returns-in_ok-add-in-Function c =
-    rw (named_function c.args.name c.args.callable.now c.args.self.now (rw c.get.ensures at c.in-Function.is), c.in_ok-add-in-Function.ensures.ok, c.in_ok-share-in-Function.ensures, c.name.view_is) refl
+    rw (named_function c.args.name c.args.callable.now c.args.self.now (rw c.get.ensures at c.in-Function.is), c.in_ok-add-in-Function.ensures.ok, c.in_ok-share-in-Function.ensures) refl
 
 pub returns-in_err-share-in-Mixin : goal.returns-in_err-share-in-Mixin
 returns-in_err-share-in-Mixin c =
@@ -29,4 +29,4 @@ returns-in_err-add-in-Mixin c =
 
 pub returns-in_ok-add-in-Mixin : goal.returns-in_ok-add-in-Mixin
 returns-in_ok-add-in-Mixin c =
-    rw (named_mixin c.args.name c.args.callable.now c.args.self.now (rw c.get.ensures at c.in-Mixin.is), c.in_ok-add-in-Mixin.ensures.ok, c.in_ok-share-in-Mixin.ensures, c.name.view_is) refl
+    rw (named_mixin c.args.name c.args.callable.now c.args.self.now (rw c.get.ensures at c.in-Mixin.is), c.in_ok-add-in-Mixin.ensures.ok, c.in_ok-share-in-Mixin.ensures) refl
