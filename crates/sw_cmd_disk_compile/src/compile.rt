@@ -1,7 +1,6 @@
 // One compile of a disk's folder.
-ghost use Rattle.std.specs.Prelude.{◌≡◌, ◌≢◌, IfOk};
+ghost use Rattle.std.specs.Prelude.{◌≡◌, ◌≢◌};
 ghost use Rattle.sw_io.specs.Causes.{NoFault, Rose};
-ghost use Rattle.sw_wire.specs.Replies.{fault_text};
 ghost use Rattle.sw_cmd_line.specs.Forms.{target_seen};
 ghost use Rattle.sw_modules.specs.Settings.{hostless};
 ghost use Rattle.sw_cmd_disk_compile.specs.Once.{surroundings, EndsBy, HearsBy, WritesBy};
@@ -14,8 +13,8 @@ use sw_cmd_protocol::{Audience, Output, send};
 use sw_io::{Disk, DiskEnd, Sink};
 use sw_modules::Reader;
 use sw_record::{Outcome, Reply};
-use sw_text::{Fault, List, Memory};
-use sw_wire::write_reply;
+use sw_text::Memory;
+use sw_wire::fault_line;
 use sw_world::Engine;
 
 /// Reads the folder, compiles the entry, and writes the CSS bytes alone or the one line `error CODE PATH L:C L:C`;
@@ -83,18 +82,4 @@ fn tell_written<T: Audience<Reply>>(ending: Ending, reply: &Reply, audience: &mu
         Ending::Css | Ending::Error => audience.hear(reply),
         Ending::SinkFailed | Ending::Memory | Ending::DiskFailed => {}
     }
-}
-
-// The line of a fault: a reply to a compile that says nothing else.
-fn fault_line(alloc: Global, fault: &Fault) -> Result<Vec<u8>, Memory>
-    ensures { IfOk result (λ line. line.items ≡ fault_text fault.now) }
-{
-    let reply = Reply {
-        says: List::new(alloc),
-        ran: List::new(alloc),
-        outcome: Outcome::Error(fault.share()?),
-    };
-    let mut line = Vec::new(alloc);
-    write_reply(alloc, &reply, &mut line)?;
-    Ok(line)
 }

@@ -5,6 +5,8 @@ use Rattle.sw_folder.specs.Paths.{is_path}
 use Rattle.sw_cmd_line.specs.declared.command.Command.{Command}
 use Rattle.sw_cmd_line.specs.declared.command.Command.TheVariants as code
 use Rattle.sw_cmd_line.specs.declared.command.Target.{Target as Seen}
+use Rattle.sw_cmd_line.specs.declared.syntax.Syntax.{Syntax}
+use Rattle.sw_cmd_line.specs.declared.syntax.Syntax.TheVariants as syntaxes
 
 -- what is compiled: the disk's folder, the entry in it, and the load paths
 pub record Target : Type 0 where
@@ -19,6 +21,7 @@ pub data Form : Type 0 where
   Once : Target → Form
   Poll : Target → Form
   Make : ℕ → Form
+  Convert : Syntax → Syntax → Form
 
 -- no word begins like an option
 abbrev pub is_plain : List ℕ → Bool
@@ -66,6 +69,24 @@ make_by [] = None
 make_by (word ∷ []) = option_map Make (number_of word)
 make_by (word ∷ more ∷ words) = None
 
+abbrev pub syntax_of : List ℕ → Option Syntax
+syntax_of word =
+    if bytes_eq word (codes "scss") then Some syntaxes.Scss
+    else if bytes_eq word (codes "sass") then Some syntaxes.Indented
+    else None
+
+abbrev pub convert_between : Option Syntax → Option Syntax → Option Form
+convert_between (Some from) (Some to) = Some (Convert from to)
+convert_between (Some from) None = None
+convert_between None to = None
+
+-- two syntaxes alone
+abbrev pub convert_by : List (List ℕ) → Option Form
+convert_by [] = None
+convert_by (from ∷ []) = None
+convert_by (from ∷ to ∷ []) = convert_between (syntax_of from) (syntax_of to)
+convert_by (from ∷ to ∷ more ∷ words) = None
+
 -- what a command's name asks for with these words behind it
 abbrev pub named : List ℕ → List (List ℕ) → Option Form
 named name words =
@@ -75,6 +96,7 @@ named name words =
     else if bytes_eq name (codes "once") then option_map Once (target_of words)
     else if bytes_eq name (codes "poll") then option_map Poll (target_of words)
     else if bytes_eq name (codes "make") then make_by words
+    else if bytes_eq name (codes "convert") then convert_by words
     else None
 
 abbrev pub form_by : List (List ℕ) → Option Form
@@ -95,3 +117,4 @@ form_seen code.Steps = Steps
 form_seen (code.Once target) = Once (target_seen target)
 form_seen (code.Poll target) = Poll (target_seen target)
 form_seen (code.Make number) = Make number
+form_seen (code.Convert conversion) = Convert conversion.from conversion.to

@@ -1,9 +1,11 @@
 // Which command the words of a command line ask for.
 ghost use Rattle.std.specs.Prelude.{◌≡◌, option_map};
 ghost use Rattle.std.specs.List.{list_all};
-ghost use Rattle.sw_cmd_line.specs.Forms.{form_of, form_by, form_seen, named, Once, Poll, make_by, target_of, target_seen, alone, is_target, is_load_path, is_plain};
+ghost use Rattle.sw_cmd_line.specs.Forms.{form_of, form_by, form_seen, named, Once, Poll, make_by, convert_by, convert_between, target_of, target_seen, alone, is_target, is_load_path, is_plain};
 
 use crate::number::read_number;
+use crate::syntax::syntax_of;
+use crate::{Conversion, Syntax};
 use sw_folder::is_path;
 use sw_text::Name;
 
@@ -35,12 +37,15 @@ pub enum Command<'a> {
     Poll(Target<'a>),
     /// Makes the workload of this number.
     Make(u32),
+    /// Writes a sheet in another syntax.
+    Convert(Conversion),
 }
 
 /// The command that the words behind the program's name ask for: `session`, `hosted`, `steps`,
 /// `once DIR ENTRY LOAD..`, `poll DIR ENTRY LOAD..` with at most eight LOAD, where DIR isn't empty, ENTRY is a path of
-/// a folder, each LOAD is one or `.`, or `make N` with one to six digits and no 0 before others; and no word begins
-/// with `-`. `None` exactly where the words are in none of these forms. Takes no memory.
+/// a folder, each LOAD is one or `.`, `make N` with one to six digits and no 0 before others, or `convert FROM TO`, each
+/// `scss` or `sass`; and no word begins with `-`. `None` exactly where the words are in none of these forms. Takes no
+/// memory.
 #[tactic(auto, unfolding(crate::specs::Forms::form_of))]
 pub fn command_of<'a>(words: &'a [Name]) -> Option<Command<'a>>
     ensures { option_map form_seen result ≡ form_of words.now }
@@ -69,6 +74,8 @@ fn named<'a>(name: &str, words: &'a [Name]) -> Option<Command<'a>>
         poll(target_in(words))
     } else if name == "make" {
         make(words)
+    } else if name == "convert" {
+        convert(words)
     } else {
         None
     }
@@ -110,6 +117,24 @@ fn make<'a>(words: &'a [Name]) -> Option<Command<'a>>
             Some(number) => Some(Command::Make(number)),
         },
         _ => None,
+    }
+}
+
+fn convert<'a>(words: &[Name]) -> Option<Command<'a>>
+    ensures { option_map form_seen result ≡ convert_by words.now }
+{
+    match words {
+        [from, to] => between(syntax_of(from.as_str()), syntax_of(to.as_str())),
+        _ => None,
+    }
+}
+
+fn between<'a>(from: Option<Syntax>, to: Option<Syntax>) -> Option<Command<'a>>
+    ensures { option_map form_seen result ≡ convert_between from to }
+{
+    match (from, to) {
+        (Some(from), Some(to)) => Some(Command::Convert(Conversion { from, to })),
+        (Some(_) | None, None) | (None, Some(_)) => None,
     }
 }
 

@@ -14,6 +14,9 @@ use Rattle.sw_cmd_disk_compile.specs.Once.{status_of}
 use Rattle.sw_cmd_workload.specs.declared.ending.Ending.{Ending as Made}
 use Rattle.sw_cmd_workload.specs.declared.ending.Ending.TheVariants as made
 use Rattle.sw_cmd_workload.specs.Ends.{status_of as status_of_made}
+use Rattle.sw_cmd_convert.specs.declared.ending.Ending.{Ending as Conversion}
+use Rattle.sw_cmd_convert.specs.declared.ending.Ending.TheVariants as converted
+use Rattle.sw_cmd_convert.specs.Ends.{status_of as status_of_converted}
 
 no_outside_by : (setting : Setting) (s : Stop) (old new : Surroundings) → outside_failed ≡ status_of_stop s → Served setting 1000000 s old new → ⊥
 no_outside_by setting stop.Ended old new e s = omega arith
@@ -67,3 +70,28 @@ pub made_not_disk : (ending : Made) → status_of_made ending ≡ outside_failed
 made_not_disk made.Summed e = omega arith
 made_not_disk made.SinkFailed e = omega arith
 made_not_disk made.Memory e = omega arith
+
+-- the statuses of a conversion
+pub of_converted_source : (ending : Conversion) → status_of_converted ending ≡ source_failed → ending ≡ converted.SourceFailed
+of_converted_source converted.Converted e = absurd (omega arith)
+of_converted_source converted.Refused e = absurd (omega arith)
+of_converted_source converted.NoText e = absurd (omega arith)
+of_converted_source converted.SourceFailed e = refl
+of_converted_source converted.SinkFailed e = absurd (omega arith)
+of_converted_source converted.Memory e = absurd (omega arith)
+
+pub of_converted_sink : (ending : Conversion) → status_of_converted ending ≡ sink_failed → ending ≡ converted.SinkFailed
+of_converted_sink converted.Converted e = absurd (omega arith)
+of_converted_sink converted.Refused e = absurd (omega arith)
+of_converted_sink converted.NoText e = absurd (omega arith)
+of_converted_sink converted.SourceFailed e = absurd (omega arith)
+of_converted_sink converted.SinkFailed e = refl
+of_converted_sink converted.Memory e = absurd (omega arith)
+
+pub converted_not_disk : (ending : Conversion) → status_of_converted ending ≡ outside_failed → ⊥
+converted_not_disk converted.Converted e = omega arith
+converted_not_disk converted.Refused e = omega arith
+converted_not_disk converted.NoText e = omega arith
+converted_not_disk converted.SourceFailed e = omega arith
+converted_not_disk converted.SinkFailed e = omega arith
+converted_not_disk converted.Memory e = omega arith

@@ -1,7 +1,7 @@
 -- What the program does, by the words of its command line. This project's own rule.
 use Rattle.std.specs.Prelude.{◌≡◌, ℕ, List, [], Option, None, Some}
 use Rattle.sw_io.specs.Disks.{Course}
-use Rattle.sw_cmd_line.specs.Forms.{Form, Target, Session, Hosted, Steps, Once, Poll, Make}
+use Rattle.sw_cmd_line.specs.Forms.{Form, Target, Session, Hosted, Steps, Once, Poll, Make, Convert}
 use Rattle.sw_world.specs.Hosts.{HostState}
 use Rattle.sw_world.specs.Body.{BodyOf}
 use Rattle.sw_modules.specs.Outside.{Functions}
@@ -16,6 +16,10 @@ use Rattle.sw_cmd_disk_compile.specs.declared.ending.Ending.{Ending}
 use Rattle.sw_cmd_disk_compile.specs.Once as once
 use Rattle.sw_cmd_workload.specs.declared.ending.Ending.{Ending as Made}
 use Rattle.sw_cmd_workload.specs.Ends as make
+use Rattle.sw_cmd_line.specs.declared.syntax.Syntax.{Syntax}
+use Rattle.sw_parse_file.specs.Files.{sheet_at}
+use Rattle.sw_cmd_convert.specs.declared.ending.Ending.{Ending as Conversion}
+use Rattle.sw_cmd_convert.specs.Ends as convert
 use Rattle.sw_cmd_run.specs.Served as poll
 
 -- what is around the program: the bytes left in the source, those written into the sink, what the disk tells of each
@@ -96,6 +100,17 @@ pub record Makes {State : Type 0} (setting : Setting) (number : ℕ) (hears : He
   pub course : new.course ≡ old.course
   pub hosts : new.hosts ≡ old.hosts
 
+-- a sheet of the first syntax is written in the second one, without a look at the disk; nothing runs, and nobody is told
+pub record ConvertsSheet {State : Type 0} (from to : Syntax) (status : ℕ) (old new : Surroundings)
+    (before now : State) : Type 0 where
+  pub ending : Conversion
+  pub ends : convert.EndsBy ending sheet_at from to old.left new.left old.written new.written
+  pub tells : status ≡ convert.status_of ending
+  pub unheard : now ≡ before
+  pub course : new.course ≡ old.course
+  pub ran : new.ran ≡ old.ran
+  pub hosts : new.hosts ≡ old.hosts
+
 -- the words are in this form, and this came of them, with these bodies and these functions of a host; words in no form
 -- have a status of their own
 abbrev pub Runs : {State : Type 0} → BodyOf → Functions → Hearing Reply State → Option Form → ℕ → Surroundings
@@ -113,3 +128,5 @@ Runs body host hears (Some (Poll target)) status old new before now =
     Polls (hostless body) target hears status old new before now
 Runs body host hears (Some (Make number)) status old new before now =
     Makes (hostless body) number hears status old new before now
+Runs body host hears (Some (Convert from to)) status old new before now =
+    ConvertsSheet from to status old new before now

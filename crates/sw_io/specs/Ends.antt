@@ -1,5 +1,5 @@
 -- Why a reader stopped short, by the bytes that it used.
-use Rattle.std.specs.Prelude.{◌≡◌, ◌<◌, ℕ, List, [], ◌++◌, length, ⊤}
+use Rattle.std.specs.Prelude.{◌≡◌, ◌<◌, ◌≤◌, ℕ, List, [], ◌++◌, length, ⊤}
 use Rattle.std.specs.declared.option.Option.{Option}
 use Rattle.std.specs.Io.KnownBytes.{IsAtEnd}
 use Rattle.sw_io.specs.Causes.{Rose}
@@ -20,3 +20,10 @@ RunEnds TooLong count used ahead left before now = ⊥
 RunEnds Ended count used ahead left before now = (length used < count) × (ahead ≡ []) × IsAtEnd left
 RunEnds Failed count used ahead left before now = (length used < count) × (ahead ≡ []) × Rose before now
 RunEnds Memory count used ahead left before now = ⊤
+
+-- what the used bytes are, where not all came
+abbrev pub RestEnds : ReadStop → ℕ → List ℕ → List ℕ → ℕ → ℕ → Type 0
+RestEnds TooLong most used ahead before now = most < length used
+RestEnds Ended most used ahead before now = ⊥
+RestEnds Failed most used ahead before now = (length used ≤ most) × (ahead ≡ []) × Rose before now
+RestEnds Memory most used ahead before now = ⊤

@@ -5,7 +5,7 @@ ghost use Rattle.std.specs.Io.KnownBytes.{IsAtEnd};
 ghost use Rattle.sw_io.specs.Causes.{HasCause, Cause};
 ghost use Rattle.sw_io.specs.Reads.{Reads};
 ghost use Rattle.sw_io.specs.Lines.{Line, split_line};
-ghost use Rattle.sw_io.specs.Ends.{LineEnds, RunEnds};
+ghost use Rattle.sw_io.specs.Ends.{LineEnds, RunEnds, RestEnds};
 
 use crate::{Failed, ReadStop, Source};
 use std::alloc::Global;
@@ -145,6 +145,30 @@ impl Reader {
             }
             out.extend_from_slice(&piece[..taken])?;
             self.consume(taken);
+        }
+        Ok(())
+    }
+
+    /// All bytes that are left, at most `most`, into `out`; `TooLong` where there are more. It grows as they come.
+    pub fn rest<S: Source>(
+        &mut self,
+        source: &mut S,
+        most: usize,
+        out: &mut Vec<u8>,
+    ) -> Result<(), ReadStop>
+        ensures ok { OnOk result (Reads self.old (S.left source.old) out.new.items self.new (S.left source.new)
+            × (self.new ≡ []) × IsAtEnd (S.left source.new) × (length out.new.items ≤ most)) }
+        ensures err { IfErr result (λ stop. (used : List ℕ)
+            × Reads self.old (S.left source.old) used self.new (S.left source.new)
+            × RestEnds stop most used self.new (S.faults source.old) (S.faults source.new)) }
+        ensures cause { Cause ReadStop.Failed (S.faults source.old) (S.faults source.new) result }
+    {
+        out.clear();
+        while let Some(byte) = self.next(source)? {
+            if out.len() == most {
+                return Err(ReadStop::TooLong);
+            }
+            out.push(byte)?;
         }
         Ok(())
     }

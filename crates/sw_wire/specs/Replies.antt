@@ -70,9 +70,16 @@ abbrev pub css_behind : Option (List ℕ) → List ℕ
 css_behind None = []
 css_behind (Some bytes) = bytes ++ codes "\n"
 
--- the code, and the place of the fault
+-- the number, and the place of a fault
+abbrev pub error_text : ℕ → Span → List ℕ
+error_text number span = codes "error " ++ decimal number ++ codes " " ++ span_text span ++ codes "\n"
+
 abbrev pub fault_text : Fault → List ℕ
-fault_text fault = codes "error " ++ decimal (number_of fault.code) ++ codes " " ++ span_text fault.span ++ codes "\n"
+fault_text fault = error_text (number_of fault.code) fault.span
+
+-- lines can't hold the statement that stands there
+abbrev pub not_indentable_text : Span → List ℕ
+not_indentable_text span = error_text 42 span
 
 abbrev pub outcome_text : Outcome → List ℕ
 outcome_text (Css bytes) = css_text bytes

@@ -17,6 +17,8 @@ mod words;
 pub use fault::LineFault;
 pub use read::read_request;
 pub use read_step::read_step_request;
-pub use reply::{edit_reply, memory_reply, write_front, write_reply, write_says};
+pub use reply::{
+    edit_reply, fault_line, memory_reply, not_indentable_line, write_front, write_reply, write_says,
+};
 pub use request::{Request, StepRequest};
 pub use step_reply::{no_compile_reply, write_finished, write_loading, write_started, write_steps};

@@ -1,7 +1,7 @@
 // The text of a reply.
 ghost use Rattle.std.specs.Prelude.{◌≡◌, ◌++◌, codes, length, take, IfOk, IfSome, OnOk, OnErr};
 ghost use Rattle.std.specs.Option.{option_copied};
-ghost use Rattle.sw_wire.specs.Replies.{reply_text, says_text, saying_text, saying_head, kind_word, ran_text, ran_line, cause_word, outcome_text, css_head, css_text, css_behind, fault_text, span_text, pos_text, edit_text, memory_text};
+ghost use Rattle.sw_wire.specs.Replies.{reply_text, says_text, saying_text, saying_head, kind_word, ran_text, ran_line, cause_word, outcome_text, css_head, css_text, css_behind, error_text, fault_text, not_indentable_text, span_text, pos_text, edit_text, memory_text};
 
 use std::alloc::Global;
 use sw_folder::EditFault;
@@ -11,6 +11,9 @@ use sw_world::{SayKind, Saying};
 
 /// CSS of so many bytes is long: to copy it costs more than two more writes.
 const LONG_CSS: usize = 16_384;
+
+/// The number of a statement that lines can't hold. It's none of a compile.
+const NOT_INDENTABLE: u16 = 42;
 
 /// Room for the line in front of the CSS, and what stands behind it.
 const LINE_ROOM: usize = 32;
@@ -205,11 +208,25 @@ fn write_fault(alloc: Global, fault: &Fault, out: &mut Vec<u8>) -> Result<(), Me
     Ok(())
 }
 
-fn fault_line(alloc: Global, fault: &Fault) -> Result<Vec<u8>, Memory>
+/// The line `error CODE PATH L:C L:C` of a fault.
+pub fn fault_line(alloc: Global, fault: &Fault) -> Result<Vec<u8>, Memory>
     ensures { IfOk result (λ line. line.items ≡ fault_text fault.now) }
 {
-    let code = fault.code.number().to_string(alloc)?;
-    let span = span_text(alloc, &fault.span)?;
+    error_line(alloc, fault.code.number(), &fault.span)
+}
+
+/// The line `error 42 PATH L:C L:C` of a statement that lines can't hold.
+pub fn not_indentable_line(alloc: Global, span: &Span) -> Result<Vec<u8>, Memory>
+    ensures { IfOk result (λ line. line.items ≡ not_indentable_text span.now) }
+{
+    error_line(alloc, NOT_INDENTABLE, span)
+}
+
+fn error_line(alloc: Global, number: u16, span: &Span) -> Result<Vec<u8>, Memory>
+    ensures { IfOk result (λ line. line.items ≡ error_text number span.now) }
+{
+    let code = number.to_string(alloc)?;
+    let span = span_text(alloc, span)?;
     let mut line = Vec::new(alloc);
     line.extend_from_slice(b"error ")?;
     line.extend_from_slice(code.as_bytes())?;

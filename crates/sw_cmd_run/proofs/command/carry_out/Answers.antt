@@ -2,12 +2,13 @@ use Rattle.std.proofs.Common.{◌≡◌, [], refl, sym, ap, ◌∙◌}
 use Rattle.sw_cmd_session.specs.Sheets.{functions, hosted, hostless}
 use Rattle.sw_cmd_session.specs.Served as session
 use Rattle.sw_cmd_line.specs.declared.command.Command.TheVariants as code
-use Rattle.sw_cmd_line.specs.Forms.{form_seen, Session, Hosted, Steps, Once, Poll, Make, target_seen}
+use Rattle.sw_cmd_line.specs.Forms.{form_seen, Session, Hosted, Steps, Once, Poll, Make, Convert, target_seen}
 use Rattle.sw_cmd_disk_compile.specs.Once.{status_of}
 use Rattle.sw_cmd_workload.specs.Ends.{status_of as status_of_made}
+use Rattle.sw_cmd_convert.specs.Ends.{status_of as status_of_converted}
 use Rattle.sw_cmd_run.specs.Run.{surroundings}
 use Rattle.sw_cmd_run.proofs.Running.{runs_as, form_as}
-use Rattle.sw_cmd_run.proofs.Statuses.{no_outside, of_sink, of_disk, not_source, of_made_sink, made_not_source, made_not_disk}
+use Rattle.sw_cmd_run.proofs.Statuses.{no_outside, of_sink, of_disk, not_source, of_made_sink, made_not_source, made_not_disk, of_converted_source, of_converted_sink, converted_not_disk}
 use Rattle.sw_cmd_run.proofs.command.carry_out.Goals as goal
 
 pub returns-in-Session-clause-runs : goal.returns-in-Session-clause-runs
@@ -157,3 +158,51 @@ returns-in-Make-clause-disk_fault g c = λ e. absurd (made_not_disk c.make.resul
 
 pub returns-in-Make-clause-no_sink_fault : goal.returns-in-Make-clause-no_sink_fault
 returns-in-Make-clause-no_sink_fault g c = λ n. c.make.ensures.no_sink_fault (λ e. n (c.status-in-Make.ensures ∙ ap status_of_made e))
+
+pub returns-in-Session-clause-no_engine : goal.returns-in-Session-clause-no_engine
+returns-in-Session-clause-no_engine g c = λ from to n. let bad : Session ≡ (Convert from to) = form_as c.args.command code.Session (Convert from to) c.in-Session.is n in cc
+
+pub returns-in-Hosted-clause-no_engine : goal.returns-in-Hosted-clause-no_engine
+returns-in-Hosted-clause-no_engine g c = λ from to n. let bad : Hosted ≡ (Convert from to) = form_as c.args.command code.Hosted (Convert from to) c.in-Hosted.is n in cc
+
+pub returns-in-Steps-clause-no_engine : goal.returns-in-Steps-clause-no_engine
+returns-in-Steps-clause-no_engine g c = λ from to n. let bad : Steps ≡ (Convert from to) = form_as c.args.command code.Steps (Convert from to) c.in-Steps.is n in cc
+
+pub returns-in-Once-clause-no_engine : goal.returns-in-Once-clause-no_engine
+returns-in-Once-clause-no_engine g c = λ from to n. let bad : Once (target_seen c.in-Once.target) ≡ (Convert from to) = form_as c.args.command (code.Once c.in-Once.target) (Convert from to) c.in-Once.is n in cc
+
+pub returns-in-Poll-clause-no_engine : goal.returns-in-Poll-clause-no_engine
+returns-in-Poll-clause-no_engine g c = λ from to n. let bad : Poll (target_seen c.in-Poll.target) ≡ (Convert from to) = form_as c.args.command (code.Poll c.in-Poll.target) (Convert from to) c.in-Poll.is n in cc
+
+pub returns-in-Make-clause-no_engine : goal.returns-in-Make-clause-no_engine
+returns-in-Make-clause-no_engine g c = λ from to n. let bad : Make c.in-Make.number ≡ (Convert from to) = form_as c.args.command (code.Make c.in-Make.number) (Convert from to) c.in-Make.is n in cc
+
+pub returns-in-Convert-clause-runs : goal.returns-in-Convert-clause-runs
+returns-in-Convert-clause-runs g c =
+    let a = c.args.around.now in
+    runs_as g.E.Engine.body (functions g.H.Hosts.answer g.H.Hosts.after) g.T.Audience.hears c.status-in-Convert.result
+    (surroundings (g.S.Source.left a.source) (g.K.Sink.written a.output.sink) (g.D.Disk.course a.disk) (g.E.Engine.ran c.args.engine.now) (g.H.Hosts.state a.hosts))
+    (surroundings (g.S.Source.left c.convert.new.source) (g.K.Sink.written c.convert.new.sink) (g.D.Disk.course a.disk) (g.E.Engine.ran c.args.engine.now) (g.H.Hosts.state a.hosts))
+    (g.T.Audience.state a.output.audience) (g.T.Audience.state a.output.audience) c.args.command (code.Convert c.in-Convert.conversion) c.in-Convert.is
+    (record { ending = c.convert.result; ends = c.convert.ensures.ends; tells = c.status-in-Convert.ensures; unheard = refl; course = refl; ran = refl; hosts = refl })
+
+pub returns-in-Convert-clause-no_source : goal.returns-in-Convert-clause-no_source
+returns-in-Convert-clause-no_source g c = λ target n. let bad : Convert c.in-Convert.conversion.from c.in-Convert.conversion.to ≡ (Once target) = form_as c.args.command (code.Convert c.in-Convert.conversion) (Once target) c.in-Convert.is n in cc
+
+pub returns-in-Convert-clause-no_outside : goal.returns-in-Convert-clause-no_outside
+returns-in-Convert-clause-no_outside g c = λ number n. let bad : Convert c.in-Convert.conversion.from c.in-Convert.conversion.to ≡ (Make number) = form_as c.args.command (code.Convert c.in-Convert.conversion) (Make number) c.in-Convert.is n in cc
+
+pub returns-in-Convert-clause-source_fault : goal.returns-in-Convert-clause-source_fault
+returns-in-Convert-clause-source_fault g c = λ e. c.convert.ensures.source_fault (of_converted_source c.convert.result (sym c.status-in-Convert.ensures ∙ e))
+
+pub returns-in-Convert-clause-sink_fault : goal.returns-in-Convert-clause-sink_fault
+returns-in-Convert-clause-sink_fault g c = λ e. c.convert.ensures.sink_fault (of_converted_sink c.convert.result (sym c.status-in-Convert.ensures ∙ e))
+
+pub returns-in-Convert-clause-disk_fault : goal.returns-in-Convert-clause-disk_fault
+returns-in-Convert-clause-disk_fault g c = λ e. absurd (converted_not_disk c.convert.result (sym c.status-in-Convert.ensures ∙ e))
+
+pub returns-in-Convert-clause-no_source_fault : goal.returns-in-Convert-clause-no_source_fault
+returns-in-Convert-clause-no_source_fault g c = λ n. c.convert.ensures.no_source_fault (λ e. n (c.status-in-Convert.ensures ∙ ap status_of_converted e))
+
+pub returns-in-Convert-clause-no_sink_fault : goal.returns-in-Convert-clause-no_sink_fault
+returns-in-Convert-clause-no_sink_fault g c = λ n. c.convert.ensures.no_sink_fault (λ e. n (c.status-in-Convert.ensures ∙ ap status_of_converted e))

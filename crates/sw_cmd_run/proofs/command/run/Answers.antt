@@ -1,6 +1,6 @@
 use Rattle.std.proofs.Common.{sym, ap, ◌∙◌}
 use Rattle.std.specs.Prelude.{option_map}
-use Rattle.sw_cmd_line.specs.Forms.{form_of, form_seen, Session, Hosted, Steps, Once, Make}
+use Rattle.sw_cmd_line.specs.Forms.{form_of, form_seen, Session, Hosted, Steps, Once, Make, Convert}
 use Rattle.sw_cmd_session.specs.Sheets.{functions}
 use Rattle.sw_cmd_run.specs.Run.{surroundings}
 use Rattle.sw_cmd_run.proofs.Running.{none_runs, some_runs, not_none, same_form, other_form}
@@ -40,6 +40,10 @@ returns-in-Some-clause-no_disk_steps g c =
 pub returns-in-Some-clause-no_source : goal.returns-in-Some-clause-no_source
 returns-in-Some-clause-no_source g c =
     λ target n. c.carry_out.ensures.no_source target (same_form (form_of c.args.words.now) (form_seen c.in-Some.command) (sym (ap (option_map form_seen) c.in-Some.is) ∙ c.command_of.ensures) (Once target) n)
+
+pub returns-in-Some-clause-no_engine : goal.returns-in-Some-clause-no_engine
+returns-in-Some-clause-no_engine g c =
+    λ from to n. c.carry_out.ensures.no_engine from to (same_form (form_of c.args.words.now) (form_seen c.in-Some.command) (sym (ap (option_map form_seen) c.in-Some.is) ∙ c.command_of.ensures) (Convert from to) n)
 
 pub returns-in-Some-clause-no_outside : goal.returns-in-Some-clause-no_outside
 returns-in-Some-clause-no_outside g c =
