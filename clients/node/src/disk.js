@@ -27,6 +27,17 @@ import { loadsOf } from './loads.js';
 const EMPTY = Buffer.alloc(0);
 const UTF8 = new TextDecoder('utf-8', { fatal: true });
 
+/**
+ * What keeps a file from being loaded, in words that go behind its name.
+ * @param {Problem} problem
+ * @returns {string}
+ */
+export function whyNoSheet(problem) {
+  if (problem.kind === 'long') return `has ${problem.bytes.toLocaleString('en')} bytes, and a sheet has at most ${MOST_FILE_BYTES.toLocaleString('en')} (1 MiB)`;
+  if (problem.kind === 'text') return `isn't UTF-8: its byte ${problem.byte}, in line ${problem.line}, begins no character; save it as UTF-8`;
+  return `can't be read: ${problem.reason}`;
+}
+
 /** Looks at folders and files, and keeps what it saw until it is doubted. */
 export class Disk {
   /** @type {Map<string, Folder>} */

@@ -3,8 +3,8 @@
 import { statSync } from 'node:fs';
 import path from 'node:path';
 import { Disk } from './disk.js';
-import { isIn } from './mounts.js';
 import { extensionOf } from './names.js';
+import { allSheets, checkSheet, isFile, isPartial } from './sheets.js';
 import { WordsError } from './words.js';
 
 /**
@@ -98,60 +98,20 @@ function checkOuts(tasks, root) {
  */
 function entryOf(word, root, typed) {
   const colon = isFile(path.join(root, word)) ? -1 : word.lastIndexOf(':');
-  const given = colon < 0 ? word : word.slice(0, colon);
+  const entry = colon < 0 ? word : word.slice(0, colon);
   const out = colon < 0 ? null : word.slice(colon + 1);
-  const better = (/** @type {string} */ entry) => new WordsError(`${word}: write ${entry}${out === null ? '' : `:${out}`}`);
-  if (out === '') throw new WordsError(`${word}: write ${given}, or the file for its CSS behind the colon`);
-  if (given === '') throw new WordsError(`${word}: write the name of a sheet in ${typed}`);
-  const inside = path.resolve(root, given);
-  const outside = path.resolve(given);
-  if (path.isAbsolute(given) && isIn(given, root) && path.normalize(given) !== root) throw better(path.relative(root, given));
-  if (!isFile(inside) && isIn(outside, root) && isFile(outside)) throw better(path.relative(root, outside));
-  if (!isIn(inside, root) || inside === root) throw new WordsError(`${word}: write the name of a sheet in ${typed}`);
-  const plain = path.relative(root, inside);
-  if (plain !== given) throw better(plain);
-  if (extensionOf(given)) return { entry: given, out };
-  const [found] = ['.scss', '.sass', '.css'].filter((it) => isFile(inside + it));
-  if (found) throw better(given + found);
-  throw new WordsError(`${word}: write the name of a sheet, which ends in .scss, .sass or .css`);
+  if (out === '') throw new WordsError(`${word}: write ${entry}, or the file for its CSS behind the colon`);
+  checkSheet(entry, { word, root, typed, better: (it) => (out === null ? it : `${it}:${out}`) });
+  return { entry, out };
 }
 
 /**
- * @param {string} file
- * @returns {boolean}
- */
-function isFile(file) {
-  try {
-    return statSync(file).isFile();
-  } catch {
-    return false;
-  }
-}
-
-/**
- * All sheets of a folder that don't begin with `_`, in byte order. Not looked into are `node_modules`, folders whose
- * name begins with a dot, and that of the CSS.
+ * All sheets of a folder that don't begin with `_`.
  * @param {string} root
  * @param {string} out
  * @param {Disk} disk
  * @returns {Array<{ entry: string, out: null }>}
  */
 function allEntries(root, out, disk) {
-  /** @type {string[]} */
-  const found = [];
-  const seen = new Set();
-  const look = (/** @type {string} */ folder) => {
-    const { names, real } = disk.list(folder);
-    if (seen.has(real)) return;
-    seen.add(real);
-    for (const name of names.keys()) {
-      const at = path.join(folder, name);
-      const isSheet = !name.startsWith('_') && /.\.s[ac]ss$/.test(name) && !name.startsWith('.');
-      const isLooked = !name.startsWith('.') && name !== 'node_modules' && at !== out;
-      if (isSheet && disk.kind(at) === 'file') found.push(path.relative(root, at));
-      else if (isLooked && names.get(name) !== 'file' && disk.kind(at) === 'folder') look(at);
-    }
-  };
-  look(root);
-  return found.sort((a, b) => Buffer.compare(Buffer.from(a), Buffer.from(b))).map((entry) => ({ entry, out: null }));
+  return allSheets(root, out, disk).filter((it) => !isPartial(it)).map((entry) => ({ entry, out: null }));
 }

@@ -1,7 +1,8 @@
 // What an explanation asks about files: those of a compile, as they are on the disk.
 
 import path from 'node:path';
-import { MOST_FILE_BYTES, MOST_FILES, extensionOf, whyNoPath } from './names.js';
+import { whyNoSheet } from './disk.js';
+import { MOST_FILES, extensionOf, whyNoPath } from './names.js';
 import { isIn } from './mounts.js';
 import { either, nearest } from './nearby.js';
 import { isOfFiles, walked } from './resolve.js';
@@ -151,11 +152,7 @@ export class Surroundings {
    */
   #problem(file) {
     const problem = this.mounts.disk.sheet(file)?.problem;
-    const name = this.shown(file);
-    if (!problem) return null;
-    if (problem.kind === 'long') return `${name} is there, but has ${problem.bytes.toLocaleString('en')} bytes, and a sheet has at most ${MOST_FILE_BYTES.toLocaleString('en')} (1 MiB)`;
-    if (problem.kind === 'text') return `${name} is there, but isn't UTF-8: its byte ${problem.byte}, in line ${problem.line}, begins no character; save it as UTF-8`;
-    return `${name} is there, but can't be read: ${problem.reason}`;
+    return problem ? `${this.shown(file)} is there, but ${whyNoSheet(problem)}` : null;
   }
 
   /**
