@@ -53,7 +53,7 @@ from standard input:
 
   sassw once src main.scss > new.css 2> said || cat said new.css | sassw-explain src main.scss
 
-  CODE           the code of a fault, 10 to 41
+  CODE           the code of a fault, 10 to 42
   SRC            the folder that the program read
   ENTRY, LOAD    as the program got them; with them it is told which loads led to the place
   --format F     text, json (a line each, UTF-16 columns) or github

@@ -1,8 +1,11 @@
-// What is open at a place of a text: brackets, `#{`, strings and comments.
+// What is open at a place of a text: brackets, `#{`, strings and comments; and the comments of a text.
 
 /**
  * Something that was opened. Offsets count UTF-16 units.
  * @typedef {{ sign: string, at: number }} Open
+ *
+ * Where something stands: from its first character to behind its last one.
+ * @typedef {{ from: number, to: number }} Extent
  *
  * A pair of braces whose lines aren't indented alike, so that they may not belong together.
  * @typedef {{ open: number, close: number }} Uneven
@@ -10,10 +13,11 @@
  * @typedef {object} Brackets
  * @property {Open[]} open what is open at the end, the outermost first
  * @property {Uneven | null} uneven the first such pair
+ * @property {Extent[]} comments in their order, silent and loud ones
  */
 
 const CLOSES = /** @type {Record<string, string>} */ ({ '}': '{', ')': '(', ']': '[' });
-const SIGNS = /\/\*[^]*?(?:\*\/|$)|\/\/[^\n\r\f]*|url\([ \t]*[^"'\s)#][^)\n#]*\)|\\[^]|#\{|["'{}()[\]]/gu;
+const SIGNS = /\/\*[^]*?(?:\*\/|$)|\/\/[^\n\r\f]*|url\([ \t]*(?:[^"'\s)#]|#\{[^}]*\})(?:[^)\n#]|#(?!\{)|#\{[^}]*\})*\)|\\[^]|#\{|["'{}()[\]]/gu;
 
 /**
  * What is open at the end of a text.
@@ -22,12 +26,12 @@ const SIGNS = /\/\*[^]*?(?:\*\/|$)|\/\/[^\n\r\f]*|url\([ \t]*[^"'\s)#][^)\n#]*\)
  */
 export function bracketsOf(text) {
   /** @type {Brackets} */
-  const found = { open: [], uneven: null };
+  const found = { open: [], uneven: null, comments: [] };
   SIGNS.lastIndex = 0;
   for (let it = SIGNS.exec(text); it; it = SIGNS.exec(text)) {
     const [sign] = it;
     if (sign === '"' || sign === "'") SIGNS.lastIndex = throughString(text, it.index, found);
-    else if (sign.startsWith('/*')) noteComment(sign, it.index, found);
+    else if (/^\/[/*]/.test(sign)) noteComment(sign, it.index, found);
     else if (sign === '#{' || Object.values(CLOSES).includes(sign)) found.open.push({ sign, at: it.index });
     else if (sign in CLOSES) close(text, it.index, found);
     const inner = found.open.at(-1);
@@ -78,7 +82,9 @@ function throughString(text, at, found, from = at + 1) {
  * @param {Brackets} found
  */
 function noteComment(comment, at, found) {
-  if (comment.length < 4 || !comment.endsWith('*/')) found.open.push({ sign: '/*', at });
+  found.comments.push({ from: at, to: at + comment.length });
+  const isClosed = comment.startsWith('//') || (comment.length >= 4 && comment.endsWith('*/'));
+  if (!isClosed) found.open.push({ sign: '/*', at });
 }
 
 /**

@@ -1,11 +1,11 @@
-// The faults of a compile, each said once: `means`, `at` and `example` are those of the table in docs/PROTOCOL.md.
+// The faults of a compile and of a conversion, each said once: `means`, `at` and `example` are those of the tables in docs/PROTOCOL.md.
 
 /**
  * @typedef {object} FaultRow
  * @property {number} code
  * @property {string} means what is wrong
  * @property {string} at where it stands
- * @property {string} example a sheet `a.scss`, and what is answered; '' where there is none
+ * @property {string} example a sheet `a.scss` (`in.scss` for `convert`), and what is answered; '' where there is none
  * @property {string} says the head of an explanation; `{it}` is what stands at the place
  * @property {string} help what a person can do
  */
@@ -267,6 +267,14 @@ export const FAULTS = Object.freeze([
     example: '`@use "sass:math"; a { b: math.$epsilon; }` → `error 41 a.scss 1:26 1:39`',
     says: '{it} is left out',
     help: "this built-in member isn't there; which ones are stands in docs/LANGUAGE.md",
+  },
+  {
+    code: 42,
+    means: "a statement that a sheet in lines can't hold, where `convert` writes one",
+    at: 'the statement',
+    example: '`a { }` → `error 42 in.scss 1:1 1:2`',
+    says: "a sheet in lines can't hold {it}",
+    help: 'change it, or leave the sheet in SCSS: sheets of both syntaxes load each other',
   },
 ]);
 

@@ -1,6 +1,7 @@
 // What the code of a fault alone can't say.
 
 import { notesOfGrammar } from './grammar-notes.js';
+import { notesOfLines } from './line-notes.js';
 import { decodedString, defaultNamespace, loadsOf } from './loads.js';
 import { either, nearest } from './nearby.js';
 import { lineStarts, offsetOf, placeAt } from './text.js';
@@ -50,6 +51,8 @@ export function notesOf(fault, files) {
       return missingNotes(at);
     case 20:
       return severalNotes(at);
+    case 42:
+      return notesOfLines(at);
     default:
       return NONE;
   }

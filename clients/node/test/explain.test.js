@@ -49,7 +49,7 @@ test('each example of a fault comes to it, and its explanation has no gap', asyn
   t.after(() => session.close());
   for (const { code, example } of FAULTS) {
     const found = /^`(?!a\.scss`)([^`]+)`.*→ `error (.*)`$/.exec(example);
-    if (!found || code === 33) continue;
+    if (!found || code === 33 || code === 42) continue;
     const beside = Object.entries({ 'a.scss': found[1], ...BESIDE[code] });
     await Promise.all(beside.map(([path, text]) => session.put(path, text)));
     const reply = await session.compile('a.scss');
@@ -123,7 +123,7 @@ test('sassw-explain says what a code means', async (t) => {
   );
   assert.match(second, /^fault 20: a URL that means several files\n/);
   const none = await room.run(['node', COMMAND, '9']);
-  assert.deepEqual(none, { status: 7, out: '', err: 'sassw-explain: 9: write a code from 10 to 41\n' });
+  assert.deepEqual(none, { status: 7, out: '', err: 'sassw-explain: 9: write a code from 10 to 42\n' });
 });
 
 test('sassw-explain explains what once and poll wrote', async (t) => {
