@@ -28,8 +28,8 @@ import { lineStarts, linesOf, offsetOf, unitsBefore } from './text.js';
  * A fault or a message, as data. `path` is as a person reads it, `file` as in the reply. `span` counts characters;
  * `from` and `to` are the same places in UTF-16 units, as editors count. All count from 1.
  * @typedef {object} Problem
- * @property {'fault' | 'warning' | 'debug'} kind
- * @property {number | null} code of the fault; null for a message, and where memory was missing
+ * @property {'fault' | 'warning' | 'debug' | 'note'} kind
+ * @property {number | null} code of the fault; null for what is said without one, and where memory was missing
  * @property {string} path
  * @property {string} file
  * @property {Span} span
@@ -51,11 +51,32 @@ const LONGEST = 48;
  * @returns {string} lines with a line feed each, or '' where there is nothing to explain
  */
 export function explain(reply, files, options = {}) {
+  return tellingOf(problemsOf(reply, files), files, options);
+}
+
+/**
+ * What is told of problems.
+ * @param {Problem[]} problems
+ * @param {Files | Map<string, string | Buffer>} files those in which they stand
+ * @param {{ format?: 'text' | 'json' | 'github', colour?: boolean }} [options] as for `explain`
+ * @returns {string} lines with a line feed each
+ */
+export function tellingOf(problems, files, { format = 'text', colour = false } = {}) {
   const given = filesOf(files);
-  const { format = 'text', colour = false } = options;
-  const problems = problemsOf(reply, given);
   const form = { text: textForm, json: jsonForm, github: githubForm }[format];
   return problems.map((it) => form(it, given, colour)).join('');
+}
+
+/**
+ * What is said of a place without a code.
+ * @param {Files | Map<string, string | Buffer>} files
+ * @param {{ path: string, span: Span }} at
+ * @param {'fault' | 'note'} kind
+ * @param {string} message one sentence
+ * @returns {Problem}
+ */
+export function saidAt(files, at, kind, message) {
+  return problemAt(filesOf(files), at, { kind, code: null, message, frame: '', notes: [] });
 }
 
 /**
@@ -159,8 +180,8 @@ function filesOf(files) {
 function textForm(problem, files, colour) {
   const paint = colour ? painted : plainText;
   const { kind, code, path, span, message } = problem;
-  const tone = { fault: 'red', warning: 'yellow', debug: 'cyan' }[kind];
-  const word = { fault: '', warning: 'warning: ', debug: 'debug: ' }[kind];
+  const tone = { fault: 'red', warning: 'yellow', debug: 'cyan', note: 'cyan' }[kind];
+  const word = { fault: '', warning: 'warning: ', debug: 'debug: ', note: 'note: ' }[kind];
   const place = path ? `${paint(headOf(path, span.from), 'bold')}: ` : '';
   const number = code === null ? '' : ` (fault ${code})`;
   const lines = [`${place}${paint(word + message, tone)}${number}`];
@@ -218,7 +239,7 @@ function jsonForm(problem, files) {
 function githubForm({ kind, code, path, from, to, message, notes }) {
   const data = (/** @type {string} */ it) => it.replace(/%/g, '%25').replace(/\r/g, '%0D').replace(/\n/g, '%0A');
   const property = (/** @type {string} */ it) => data(it).replace(/:/g, '%3A').replace(/,/g, '%2C');
-  const word = { fault: 'error', warning: 'warning', debug: 'notice' }[kind];
+  const word = { fault: 'error', warning: 'warning', debug: 'notice', note: 'notice' }[kind];
   const title = code === null ? 'sassw' : `sassw fault ${code}`;
   const place = path ? `file=${property(path)},line=${from.line},col=${from.column},endLine=${to.line},endColumn=${to.column},` : '';
   return `::${word} ${place}title=${property(title)}::${data([message, ...notes.map((it) => it.text)].join('\n'))}\n`;

@@ -2,6 +2,7 @@
 
 export { build } from './build.js';
 export { Compiler } from './compiler.js';
+export { convert } from './convert.js';
 export { explain, problemsOf } from './explain.js';
 export { FAULTS, faultOf } from './faults.js';
 export { ProgramError, findProgram } from './program.js';

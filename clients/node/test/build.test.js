@@ -173,7 +173,7 @@ test('how the command ends', async (t) => {
     const { status, out, err } = await room.run(['node', COMMAND, ...words]);
     return [status, out, err];
   };
-  assert.deepEqual(await run('--version'), [0, 'sassw-build 1.0.0\n', '']);
+  assert.deepEqual(await run('--version'), [0, 'sassw-build 1.1.0\n', '']);
   const [status, help] = await run('--help');
   assert.equal(status, 0);
   for (const it of ['SRC', 'ENTRY[:OUT]', '--out', '-I', '--jobs', '--deps', '--format', '--program']) assert.ok(help.includes(it), it);
