@@ -35,11 +35,11 @@ use Rattle.sw_convert_statements.specs.Segments.{seams}
 use Rattle.sw_convert_statements.proofs.Segments.{sheet, join, as_text, as_toks, as_passed, as_behind, value_pads, padded}
 
 -- a flag behind a space
-record IsFlag (terminal : Terminal) (sort : Sort) (word : List ℕ) : Type 0 where
-  is : is_flag_sort sort ≡ true
-  told : behind_bang sort ≡ terminal
-  closed : ends_unclosed (codes "!" ++ word) ≡ false
-  segment : (before : Before)
+pub record IsFlag (terminal : Terminal) (sort : Sort) (word : List ℕ) : Type 0 where
+  pub is : is_flag_sort sort ≡ true
+  pub told : behind_bang sort ≡ terminal
+  pub closed : ends_unclosed (codes "!" ++ word) ≡ false
+  pub segment : (before : Before)
       → Segment before (codes " !" ++ word) (again.sign terminals.Ending ∷ again.sign terminal ∷ [])
       (apart sorts.Exclamation terminals.Ending ∷ direct sort terminal ∷ []) befores.Other (Follows word)
 
@@ -52,7 +52,7 @@ bang before b fits =
     (λ inside after code next. sign_token kinds.Exclamation after inside befores.White refl code refl
     (subst (λ (t : List ℕ). Fits kinds.Exclamation t) (sym next.1) (fits next.0)))
 
-default_flag : IsFlag terminals.Default sorts.Default (codes "default")
+pub default_flag : IsFlag terminals.Default sorts.Default (codes "default")
 unfolding code_piece word_piece name_piece sign_piece opens_url number_piece byte begins_name escape_end run_end is_hex_form quote_piece loud_piece locality.ends_unclosed locality.is_unclosed ends_unclosed
 default_flag = record {
   is = refl;
@@ -78,11 +78,11 @@ global_flag = record {
 
 -- ---- behind a text
 
-abbrev flag_of : Sort → Terminal → List Written
+abbrev pub flag_of : Sort → Terminal → List Written
 flag_of sort terminal = apart sorts.Exclamation terminals.Ending ∷ direct sort terminal ∷ []
 
 -- one flag behind the tokens of a text
-one_flag : {before : Before} {value : List ℕ} {tokens : List Tok} {passed : List Written} {terminal : Terminal}
+pub one_flag : {before : Before} {value : List ℕ} {tokens : List Tok} {passed : List Written} {terminal : Terminal}
     {sort : Sort} {word : List ℕ} → IsFlag terminal sort word
     → SheetSegment before value tokens passed befores.Other (Follows value)
     → SheetSegment before (value ++ (space_behind value ++ (codes "!" ++ word)))
@@ -100,7 +100,7 @@ one_flag {value = value} {passed = passed} {terminal = terminal} {sort = sort} {
     bang_ends : Ends (sign "!")
     bang_ends = record { slash = refl; digit = refl }
 
-flag_closed : (value word : List ℕ) → ends_unclosed (codes "!" ++ word) ≡ false
+pub flag_closed : (value word : List ℕ) → ends_unclosed (codes "!" ++ word) ≡ false
     → ends_unclosed (value ++ (space_behind value ++ (codes "!" ++ word))) ≡ false
 flag_closed value word e = unclosed_spaced value (codes "!" ++ word) (ends_unclosed value) ∙ e
 

@@ -1,4 +1,4 @@
--- `@forward` with a prefix and with members that are shown or hidden.
+-- `@forward` with a prefix, with members that are shown or hidden, and with a configuration.
 use Rattle.std.proofs.Common.{◌≡◌, ℕ, suc, true, false, List, [], ◌∷◌, ◌++◌, map, Option, append-nil, inl, refl, sym, ◌∙◌, ap, subst, append_assoc, lit<}
 use Rattle.std.specs.Prelude.{codes}
 use Rattle.sw_text_scan.specs.Bytes.{sign, byte}
@@ -6,10 +6,12 @@ use Rattle.sw_text_scan.proofs.Bounds.{and_left, and_right}
 use Rattle.sw_tree.specs.declared.load.Filter.{Filter}
 use Rattle.sw_tree.specs.declared.load.Given.{Given}
 use Rattle.sw_tree.specs.declared.load.Member.{Member}
+use Rattle.sw_tokens.specs.declared.pieces.Before.{Before}
 use Rattle.sw_tokens.specs.declared.pieces.Before.TheVariants as befores
 use Rattle.sw_tokens.specs.declared.token.TokenKind.TheVariants as kinds
 use Rattle.sw_tokens.specs.Tokens.{is_spaced}
 use Rattle.sw_parse_terminals.specs.declared.terminal.Terminal.TheVariants as terminals
+use Rattle.sw_parse_lexemes.specs.declared.sort.Sort.{Sort}
 use Rattle.sw_parse_lexemes.specs.declared.sort.Sort.TheVariants as sorts
 use Rattle.sw_parse_lexemes.specs.declared.state.Mode.TheVariants as modes
 use Rattle.sw_parse_lexemes.specs.Sorts.{quoted_sort, sort_of}
@@ -27,18 +29,19 @@ use Rattle.sw_convert_again.specs.Loads.{SpellsPrefix, SpellsMember, SpellsMoreM
 use Rattle.sw_convert_again.specs.Loads as spells
 use Rattle.sw_convert_again.proofs.Tokens.{one_byte}
 use Rattle.sw_convert_tokens.specs.Joints.{Segment}
-use Rattle.sw_convert_tokens.specs.Written.{Follows}
+use Rattle.sw_convert_tokens.specs.Written.{Follows, is_calm}
 use Rattle.sw_convert_tokens.specs.Values.{WasRead}
 use Rattle.sw_convert_tokens.proofs.Joins.{join, as_behind}
 use Rattle.sw_convert_tokens.proofs.Signs.{Anything, sign_segment, sign_token}
 use Rattle.sw_convert_tokens.proofs.Stops.{Behind}
 use Rattle.sw_convert_tokens.proofs.Unclosed.{space_ends, follows_end}
-use Rattle.sw_convert_heads_passing.specs.Loads.{ForwardPrefix, MemberName, MemberNames, ForwardFilter, no_prefix, as_prefix, named_member, variable_member, one_member, more_members, no_filter, shown, hidden, forward_head}
-use Rattle.sw_convert_heads_passing.specs.Loads as loads
+use Rattle.sw_convert_heads_passing.specs.Loads.{is_url, ForwardPrefix, MemberName, MemberNames, ForwardFilter, no_prefix, as_prefix, named_member, variable_member, one_member, more_members, no_filter, shown, hidden, forward_head}
 use Rattle.sw_convert_heads_passing.specs.Statements.{loading}
+use Rattle.sw_convert_texts.specs.RawTexts.{SheetSegment}
 use Rattle.sw_convert_statements.specs.Segments.{FrontWritten}
-use Rattle.sw_convert_statements.specs.Fronts.{is_prefix, is_member, are_members, is_filter, is_unconfigured}
+use Rattle.sw_convert_statements.specs.Fronts.{ValuesAreKnown, is_prefix, is_member, are_members, is_filter, is_forward_configuration}
 use Rattle.sw_convert_statements.proofs.Callables.{name_ends, member_written}
+use Rattle.sw_convert_statements.proofs.ForwardConfigurations.{forward_configured}
 use Rattle.sw_convert_statements.proofs.Keywords.{keyword, spaced_word}
 use Rattle.sw_convert_statements.proofs.Loads.{quoted_told, url_segment}
 use Rattle.sw_convert_statements.proofs.OneName.{one_name, name_segment, name_sort}
@@ -185,49 +188,75 @@ filter_written source was (spells.hidden {member = member} {members = members} o
       segment = join (spaced_word sorts.Hide refl befores.Other) names.segment (λ after ok. (text ++ after, refl));
     }
 
--- ---- all of it, without a configuration
+-- ---- all of it
+
+-- up to its configuration
+record IsForward (text : List ℕ) (tokens : List Tok) (before : Before) : Type 0 where
+  sort : Sort
+  is : is_url true sort ≡ true
+  prefix : List Written
+  filter : List Written
+  renamed : ForwardPrefix prefix
+  members : ForwardFilter filter
+  segment : SheetSegment before text tokens
+      (written sorts.AtForward (is_spaced before) terminals.AtForward ∷ apart sort terminals.LoadUrl ∷ (prefix ++ filter))
+      befores.Other (Follows text)
 
 module _ (source : Source) (i : ℕ) (was : WasRead source) where
   abbrev address : List ℕ
   address = string_text (decoded_at source i)
 
-  pub forward_written : {j k m l : ℕ} {prefix : Option (List ℕ)} {filter : Filter} {givens : List Given}
-      {tokens others more : List Tok} → (renamed : SpellsPrefix source j k prefix tokens) → is_prefix source renamed ≡ true
-      → (members : SpellsFilter source k m filter others) → is_filter source members ≡ true
-      → (settings : SpellsConfiguration source m l givens more) → is_unconfigured settings ≡ true
-      → FrontWritten modes.Forward
-      (configured givens (codes "@forward " ++ (address ++ (prefix_text prefix ++ filter_text filter))))
-      (again.sign terminals.AtForward ∷ tok terminals.LoadUrl (Decoded (decoded_at source i))
-      ∷ (tokens ++ (others ++ more)))
-  forward_written {prefix = prefix} {filter = filter} {tokens = tokens} {others = others} renamed t members u
-      spells.no_configuration n before calm =
+  abbrev address_token : Tok
+  address_token = tok terminals.LoadUrl (Decoded (decoded_at source i))
+
+  forward_of : {j k m : ℕ} {prefix : Option (List ℕ)} {filter : Filter} {tokens others : List Tok}
+      → (renamed : SpellsPrefix source j k prefix tokens) → is_prefix source renamed ≡ true
+      → (members : SpellsFilter source k m filter others) → is_filter source members ≡ true → (before : Before)
+      → is_calm before ≡ true
+      → IsForward (codes "@forward " ++ (address ++ (prefix_text prefix ++ filter_text filter)))
+      (again.sign terminals.AtForward ∷ address_token ∷ (tokens ++ others)) before
+  forward_of {prefix = prefix} {filter = filter} renamed t members u before calm =
       let one = prefix_written source renamed t in
       let two = filter_written source was members u in
-      let url = decoded_at source i in
       let tail = prefix_text prefix ++ filter_text filter in
       let front = codes "@forward " ++ (address ++ prefix_text prefix) in
       let whole : front ++ filter_text filter ≡ codes "@forward " ++ (address ++ tail) =
       ap (λ (x : List ℕ). codes "@forward " ++ x) (append_assoc address (prefix_text prefix) (filter_text filter)) in record {
-        passed = written sorts.AtForward (is_spaced before) terminals.AtForward ∷ apart (quoted_sort url) terminals.LoadUrl
-            ∷ (one.passed ++ (two.passed ++ []));
-        first = refl;
-        front = loading (forward_head (quoted_sort url) (quoted_told url).0 one.are two.are loads.ForwardConfiguration.not_configured);
-        end = befores.Other;
-        loose = λ x. refl;
-        segment = segments.as_text (sym (append-nil (codes "@forward " ++ (address ++ tail))))
-            (segments.as_toks
-            (ap (λ (l : List Tok). again.sign terminals.AtForward ∷ tok terminals.LoadUrl (Decoded url) ∷ (tokens ++ l))
-            (sym (append-nil others)))
-            (segments.as_passed
-            (ap (λ (l : List Written). written sorts.AtForward (is_spaced before) terminals.AtForward ∷ apart (quoted_sort url) terminals.LoadUrl ∷ (one.passed ++ l))
-            (sym (append-nil two.passed)))
-            (segments.as_behind
-            (λ after e. two.ends front after
-            (subst (λ (x : List ℕ). Follows x after)
-            (append-nil (codes "@forward " ++ (address ++ tail)) ∙ sym whole) (text_follows _ after e)))
+        sort = quoted_sort (decoded_at source i);
+        is = (quoted_told (decoded_at source i)).0;
+        prefix = one.passed;
+        filter = two.passed;
+        renamed = one.are;
+        members = two.are;
+        segment = segments.as_behind
+            (λ after f. two.ends front after (subst (λ (x : List ℕ). Follows x after) (sym whole) f))
             (segments.join (sheet ((keyword terminals.AtForward sorts.AtForward refl).segment before calm))
             (segments.join (url_segment source i was befores.Other)
             (sheet (join one.segment two.segment (λ after ok. tt))) (λ after ok. tt))
-            (λ after ok. ((address ++ tail) ++ after, inl refl))))));
+            (λ after ok. ((address ++ tail) ++ after, inl refl)));
       }
-  forward_written renamed t members u _ n before calm = absurd (cc)
+
+  pub forward_written : ValuesAreKnown source → {j k m l : ℕ} {prefix : Option (List ℕ)} {filter : Filter}
+      {givens : List Given} {tokens others more : List Tok} → (renamed : SpellsPrefix source j k prefix tokens)
+      → is_prefix source renamed ≡ true → (members : SpellsFilter source k m filter others)
+      → is_filter source members ≡ true → (settings : SpellsConfiguration source m l givens more)
+      → is_forward_configuration settings ≡ true
+      → FrontWritten modes.Forward
+      (configured givens (codes "@forward " ++ (address ++ (prefix_text prefix ++ filter_text filter))))
+      (again.sign terminals.AtForward ∷ address_token ∷ (tokens ++ (others ++ more)))
+  forward_written values {tokens = tokens} {others = others} {more = more} renamed t members u settings s before calm =
+      let it = forward_of renamed t members u before calm in
+      let all = forward_configured was values it.segment settings s in
+      let head = written sorts.AtForward (is_spaced before) terminals.AtForward in
+      let url = apart it.sort terminals.LoadUrl in record {
+        passed = head ∷ url ∷ (it.prefix ++ (it.filter ++ all.configuration));
+        first = refl;
+        front = loading (forward_head it.sort it.is it.renamed it.members all.are);
+        end = befores.Other;
+        loose = λ u. refl;
+        segment = segments.as_behind (λ after e. text_follows _ after e)
+            (segments.as_toks
+            (ap (λ (l : List Tok). again.sign terminals.AtForward ∷ address_token ∷ l) (append_assoc tokens others more))
+            (segments.as_passed
+            (ap (λ (l : List Written). head ∷ url ∷ l) (append_assoc it.prefix it.filter all.configuration)) all.segment));
+      }

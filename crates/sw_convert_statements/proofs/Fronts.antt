@@ -65,7 +65,7 @@ fronts_written source was known i j statement tokens (spells.at_root_block span 
 fronts_written source was known i j statement tokens
     (spells.forward_line {i = k} span one two renamed members settings end) t =
     let rest = and_right (is_prefix source renamed) _ t in
-    forward_written source (suc k) was renamed (and_left (is_prefix source renamed) _ t) members
+    forward_written source (suc k) was known renamed (and_left (is_prefix source renamed) _ t) members
     (and_left (is_filter source members) _ rest) settings (and_right (is_filter source members) _ rest)
 fronts_written source was known i j statement tokens (spells.use_line {i = k} span one two name settings end) t =
     use_written source (suc k) was known name (and_left (is_namespace source name) _ t) settings

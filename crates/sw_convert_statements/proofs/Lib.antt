@@ -15,6 +15,7 @@ mod Bounds
 mod Includes
 mod Configurations
 pub mod Loads
+mod ForwardConfigurations
 mod Forwards
 pub mod Fronts
 pub mod Texts

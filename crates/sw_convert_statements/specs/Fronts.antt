@@ -60,22 +60,40 @@ is_mixin_name source (own_name {i} old) = is_one_name (name_text (name_at source
 is_mixin_name source (owned_name {i} owner dot old) =
     is_one_name (name_text (name_at source (suc (suc i)))) && goes_behind_dot (name_text (name_at source (suc (suc i))))
 
--- variables are configured with single values, and without `!default`
-abbrev pub is_single_value : {source : Source} {i j : ℕ} {given : Given} {tokens : List Tok}
+-- variables are configured without `!default`, which `@use` never has
+abbrev pub is_use_entry : {source : Source} {i j : ℕ} {given : Given} {tokens : List Tok}
     → SpellsConfigured source i j given tokens → Bool
-is_single_value (spells_loads.configured_variable {value = value} dollar name colon spelt) = not (is_bare value)
-is_single_value _ = false
+is_use_entry (spells_loads.configured_variable dollar name colon spelt) = true
+is_use_entry _ = false
 
-abbrev pub are_single_values : {source : Source} {i j : ℕ} {givens : List Given} {tokens : List Tok}
+abbrev pub are_use_entries : {source : Source} {i j : ℕ} {givens : List Given} {tokens : List Tok}
     → SpellsMoreConfigured source i j givens tokens → Bool
-are_single_values spells_loads.no_more_configured = true
-are_single_values (spells_loads.more_configured comma one more) = is_single_value one && are_single_values more
+are_use_entries spells_loads.no_more_configured = true
+are_use_entries (spells_loads.more_configured comma one more) = is_use_entry one && are_use_entries more
 
-abbrev pub configures_plainly : {source : Source} {i j : ℕ} {givens : List Given} {tokens : List Tok}
+abbrev pub is_use_configuration : {source : Source} {i j : ℕ} {givens : List Given} {tokens : List Tok}
     → SpellsConfiguration source i j givens tokens → Bool
-configures_plainly spells_loads.no_configuration = true
-configures_plainly (spells_loads.some_configuration with_word opens one more end closes) =
-    is_single_value one && are_single_values more
+is_use_configuration spells_loads.no_configuration = true
+is_use_configuration (spells_loads.some_configuration with_word opens one more end closes) =
+    is_use_entry one && are_use_entries more
+
+-- variables are configured with single values, with `!default` or without, as `@forward` has them
+abbrev pub is_forward_entry : {source : Source} {i j : ℕ} {given : Given} {tokens : List Tok}
+    → SpellsConfigured source i j given tokens → Bool
+is_forward_entry (spells_loads.configured_variable {value = value} dollar name colon spelt) = not (is_bare value)
+is_forward_entry (spells_loads.configured_default {value = value} dollar name colon spelt bang default) =
+    not (is_bare value)
+
+abbrev pub are_forward_entries : {source : Source} {i j : ℕ} {givens : List Given} {tokens : List Tok}
+    → SpellsMoreConfigured source i j givens tokens → Bool
+are_forward_entries spells_loads.no_more_configured = true
+are_forward_entries (spells_loads.more_configured comma one more) = is_forward_entry one && are_forward_entries more
+
+abbrev pub is_forward_configuration : {source : Source} {i j : ℕ} {givens : List Given} {tokens : List Tok}
+    → SpellsConfiguration source i j givens tokens → Bool
+is_forward_configuration spells_loads.no_configuration = true
+is_forward_configuration (spells_loads.some_configuration with_word opens one more end closes) =
+    is_forward_entry one && are_forward_entries more
 
 -- the url gives a namespace, or one is written, and is one name
 abbrev pub is_namespace : (source : Source) {url i j : ℕ} {namespace : Namespace} {tokens : List Tok}
@@ -84,7 +102,7 @@ is_namespace source {url = url} spells_loads.default_namespace = has_namespace (
 is_namespace source (spells_loads.written_namespace {i} as_word name) = is_one_name (bytes_at source (suc i))
 is_namespace source (spells_loads.without_namespace as_word star) = true
 
--- the prefix of `@forward` is one name, and so are the members that it shows or hides; nothing is configured
+-- the prefix of `@forward` is one name, and so are the members that it shows or hides
 abbrev pub is_prefix : (source : Source) {i j : ℕ} {prefix : Option (List ℕ)} {tokens : List Tok}
     → SpellsPrefix source i j prefix tokens → Bool
 is_prefix source spells_loads.no_prefix = true
@@ -106,11 +124,6 @@ is_filter source spells_loads.no_filter = true
 is_filter source (spells_loads.shown old one more) = is_member source one && are_members source more
 is_filter source (spells_loads.hidden old one more) = is_member source one && are_members source more
 
-abbrev pub is_unconfigured : {source : Source} {i j : ℕ} {givens : List Given} {tokens : List Tok}
-    → SpellsConfiguration source i j givens tokens → Bool
-is_unconfigured spells_loads.no_configuration = true
-is_unconfigured _ = false
-
 -- no word stands among these tokens
 abbrev pub is_word_token : List Terminal → Bool
 is_word_token (terminals.Word ∷ []) = true
@@ -121,8 +134,8 @@ wordless [] = true
 wordless (token ∷ tokens) = not (is_word_token token.kinds) && wordless tokens
 
 -- the statements of which it is proved: those of values, `@each`, `@for` with bounds without words, variables with flags,
--- assignments, `@charset`, `@content`, `@at-root` without a selector, `@forward` without a configuration, `@use`, and
--- functions, mixins and `@include`, where their names are such
+-- assignments, `@charset`, `@content`, `@at-root` without a selector, `@forward`, `@use`, and functions, mixins and
+-- `@include`, where their names are such
 abbrev pub is_told : {source : Source} {i j : ℕ} {statement : Statement} {tokens : List Tok}
     → SpellsStatement source i j statement tokens → Bool
 is_told (spells.return_line span old inner end) = true
@@ -138,9 +151,9 @@ is_told {source} (spells.include_block span name_span old mixin given using bloc
     is_mixin_name source mixin && writes_using using
 is_told (spells.at_root_block span old block) = true
 is_told {source} (spells.forward_line span one two renamed members settings end) =
-    is_prefix source renamed && (is_filter source members && is_unconfigured settings)
+    is_prefix source renamed && (is_filter source members && is_forward_configuration settings)
 is_told {source} (spells.use_line span one two name settings end) =
-    is_namespace source name && configures_plainly settings
+    is_namespace source name && is_use_configuration settings
 is_told {source} (spells.function_block {i} span one two head block) = is_one_name (name_text (name_at source (suc i)))
 is_told {source} (spells.mixin_block {i} span one two head block) =
     is_one_name (name_text (name_at source (suc i))) && writes_params head
