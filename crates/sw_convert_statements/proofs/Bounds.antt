@@ -1,8 +1,7 @@
--- `@for` with bounds in which no word stands by itself.
-use Rattle.std.proofs.Common.{◌≡◌, ℕ, Bool, true, false, not, ◌&&◌, List, [], ◌∷◌, ◌++◌, append-nil, inl, refl, sym, ◌∙◌, ap, subst, append_assoc}
+-- `@for` with bounds in which no word is `to` or `through`.
+use Rattle.std.proofs.Common.{◌≡◌, ℕ, Bool, true, false, List, [], ◌∷◌, ◌++◌, append-nil, inl, refl, sym, ◌∙◌, ap, subst, append_assoc}
 use Rattle.std.specs.Prelude.{codes}
 use Rattle.sw_text_scan.specs.Bytes.{sign}
-use Rattle.sw_text_scan.proofs.Bounds.{and_left, and_right}
 use Rattle.sw_tokens.specs.declared.pieces.Before.{Before}
 use Rattle.sw_tokens.specs.declared.pieces.Before.TheVariants as befores
 use Rattle.sw_tokens.specs.Tokens.{is_spaced}
@@ -20,12 +19,10 @@ use Rattle.sw_convert_written.specs.Escapes.{ends_unclosed}
 use Rattle.sw_convert_written.specs.Heads.{end_word, then_word}
 use Rattle.sw_convert_written.specs.Names.{dollar_name}
 use Rattle.sw_convert_passing.specs.Written.{Written, written, direct, apart}
-use Rattle.sw_convert_passing.specs.Values.{Value, Word, Row, dollar, seam}
-use Rattle.sw_convert_passing.specs.Values as values
+use Rattle.sw_convert_passing.specs.Values.{dollar, seam}
 use Rattle.sw_convert_again.specs.Tokens.{Tok, Old}
 use Rattle.sw_convert_again.specs.Tokens as again
 use Rattle.sw_convert_again.specs.Params.{dollar_tokens}
-use Rattle.sw_convert_tokens.specs.Joints.{Joint, Token, Apart, Segment, toks, writtens}
 use Rattle.sw_convert_tokens.specs.Written.{Follows, AsRow, WrittenAs}
 use Rattle.sw_convert_tokens.specs.Values.{WasRead}
 use Rattle.sw_convert_tokens.proofs.Spaces.{BeginsSpace, space_by, space_text, follows_spaced}
@@ -34,98 +31,11 @@ use Rattle.sw_convert_heads_passing.specs.Flow.{parted, is_bound, bound, for_hea
 use Rattle.sw_convert_heads_passing.specs.Statements.{bounded}
 use Rattle.sw_convert_texts.specs.RawTexts.{SheetSegment}
 use Rattle.sw_convert_statements.specs.Segments.{seams, FrontWritten}
-use Rattle.sw_convert_statements.specs.Fronts.{is_word_token, wordless}
+use Rattle.sw_convert_statements.specs.Fronts.{is_unbounded}
+use Rattle.sw_convert_statements.proofs.BoundWords.{segment_free, rerow}
 use Rattle.sw_convert_statements.proofs.Flow.{dollar_written}
 use Rattle.sw_convert_statements.proofs.Keywords.{keyword, spaced_word}
 use Rattle.sw_convert_statements.proofs.Segments.{sheet, join, as_text, as_toks, as_passed, as_behind, text_follows, value_pads, padded}
-
--- ---- values without words
-
-free : List Written → Bool
-free [] = true
-free (one ∷ rest) = not (is_word_token one.may_be) && free rest
-
-free_left : (left right : List Written) → free (left ++ right) ≡ true → free left ≡ true
-unfolding free
-free_left [] right f = refl
-free_left (one ∷ left) right f = both (not (is_word_token one.may_be)) (free left)
-    (and_left (not (is_word_token one.may_be)) _ f) (free_left left right (and_right (not (is_word_token one.may_be)) _ f))
-  where
-    both : (a b : Bool) → a ≡ true → b ≡ true → (a && b) ≡ true
-    both true b e g = g
-    both false b e g = absurd (cc)
-
-free_right : (left right : List Written) → free (left ++ right) ≡ true → free right ≡ true
-unfolding free
-free_right [] right f = f
-free_right (one ∷ left) right f = free_right left right (and_right (not (is_word_token one.may_be)) _ f)
-
-free_behind : (one : Written) (rest : List Written) → free (one ∷ rest) ≡ true → free rest ≡ true
-unfolding free
-free_behind one rest f = and_right (not (is_word_token one.may_be)) _ f
-
-joints_free : (joints : List Joint) → wordless (toks joints) ≡ true → free (writtens joints) ≡ true
-unfolding free
-joints_free [] w = refl
-joints_free (Token seen ∷ joints) w = both (not (is_word_token seen.may_be)) (free (writtens joints))
-    (and_left (not (is_word_token seen.may_be)) _ w) (joints_free joints (and_right (not (is_word_token seen.may_be)) _ w))
-  where
-    both : (a b : Bool) → a ≡ true → b ≡ true → (a && b) ≡ true
-    both true b e g = g
-    both false b e g = absurd (cc)
-joints_free (Apart ∷ joints) w = joints_free joints w
-
-segment_free : {before end : Before} {text : List ℕ} {tokens : List Tok} {passed : List Written} {P : List ℕ → Type 0}
-    → Segment before text tokens passed end P → wordless tokens ≡ true → free passed ≡ true
-segment_free a w = ap free (sym a.written) ∙ joints_free a.joints (ap wordless a.seen ∙ w)
-
--- such a word begins with `#{}`
-reword : {spaced owned called : Bool} {tokens : List Written} → Word modes.Expression spaced owned called tokens
-    → free tokens ≡ true → Word modes.Bounds spaced owned called tokens
-unfolding free
-reword (values.named sort n test parts) f = absurd (let wrong : false ≡ true = f in cc)
-reword (values.begun inside parts) f = values.begun inside parts
-reword (values.begun_minus inside parts) f = values.begun_minus inside parts
-
--- such a value may be a bound
-rebound : {spaced signed : Bool} {tokens : List Written} → Value modes.Expression spaced signed tokens → free tokens ≡ true
-    → Value modes.Bounds spaced signed tokens
-rebound (values.number sort n) f = values.number sort n
-rebound (values.negative sort n) f = values.negative sort n
-rebound (values.quoted sort q) f = values.quoted sort q
-rebound (values.template pieces) f = values.template pieces
-rebound (values.hash sort h) f = values.hash sort h
-rebound (values.constant sort c) f = values.constant sort c
-rebound (values.lone_value sort l) f = values.lone_value sort l
-rebound (values.url_template pieces) f = values.url_template pieces
-rebound (values.variable name n) f = values.variable name n
-rebound (values.owned_variable owner name o n) f = values.owned_variable owner name o n
-rebound (values.owned_call {name = name} {call = call} owner o named called) f =
-    values.owned_call owner o
-    (reword named (free_left name call (free_behind _ (name ++ call) (free_behind _ (direct sorts.Dot terminals.OwnerDot ∷ (name ++ call)) f))))
-    called
-rebound (values.word named) f = values.word (reword named f)
-rebound (values.call {name = name} {call = call} named called) f = values.call (reword named (free_left name call f)) called
-rebound values.important f = values.important
-rebound (values.in_parens inside) f = values.in_parens inside
-rebound (values.in_brackets inside) f = values.in_brackets inside
-rebound (values.negated {value = value} one) f = values.negated (rebound one (free_behind _ value f))
-rebound (values.prefixed {value = value} sort p one) f = values.prefixed sort p (rebound one (free_behind _ value f))
-rebound (values.linked {left = left} {right = right} one sort o two) f =
-    values.linked (rebound one (free_left left _ f)) sort o (rebound two (free_behind _ right (free_right left _ f)))
-rebound (values.divided {left = left} {right = right} one two) f =
-    values.divided (rebound one (free_left left _ f)) (rebound two (free_behind _ right (free_right left _ f)))
-rebound (values.beside {left = left} {right = right} one two) f =
-    values.beside (rebound one (free_left left right f)) (rebound two (free_right left right f))
-rebound (values.special blank text) f = values.special blank text
-rebound (values.seamed {value = value} one) f = values.seamed (rebound one (free_left value _ f))
-
-rerow : {spaced ended : Bool} {tokens : List Written} → Row modes.Expression spaced ended tokens → free tokens ≡ true
-    → Row modes.Bounds spaced ended tokens
-rerow (values.first one) f = values.first (rebound one f)
-rerow (values.separated {row = row} more sort s) f = values.separated (rerow more (free_left row _ f)) sort s
-rerow (values.further {row = row} {value = value} more one) f =
-    values.further (rerow more (free_left row value f)) (rebound one (free_right row value f))
 
 -- ---- the word between the bounds
 
@@ -217,7 +127,7 @@ parted_more false one rest = refl
 
 pub for_written : (source : Source) → WasRead source → {i c : ℕ} → Old source i (just terminals.VariableName)
     → (old : Old source c (these (terminals.Through ∷ terminals.To ∷ []))) → {from to : List ℕ} {ks os : List Tok}
-    → WrittenAs AsRow from ks → wordless ks ≡ true → WrittenAs AsRow to os → wordless os ≡ true
+    → WrittenAs AsRow from ks → is_unbounded from ks ≡ true → WrittenAs AsRow to os → is_unbounded to os ≡ true
     → FrontWritten modes.Bounds
     (then_word (end_word (stands_at source c terminals.Through))
     (then_word (codes "from ") (codes "@for " ++ dollar_name (name_at source i)) ++ from)

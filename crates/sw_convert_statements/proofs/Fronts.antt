@@ -6,14 +6,14 @@ use Rattle.sw_parse_table.specs.Sources.{bytes_at}
 use Rattle.sw_parse_table.specs.Actions.{flags_at, name_at, mixin_of}
 use Rattle.sw_parse_terminals.specs.declared.terminal.Terminal.TheVariants as terminals
 use Rattle.sw_parse_lexemes.specs.declared.state.Mode.TheVariants as modes
-use Rattle.sw_convert_written.specs.Expressions.{space_text}
+use Rattle.sw_convert_written.specs.Expressions.{expr_text, space_text}
 use Rattle.sw_convert_written.specs.Heads.{given_arguments, include_text, using_params}
 use Rattle.sw_convert_written.specs.Names.{name_text}
 use Rattle.sw_convert_again.specs.Tokens.{Tok}
 use Rattle.sw_convert_again.specs.Tokens as again
 use Rattle.sw_convert_again.specs.Statements.{SpellsStatement}
 use Rattle.sw_convert_again.specs.Statements as spells
-use Rattle.sw_convert_statements.specs.Fronts.{wordless, is_mixin_name, is_namespace, is_prefix, is_filter, FrontsAreWritten, BranchesAreWritten}
+use Rattle.sw_convert_statements.specs.Fronts.{is_unbounded, is_mixin_name, is_namespace, is_prefix, is_filter, FrontsAreWritten, BranchesAreWritten}
 use Rattle.sw_convert_statements.proofs.Valued.{return_written, say_written, if_written, while_written, else_if_written}
 use Rattle.sw_convert_statements.proofs.Variables.{variable_written}
 use Rattle.sw_convert_statements.proofs.Loads.{use_written}
@@ -76,9 +76,9 @@ fronts_written source was known i j statement tokens (spells.mixin_block {i = k}
     mixin_written source was known (suc k) (and_left (is_one_name (name_text (name_at source (suc k)))) _ t) head
     (and_right (is_one_name (name_text (name_at source (suc k)))) _ t)
 fronts_written source was known i j statement tokens
-    (spells.for_block {tokens = ks} {others = os} span one two three four low old high block) t =
-    for_written source was three old (known.rows _ _ _ _ low) (and_left (wordless ks) _ t) (known.rows _ _ _ _ high)
-    (and_right (wordless ks) _ t)
+    (spells.for_block {from = from} {tokens = ks} span one two three four low old high block) t =
+    for_written source was three old (known.rows _ _ _ _ low) (and_left (is_unbounded (expr_text from) ks) _ t)
+    (known.rows _ _ _ _ high) (and_right (is_unbounded (expr_text from) ks) _ t)
 fronts_written source was known i j statement tokens (spells.while_block span old inner block) t =
     while_written (known.rows _ _ _ _ inner)
 fronts_written source was known i j statement tokens (spells.if_block span old inner block further otherwise) t =

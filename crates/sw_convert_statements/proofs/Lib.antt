@@ -11,6 +11,8 @@ mod Params
 mod Callables
 mod Arguments
 pub mod Flow
+mod WordRuns
+mod BoundWords
 mod Bounds
 mod Includes
 mod Configurations

@@ -1,6 +1,8 @@
 -- What is written of statements with values, up to their end or their block, is their tokens, where what is written of the
 -- values is.
-use Rattle.std.specs.Prelude.{◌≡◌, ℕ, suc, Bool, true, false, not, ◌&&◌, List, ◌∷◌, ◌++◌, Option, codes, []}
+use Rattle.std.specs.Prelude.{◌≡◌, ℕ, suc, Bool, true, false, not, ◌&&◌, ◌||◌, List, ◌∷◌, ◌++◌, take, Option, codes, []}
+use Rattle.sw_text_scan.specs.declared.runs.Class.TheVariants as classes
+use Rattle.sw_text_scan.specs.Runs.{run_end}
 use Rattle.sw_tree.specs.declared.callable.Params.{Params}
 use Rattle.sw_tree.specs.declared.expr.Expr.{Expr}
 use Rattle.sw_tree.specs.declared.expr.Namespaced.{Namespaced}
@@ -12,6 +14,7 @@ use Rattle.sw_tree.specs.declared.statement.Statement.{Statement}
 use Rattle.sw_parse_terminals.specs.declared.terminal.Terminal.{Terminal}
 use Rattle.sw_parse_terminals.specs.declared.terminal.Terminal.TheVariants as terminals
 use Rattle.sw_parse_lexemes.specs.declared.state.Mode.TheVariants as modes
+use Rattle.sw_parse_lexemes.specs.Words.{word_sort}
 use Rattle.sw_parse_table.specs.declared.source.Source.{Source}
 use Rattle.sw_parse_terminals.specs.Urls.{has_namespace}
 use Rattle.sw_parse_table.specs.Sources.{bytes_at, decoded_at}
@@ -19,6 +22,7 @@ use Rattle.sw_parse_table.specs.Actions.{name_at, flags_at}
 use Rattle.sw_convert_written.specs.Expressions.{expr_text}
 use Rattle.sw_convert_written.specs.Heads.{has_none}
 use Rattle.sw_convert_written.specs.Names.{name_text}
+use Rattle.sw_convert_passing.specs.Kinds.{is_bound}
 use Rattle.sw_convert_again.specs.Tokens.{Tok, sign}
 use Rattle.sw_convert_again.specs.Spells.{Spells, SpellsPlain}
 use Rattle.sw_convert_again.specs.Statements.{SpellsStatement}
@@ -133,7 +137,19 @@ abbrev pub wordless : List Tok → Bool
 wordless [] = true
 wordless (token ∷ tokens) = not (is_word_token token.kinds) && wordless tokens
 
--- the statements of which it is proved: those of values, `@each`, `@for` with bounds without words, variables with flags,
+-- a word that ends a bound begins the text, or begins in it
+abbrev pub begins_bound : List ℕ → Bool
+begins_bound text = is_bound (word_sort (take (run_end classes.Word text 0) text))
+
+abbrev pub has_bound : List ℕ → Bool
+has_bound [] = false
+has_bound (b ∷ text) = begins_bound (b ∷ text) || has_bound text
+
+-- a bound in which no word stands, or no name ends with `to` or `through`
+abbrev pub is_unbounded : List ℕ → List Tok → Bool
+is_unbounded text tokens = wordless tokens || not (has_bound text)
+
+-- the statements of which it is proved: those of values, `@each`, `@for` with such bounds, variables with flags,
 -- assignments, `@charset`, `@content`, `@at-root` without a selector, `@forward`, `@use`, and functions, mixins and
 -- `@include`, where their names are such
 abbrev pub is_told : {source : Source} {i j : ℕ} {statement : Statement} {tokens : List Tok}
@@ -157,8 +173,10 @@ is_told {source} (spells.use_line span one two name settings end) =
 is_told {source} (spells.function_block {i} span one two head block) = is_one_name (name_text (name_at source (suc i)))
 is_told {source} (spells.mixin_block {i} span one two head block) =
     is_one_name (name_text (name_at source (suc i))) && writes_params head
-is_told (spells.for_block {tokens = tokens} {others = others} span one two three four low old high block) =
-    wordless tokens && wordless others
+is_told
+    (spells.for_block {from = from} {to = to} {tokens = tokens} {others = others} span one two three four low old high
+    block) =
+    is_unbounded (expr_text from) tokens && is_unbounded (expr_text to) others
 is_told (spells.while_block span old inner block) = true
 is_told (spells.if_block span old inner block further otherwise) = true
 is_told (spells.each_block span one two three names in_word inner block) = true
