@@ -44,7 +44,7 @@ use Rattle.sw_convert_statements.proofs.Variables.{colon_segment}
 -- ---- values one behind the other
 
 -- a row of values behind a sign
-row_behind : {mode : Mode} {spaced ended : Bool} {left row : List Written} → Row mode spaced false left
+pub row_behind : {mode : Mode} {spaced ended : Bool} {left row : List Written} → Row mode spaced false left
     → Row mode true ended row → Row mode spaced ended (left ++ row)
 row_behind before (first one) = further before one
 row_behind {mode} {spaced} {left = left} before (separated {row = row} more sort s) =

@@ -2,6 +2,7 @@
 use Rattle.std.proofs.Common.{ℕ, suc, List, ◌∷◌, ◌++◌, subst, append_assoc}
 use Rattle.std.specs.Prelude.{codes}
 use Rattle.sw_text_scan.proofs.Bounds.{and_left, and_right, not_true}
+use Rattle.sw_tree.specs.declared.text.Parts.TheVariants.{Mixed}
 use Rattle.sw_parse_table.specs.Sources.{bytes_at}
 use Rattle.sw_parse_table.specs.Actions.{flags_at, name_at, mixin_of}
 use Rattle.sw_parse_terminals.specs.declared.terminal.Terminal.TheVariants as terminals
@@ -14,6 +15,8 @@ use Rattle.sw_convert_again.specs.Tokens as again
 use Rattle.sw_convert_again.specs.Statements.{SpellsStatement}
 use Rattle.sw_convert_again.specs.Statements as spells
 use Rattle.sw_convert_statements.specs.Fronts.{is_unbounded, is_mixin_name, is_namespace, is_prefix, is_filter, FrontsAreWritten, BranchesAreWritten}
+use Rattle.sw_convert_statements.specs.Media.{is_seamless}
+use Rattle.sw_convert_statements.proofs.Queries.{media_written}
 use Rattle.sw_convert_statements.proofs.Valued.{return_written, say_written, if_written, while_written, else_if_written}
 use Rattle.sw_convert_statements.proofs.Variables.{variable_written}
 use Rattle.sw_convert_statements.proofs.Loads.{use_written}
@@ -86,6 +89,10 @@ fronts_written source was known i j statement tokens (spells.if_block span old i
 fronts_written source was known i j statement tokens
     (spells.each_block span one two three names in_word inner block) t =
     each_written source was three names (known.rows _ _ _ _ inner)
+fronts_written source was known i j statement tokens
+    (spells.media_block {list = list} span text_span old queries block) t =
+    let seamless = is_seamless (record { parts = Mixed list; span = text_span }) in
+    media_written source was known queries (and_right seamless _ t) text_span (and_left seamless _ t)
 fronts_written source was known i j statement tokens _ t = absurd (cc)
 
 pub branches_written : BranchesAreWritten

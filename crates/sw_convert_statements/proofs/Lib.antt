@@ -19,6 +19,12 @@ mod Configurations
 pub mod Loads
 mod ForwardConfigurations
 mod Forwards
+mod InsertTokens
+mod FeatureStarts
+mod MediaPieces
+mod Comparisons
+mod Features
+mod Queries
 pub mod Fronts
 pub mod Texts
 mod Dashes

@@ -81,6 +81,11 @@ module _ (source : Source) (was : WasRead source) (values : ValuesAreKnown sourc
       block_fronts block (and_right (is_known (spells.properties_value_block span text_span word mark inner block)) _ k),
     )
     fronts (spells.rule_block span raw block) k = (front (spells.rule_block span raw block) refl, block_fronts block k)
+    fronts (spells.media_block span text_span old queries block) k = (
+      front (spells.media_block span text_span old queries block)
+          (and_left (is_known (spells.media_block span text_span old queries block)) _ k),
+      block_fronts block (and_right (is_known (spells.media_block span text_span old queries block)) _ k),
+    )
     fronts (spells.if_block span old inner block further otherwise) k = (
       front (spells.if_block span old inner block further otherwise) refl,
       block_fronts block (and_left (block_known block) _ k),

@@ -11,6 +11,7 @@ use Rattle.sw_tree.specs.declared.load.Given.{Given}
 use Rattle.sw_tree.specs.declared.load.Member.{Member}
 use Rattle.sw_tree.specs.declared.load.Namespace.{Namespace}
 use Rattle.sw_tree.specs.declared.statement.Statement.{Statement}
+use Rattle.sw_tree.specs.declared.text.Parts.TheVariants.{Mixed}
 use Rattle.sw_parse_terminals.specs.declared.terminal.Terminal.{Terminal}
 use Rattle.sw_parse_terminals.specs.declared.terminal.Terminal.TheVariants as terminals
 use Rattle.sw_parse_lexemes.specs.declared.state.Mode.TheVariants as modes
@@ -35,6 +36,7 @@ use Rattle.sw_convert_tokens.specs.Written.{AsRow, AsValue, WrittenAs}
 use Rattle.sw_convert_tokens.specs.Values.{WasRead}
 use Rattle.sw_convert_statements.specs.Segments.{ElseWritten}
 use Rattle.sw_convert_statements.specs.Statements.{FrontIs}
+use Rattle.sw_convert_statements.specs.Media.{are_queries, is_seamless}
 use Rattle.sw_convert_statements.specs.OneName.{is_one_name, goes_behind_dot, is_owner}
 
 -- what is written of each value of a sheet is its tokens, and of one that is no list with commas and without brackets
@@ -150,8 +152,8 @@ abbrev pub is_unbounded : List ℕ → List Tok → Bool
 is_unbounded text tokens = wordless tokens || not (has_bound text)
 
 -- the statements of which it is proved: those of values, `@each`, `@for` with such bounds, variables with flags,
--- assignments, `@charset`, `@content`, `@at-root` without a selector, `@forward`, `@use`, and functions, mixins and
--- `@include`, where their names are such
+-- assignments, `@charset`, `@content`, `@at-root` without a selector, `@forward`, `@use`, `@media`, and functions, mixins
+-- and `@include`, where their names are such
 abbrev pub is_told : {source : Source} {i j : ℕ} {statement : Statement} {tokens : List Tok}
     → SpellsStatement source i j statement tokens → Bool
 is_told (spells.return_line span old inner end) = true
@@ -180,6 +182,8 @@ is_told
 is_told (spells.while_block span old inner block) = true
 is_told (spells.if_block span old inner block further otherwise) = true
 is_told (spells.each_block span one two three names in_word inner block) = true
+is_told {source} (spells.media_block {list = list} span text_span old queries block) =
+    is_seamless (record { parts = Mixed list; span = text_span }) && are_queries source queries
 is_told _ = false
 
 abbrev pub FrontsAreWritten : Type 0

@@ -3,6 +3,7 @@ pub mod Statements
 pub mod Written
 pub mod Sheets
 pub mod OneName
+pub mod Media
 pub mod Fronts
 pub mod Texts
 pub mod Names

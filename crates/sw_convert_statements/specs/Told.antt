@@ -42,6 +42,8 @@ abbrev mutual
   are_known (spells.properties_value_block span text_span word mark inner block) =
       is_known (spells.properties_value_block span text_span word mark inner block) && block_known block
   are_known (spells.rule_block span raw block) = block_known block
+  are_known (spells.media_block span text_span old queries block) =
+      is_known (spells.media_block span text_span old queries block) && block_known block
   are_known (spells.if_block span old inner block further otherwise) =
       block_known block && (branches_known further && else_known otherwise)
   are_known spelt = is_known spelt
