@@ -1,5 +1,5 @@
 -- The assignment of another module's variable.
-use Rattle.std.proofs.Common.{◌≡◌, ℕ, suc, Bool, true, false, not, List, [], ◌∷◌, ◌++◌, append-nil, refl, sym, ◌∙◌, ap, subst, append_assoc, lit<}
+use Rattle.std.proofs.Common.{◌≡◌, ℕ, suc, Bool, true, false, not, ◌||◌, List, [], ◌∷◌, ◌++◌, append-nil, refl, sym, ◌∙◌, ap, subst, append_assoc, lit<}
 use Rattle.std.specs.Prelude.{codes}
 use Rattle.sw_text.specs.Names.{dashed}
 use Rattle.sw_text_scan.specs.Bytes.{sign, byte}
@@ -10,21 +10,22 @@ use Rattle.sw_tokens.specs.declared.pieces.Before.TheVariants as befores
 use Rattle.sw_tokens.specs.declared.token.TokenKind.TheVariants as kinds
 use Rattle.sw_parse_terminals.specs.declared.terminal.Terminal.{Terminal}
 use Rattle.sw_parse_terminals.specs.declared.terminal.Terminal.TheVariants as terminals
-use Rattle.sw_parse_terminals.specs.Numbers.{just}
+use Rattle.sw_parse_grammar.specs.Grammar.{member}
+use Rattle.sw_parse_terminals.specs.Numbers.{number_of, just}
 use Rattle.sw_parse_lexemes.specs.declared.state.Mode.TheVariants as modes
 use Rattle.sw_parse_lexemes.specs.Classes.{is_name}
 use Rattle.sw_parse_lexemes.specs.Sorts.{sort_of}
 use Rattle.sw_parse_table.specs.declared.source.Source.{Source}
-use Rattle.sw_parse_table.specs.Sources.{bytes_at}
+use Rattle.sw_parse_table.specs.Sources.{bytes_at, terminal_at, terminal_in}
 use Rattle.sw_parse_table.specs.Values.{qualified_of}
-use Rattle.sw_parse_table.specs.Actions.{name_at}
+use Rattle.sw_parse_table.specs.Actions.{name_at, flags_at, stands_at}
 use Rattle.sw_convert_written.specs.Expressions.{qualified_text}
 use Rattle.sw_convert_written.specs.Heads.{with_flags}
 use Rattle.sw_convert_written.specs.Names.{name_text}
 use Rattle.sw_convert_passing.specs.Written.{Written}
 use Rattle.sw_convert_again.specs.Tokens.{Tok, tok, Old, Bytes, Dashed}
 use Rattle.sw_convert_again.specs.Tokens as again
-use Rattle.sw_convert_again.specs.Statements.{flag_if}
+use Rattle.sw_convert_again.specs.Statements.{OldFlags, no_flags, more_flags, flag_if}
 use Rattle.sw_convert_again.proofs.Tokens.{one_byte}
 use Rattle.sw_convert_tokens.specs.Written.{Follows, is_calm, begins_white, AsRow, WrittenAs}
 use Rattle.sw_convert_tokens.specs.Values.{WasRead}
@@ -46,6 +47,28 @@ use Rattle.sw_convert_statements.proofs.Flags.{flags_written}
 use Rattle.sw_convert_statements.proofs.KnownNames.{before_colon, name_else}
 use Rattle.sw_convert_statements.proofs.Segments.{sheet, join, as_text, as_toks, as_passed, as_behind, text_follows}
 use Rattle.sw_convert_statements.proofs.Variables.{colon_segment}
+
+-- ---- its flags
+
+-- `!global` is none of them
+only_default : (terminal : Terminal) → member (number_of terminal) (just terminals.Default) ≡ true
+    → member (number_of terminal) (just terminals.Global) ≡ false
+only_default terminals.Default m = refl
+only_default _ m = absurd (cc)
+
+no_flag_there : (source : Source) (i : ℕ) → Old source i (just terminals.Default) → stands_at source i terminals.Global ≡ false
+unfolding terminal_at
+no_flag_there source i old =
+    ap (λ (n : ℕ). member n (just terminals.Global)) (ap terminal_in old.there)
+    ∙ only_default old.lexeme.terminal old.kind
+
+pub no_global : (source : Source) {k f : ℕ} {places : List ℕ} → OldFlags source (just terminals.Default) k f places
+    → (flags_at source places).global ≡ false
+no_global source no_flags = refl
+no_global source (more_flags {i} {places = places} ending old more) =
+    ap (λ (b : Bool). b || (flags_at source places).global) (no_flag_there source (suc i) old) ∙ no_global source more
+
+-- ---- its name
 
 -- `namespace.$name:` where a statement begins
 record OwnedHead (source : Source) (i : ℕ) (before : Before) : Type 0 where

@@ -1,9 +1,8 @@
 -- Statements with values, by their kinds.
 use Rattle.std.proofs.Common.{ℕ, suc, List, ◌∷◌, ◌++◌, subst, append_assoc}
 use Rattle.std.specs.Prelude.{codes}
-use Rattle.sw_text_scan.proofs.Bounds.{and_left, and_right, not_true}
+use Rattle.sw_text_scan.proofs.Bounds.{and_left, and_right}
 use Rattle.sw_tree.specs.declared.text.Parts.TheVariants.{Mixed}
-use Rattle.sw_parse_table.specs.Sources.{bytes_at}
 use Rattle.sw_parse_table.specs.Actions.{flags_at, name_at, mixin_of}
 use Rattle.sw_parse_terminals.specs.declared.terminal.Terminal.TheVariants as terminals
 use Rattle.sw_parse_lexemes.specs.declared.state.Mode.TheVariants as modes
@@ -22,9 +21,9 @@ use Rattle.sw_convert_statements.proofs.Variables.{variable_written}
 use Rattle.sw_convert_statements.proofs.Loads.{use_written}
 use Rattle.sw_convert_statements.proofs.Forwards.{forward_written}
 use Rattle.sw_convert_statements.specs.Segments.{FrontWritten}
-use Rattle.sw_convert_statements.specs.OneName.{is_one_name, is_owner}
+use Rattle.sw_convert_statements.specs.OneName.{is_one_name}
 use Rattle.sw_convert_statements.proofs.Bounds.{for_written}
-use Rattle.sw_convert_statements.proofs.Assignments.{assignment_written}
+use Rattle.sw_convert_statements.proofs.Assignments.{no_global, assignment_written}
 use Rattle.sw_convert_statements.proofs.Arguments.{given_written}
 use Rattle.sw_convert_statements.proofs.Includes.{content_called, include_line_written, using_written}
 use Rattle.sw_convert_statements.proofs.Callables.{function_written, mixin_written}
@@ -40,9 +39,7 @@ fronts_written source was known i j statement tokens
     variable_written source (suc k) was two (known.rows _ _ _ _ inner) (flags_at source places)
 fronts_written source was known i j statement tokens
     (spells.assignment_line {i = k} {places = places} span target_span one two three four five inner flags end) t =
-    assignment_written source k was one four (and_left (is_owner (bytes_at source k)) _ t) (known.rows _ _ _ _ inner)
-    (flags_at source places)
-    (not_true (flags_at source places).global (and_right (is_owner (bytes_at source k)) _ t))
+    assignment_written source k was one four t (known.rows _ _ _ _ inner) (flags_at source places) (no_global source flags)
 fronts_written source was known i j statement tokens (spells.charset_line span one two end) t = charset_written
 fronts_written source was known i j statement tokens (spells.content_line span old given end) t =
     content_called (given_written source was known given)

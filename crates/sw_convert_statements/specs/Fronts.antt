@@ -19,7 +19,7 @@ use Rattle.sw_parse_lexemes.specs.Words.{word_sort}
 use Rattle.sw_parse_table.specs.declared.source.Source.{Source}
 use Rattle.sw_parse_terminals.specs.Urls.{has_namespace}
 use Rattle.sw_parse_table.specs.Sources.{bytes_at, decoded_at}
-use Rattle.sw_parse_table.specs.Actions.{name_at, flags_at}
+use Rattle.sw_parse_table.specs.Actions.{name_at}
 use Rattle.sw_convert_written.specs.Expressions.{expr_text}
 use Rattle.sw_convert_written.specs.Heads.{has_none}
 use Rattle.sw_convert_written.specs.Names.{name_text}
@@ -159,9 +159,8 @@ abbrev pub is_told : {source : Source} {i j : ℕ} {statement : Statement} {toke
 is_told (spells.return_line span old inner end) = true
 is_told (spells.say_line level span old inner end) = true
 is_told (spells.variable_line span one two three inner flags end) = true
-is_told {source}
-    (spells.assignment_line {i} {places = places} span target_span one two three four five inner flags end) =
-    is_owner (bytes_at source i) && not (flags_at source places).global
+is_told {source} (spells.assignment_line {i} span target_span one two three four five inner flags end) =
+    is_owner (bytes_at source i)
 is_told (spells.charset_line span one two end) = true
 is_told (spells.content_line span old given end) = true
 is_told {source} (spells.include_line span name_span old mixin given using end) = is_mixin_name source mixin
