@@ -19,7 +19,7 @@ use Rattle.sw_convert_alike.specs.Statements.{LikeEach, LikeParam, LikeParams}
 use Rattle.sw_convert_alike.specs.Statements as alike
 use Rattle.sw_convert_again.specs.Tokens.{Dashed, Tok, tok, sign, Stands}
 use Rattle.sw_convert_again.specs.Again.{Reads}
-use Rattle.sw_convert_again.specs.Params.{SpellsOptionalParams, no_head, empty_head, some_head}
+use Rattle.sw_convert_again.specs.Params.{are_some, SpellsOptionalParams, no_head, empty_head, some_head}
 use Rattle.sw_convert_again.specs.Statements.{function_block, mixin_block}
 use Rattle.sw_convert_again.specs.Claims.{StatementAgain, BlocksAgain}
 use Rattle.sw_convert_again.proofs.Tokens.{old_of, is_of, split}
@@ -41,6 +41,12 @@ callable_is s kind i j k name values w list (inl (e, f)) =
     ∙ ap (λ (x : Params). callable_of s kind i k name x list) (sym f)
 callable_is s kind i j k name values w list (inr e) =
     ap (λ (x : List Part). to_callable s kind i j (((Place name ∷ x) ++ Behind k ∷ []) ++ Blocks list ∷ [])) e
+
+-- the same is told of what they are
+pub params_some : (values : Params) (items : List Param) (rest : Option (List ℕ)) → values.items ≡ items
+    → values.rest ≡ rest → are_some values.items values.rest ≡ are_some items rest
+params_some values items rest e f =
+    ap (λ (l : List Param). are_some l values.rest) e ∙ ap (λ (o : Option (List ℕ)). are_some items o) f
 
 module _ (source written : Source) (n : ℕ) where
   record HeadAgain (i j : ℕ) (w : List Part) : Type 0 where
@@ -71,7 +77,7 @@ module _ (source written : Source) (n : ℕ) where
     values = one.values;
     is = inr one.is;
     tokens = one.tokens;
-    spells = some_head one.spells;
+    spells = some_head one.spells (params_some one.values items rest e f);
     back = λ p q stand. let (found, reads, same) = one.back p q stand in
         (found, Parameters found ∷ [], inl reads, inr refl, same);
   }

@@ -3,6 +3,7 @@ use Rattle.std.proofs.Common.{◌≡◌, ℕ, suc, true, List, [], ◌∷◌, �
 use Rattle.sw_parse_grammar.specs.Grammar.{member}
 use Rattle.sw_text.specs.declared.place.Span.{Span}
 use Rattle.sw_tree.specs.declared.callable.Content.{Content}
+use Rattle.sw_tree.specs.declared.callable.Param.{Param}
 use Rattle.sw_tree.specs.declared.callable.Params.{Params}
 use Rattle.sw_tree.specs.declared.expr.Argument.{Argument}
 use Rattle.sw_tree.specs.declared.expr.Namespaced.{Namespaced}
@@ -16,18 +17,19 @@ use Rattle.sw_parse_table.specs.Sources.{terminal_at, bytes_at, span_between}
 use Rattle.sw_parse_table.specs.Values.{namespaced}
 use Rattle.sw_parse_table.specs.Actions.{name_at, params_with, to_behind, mixin_of, include_of, content_with, to_include_name, to_include}
 use Rattle.sw_parse_table.specs.Statements.{block_or_end, include_name, using, include}
+use Rattle.sw_parse_table.specs.Statements as forms
 use Rattle.sw_convert_alike.specs.Expressions.{space_of}
-use Rattle.sw_convert_alike.specs.Statements.{LikeParams}
+use Rattle.sw_convert_alike.specs.Statements.{LikeEach, LikeParam, LikeParams}
 use Rattle.sw_convert_alike.specs.Statements as alike
-use Rattle.sw_convert_again.specs.Tokens.{Dashed, Bytes, Tok, tok, sign, Stands}
+use Rattle.sw_convert_again.specs.Tokens.{Dashed, Bytes, Tok, tok, sign, Stands, Old}
 use Rattle.sw_convert_again.specs.Again.{Reads}
-use Rattle.sw_convert_again.specs.Params.{SpellsHeadParams, SpellsMixinName, own_name, owned_name, SpellsUsing, no_using, some_using}
+use Rattle.sw_convert_again.specs.Params.{SpellsMixinName, own_name, owned_name, SpellsUsing, no_using, empty_using, some_using}
 use Rattle.sw_convert_again.specs.Statements.{ended, include_line, include_block}
 use Rattle.sw_convert_again.specs.Claims.{StatementAgain, BlocksAgain}
 use Rattle.sw_convert_again.proofs.Tokens.{one_byte, old_of, is_of, split}
 use Rattle.sw_convert_again.proofs.Contents.{IsGiven, given_again}
-use Rattle.sw_convert_again.proofs.Params.{params_again}
-use Rattle.sw_convert_again.proofs.Callables.{IsHead}
+use Rattle.sw_convert_again.proofs.Params.{ParamsAgain, params_again}
+use Rattle.sw_convert_again.proofs.Callables.{IsHead, params_some}
 use Rattle.sw_convert_again.proofs.Statements.{was_ended, is_ended}
 
 abbrev passed : Params → Option (List Statement) → Option Content
@@ -156,30 +158,50 @@ module _ (source written : Source) (n : ℕ) where
         → (found : Params) × (parts : List Part) × Reads written n (using written) p q parts × IsHead found parts
         × LikeParams values found
 
+  by_values : (i j : ℕ) (w : List Part) → Old source i (just terminals.Using)
+      → (one : ParamsAgain source written n (suc i) j w) → (items : List Param) (rest : Option (List ℕ))
+      → one.values.items ≡ items → one.values.rest ≡ rest → UsingAgain i j w
+  unfolding using
+  by_values i j w word one [] None e f = record {
+    values = one.values;
+    is = inr one.is;
+    tokens = [];
+    spells = empty_using word one.spells e f;
+    back = λ p q z. (
+      params_with [],
+      [],
+      inr (sym z, refl),
+      inl (refl, refl),
+      (subst (λ (x : List Param). LikeEach LikeParam x []) (sym e) tt, f),
+    );
+  }
+  by_values i j w word one items rest e f = record {
+    values = one.values;
+    is = inr one.is;
+    tokens = sign terminals.Using ∷ one.tokens;
+    spells = some_using word one.spells (params_some one.values items rest e f);
+    back = λ p q stand. let (found, reads, same) = one.back (suc p) q stand.1 in (
+      found,
+      Parameters found ∷ [],
+      inl (
+        suc p,
+        [],
+        Parameters found ∷ [],
+        (is_of written p (sign terminals.Using) (just terminals.Using) stand.0 refl, refl, refl),
+        reads,
+        refl,
+      ),
+      inr refl,
+      same,
+    );
+  }
+
   using_again : (i j : ℕ) (w : List Part) → Reads source n (using source) i j w → UsingAgain i j w
   unfolding using
   using_again i j w (inl (k, u, v, (m, e1, e2), d, e3)) =
-      let one = params_again source written n k j v d in record {
-        values = one.values;
-        is = inr (e3 ∙ ap (λ (x : List Part). x ++ v) e2 ∙ one.is);
-        tokens = sign terminals.Using ∷ one.tokens;
-        spells = some_using (old_of source i (just terminals.Using) refl m)
-            (subst (λ (x : ℕ). SpellsHeadParams source x j one.values one.tokens) e1 one.spells);
-        back = λ p q stand. let (found, reads, same) = one.back (suc p) q stand.1 in (
-          found,
-          Parameters found ∷ [],
-          inl (
-            suc p,
-            [],
-            Parameters found ∷ [],
-            (is_of written p (sign terminals.Using) (just terminals.Using) stand.0 refl, refl, refl),
-            reads,
-            refl,
-          ),
-          inr refl,
-          same,
-        );
-      }
+      let one = params_again source written n (suc i) j v (subst (λ (x : ℕ). Reads source n (forms.params source) x j v) e1 d) in
+      subst (λ (x : List Part). UsingAgain i j x) (sym (e3 ∙ ap (λ (x : List Part). x ++ v) e2))
+      (by_values i j v (old_of source i (just terminals.Using) refl m) one one.values.items one.values.rest refl refl)
   using_again i j w (inr (e1, e2)) = record {
     values = params_with [];
     is = inl (e2, refl);

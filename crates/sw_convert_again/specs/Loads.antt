@@ -16,7 +16,7 @@ use Rattle.sw_parse_table.specs.Sets.{dollars, endings}
 use Rattle.sw_parse_table.specs.Sources.{bytes_at, decoded_at, span_between}
 use Rattle.sw_parse_table.specs.Actions.{name_at}
 use Rattle.sw_convert_again.specs.Tokens.{Dashed, Bytes, Tok, tok, sign, Old}
-use Rattle.sw_convert_again.specs.Spells.{Spells, within}
+use Rattle.sw_convert_again.specs.Spells.{SpellsPlain, within}
 use Rattle.sw_convert_again.specs.Params.{dollar_tokens}
 
 -- the namespace of a url, by its place
@@ -73,33 +73,34 @@ configured source i default value =
       default = default;
     }
 
-pub data SpellsConfigured (source : Source) : ℕ → ℕ → Given → List Tok → Type 0 where
-  configured_variable : {i j : ℕ} {value : Expr} {tokens : List Tok} → Old source i dollars
+-- with `!default` only in `@forward`
+pub data SpellsConfigured (source : Source) : Bool → ℕ → ℕ → Given → List Tok → Type 0 where
+  configured_variable : {flagged : Bool} {i j : ℕ} {value : Expr} {tokens : List Tok} → Old source i dollars
       → Old source (suc i) (just terminals.VariableName) → Old source (suc (suc i)) (just terminals.Colon)
-      → Spells source (suc (suc (suc i))) j value tokens
-      → SpellsConfigured source i j (configured source i false value)
+      → SpellsPlain source (suc (suc (suc i))) j value tokens
+      → SpellsConfigured source flagged i j (configured source i false value)
       (dollar_tokens (name_at source (suc i)) ++ sign terminals.Colon ∷ tokens)
   configured_default : {i k : ℕ} {value : Expr} {tokens : List Tok} → Old source i dollars
       → Old source (suc i) (just terminals.VariableName) → Old source (suc (suc i)) (just terminals.Colon)
-      → Spells source (suc (suc (suc i))) k value tokens
+      → SpellsPlain source (suc (suc (suc i))) k value tokens
       → Old source k endings → Old source (suc k) (just terminals.Default)
-      → SpellsConfigured source i (suc (suc k)) (configured source i true value)
+      → SpellsConfigured source true i (suc (suc k)) (configured source i true value)
       (dollar_tokens (name_at source (suc i))
       ++ sign terminals.Colon ∷ (tokens ++ sign terminals.Ending ∷ sign terminals.Default ∷ []))
 
 -- variables with a comma before each
-pub data SpellsMoreConfigured (source : Source) : ℕ → ℕ → List Given → List Tok → Type 0 where
-  no_more_configured : {i : ℕ} → SpellsMoreConfigured source i i [] []
+pub data SpellsMoreConfigured (source : Source) (flagged : Bool) : ℕ → ℕ → List Given → List Tok → Type 0 where
+  no_more_configured : {i : ℕ} → SpellsMoreConfigured source flagged i i [] []
   more_configured : {i k j : ℕ} {given : Given} {givens : List Given} {tokens others : List Tok}
-      → Old source i (just terminals.Comma) → SpellsConfigured source (suc i) k given tokens
-      → SpellsMoreConfigured source k j givens others
-      → SpellsMoreConfigured source i j (given ∷ givens) (sign terminals.Comma ∷ (tokens ++ others))
+      → Old source i (just terminals.Comma) → SpellsConfigured source flagged (suc i) k given tokens
+      → SpellsMoreConfigured source flagged k j givens others
+      → SpellsMoreConfigured source flagged i j (given ∷ givens) (sign terminals.Comma ∷ (tokens ++ others))
 
-pub data SpellsConfiguration (source : Source) : ℕ → ℕ → List Given → List Tok → Type 0 where
-  no_configuration : {i : ℕ} → SpellsConfiguration source i i [] []
+pub data SpellsConfiguration (source : Source) (flagged : Bool) : ℕ → ℕ → List Given → List Tok → Type 0 where
+  no_configuration : {i : ℕ} → SpellsConfiguration source flagged i i [] []
   some_configuration : {i k m c : ℕ} {given : Given} {givens : List Given} {tokens others : List Tok}
       → Old source i (just terminals.With) → Old source (suc i) (just terminals.HeadParen)
-      → SpellsConfigured source (suc (suc i)) k given tokens → SpellsMoreConfigured source k m givens others
+      → SpellsConfigured source flagged (suc (suc i)) k given tokens → SpellsMoreConfigured source flagged k m givens others
       → (c ≡ m) ⊎ ((c ≡ suc m) × Old source m (just terminals.Comma)) → Old source c (just terminals.ParenEnd)
-      → SpellsConfiguration source i (suc c) (given ∷ givens)
+      → SpellsConfiguration source flagged i (suc c) (given ∷ givens)
       (sign terminals.With ∷ within (sign terminals.HeadParen) (tokens ++ others) terminals.ParenEnd)

@@ -1,6 +1,7 @@
 -- What is written of parameters that were read: those with a name of their own in their order, and then the one that takes
 -- the rest.
-use Rattle.std.specs.Prelude.{◌≡◌, ◌⊎◌, ℕ, suc, List, [], ◌∷◌, ◌++◌, Option, Some, None}
+use Rattle.std.specs.Prelude.{◌≡◌, ◌⊎◌, ℕ, suc, Bool, true, false, List, [], ◌∷◌, ◌++◌, Option, Some, None}
+use Rattle.sw_tree.specs.declared.callable.Param.{Param}
 use Rattle.sw_tree.specs.declared.callable.Params.{Params}
 use Rattle.sw_tree.specs.declared.expr.Expr.{Expr}
 use Rattle.sw_tree.specs.declared.expr.Namespaced.{Namespaced}
@@ -71,13 +72,18 @@ pub data SpellsHeadParams (source : Source) : ℕ → ℕ → Params → List To
       → SpellsParams source (suc i) c parts texts → Old source c (just terminals.ParenEnd)
       → SpellsHeadParams source i (suc c) (params_with parts) (params_in parts texts)
 
+-- there are some
+abbrev pub are_some : List Param → Option (List ℕ) → Bool
+are_some [] None = false
+are_some _ _ = true
+
 -- in parentheses, or nothing where there are none
 pub data SpellsOptionalParams (source : Source) : ℕ → ℕ → Params → List Tok → Type 0 where
   no_head : {i : ℕ} → SpellsOptionalParams source i i (params_with []) []
   empty_head : {i j : ℕ} {params : Params} {tokens : List Tok} → SpellsHeadParams source i j params tokens
       → params.items ≡ [] → params.rest ≡ None → SpellsOptionalParams source i j params []
   some_head : {i j : ℕ} {params : Params} {tokens : List Tok} → SpellsHeadParams source i j params tokens
-      → SpellsOptionalParams source i j params tokens
+      → are_some params.items params.rest ≡ true → SpellsOptionalParams source i j params tokens
 
 -- the name of a mixin that is included, by its place, behind a namespace or not
 pub data SpellsMixinName (source : Source) : ℕ → ℕ → Option Namespaced → ℕ → List Tok → Type 0 where
@@ -92,6 +98,9 @@ pub data SpellsMixinName (source : Source) : ℕ → ℕ → Option Namespaced �
 -- the parameters of a content block, which are written where there are any
 pub data SpellsUsing (source : Source) : ℕ → ℕ → Params → List Tok → Type 0 where
   no_using : {i : ℕ} → SpellsUsing source i i (params_with []) []
+  empty_using : {i j : ℕ} {params : Params} {tokens : List Tok} → Old source i (just terminals.Using)
+      → SpellsHeadParams source (suc i) j params tokens → params.items ≡ [] → params.rest ≡ None
+      → SpellsUsing source i j params []
   some_using : {i j : ℕ} {params : Params} {tokens : List Tok} → Old source i (just terminals.Using)
-      → SpellsHeadParams source (suc i) j params tokens
+      → SpellsHeadParams source (suc i) j params tokens → are_some params.items params.rest ≡ true
       → SpellsUsing source i j params (sign terminals.Using ∷ tokens)

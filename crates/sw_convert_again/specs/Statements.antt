@@ -343,7 +343,7 @@ mutual
     use_line : {i k m j : ℕ} {namespace : Namespace} {givens : List Given} {tokens others : List Tok} → (span : Span)
         → Old source i (just terminals.AtUse) → Old source (suc i) (just terminals.LoadUrl)
         → SpellsNamespace source (suc i) (suc (suc i)) k namespace tokens
-        → SpellsConfiguration source k m givens others → Ended source m j
+        → SpellsConfiguration source false k m givens others → Ended source m j
         → SpellsStatement source i j
         (statements.Use (record {
           url = url_at source (suc i);
@@ -356,7 +356,7 @@ mutual
         {tokens others more : List Tok} → (span : Span)
         → Old source i (just terminals.AtForward) → Old source (suc i) (just terminals.LoadUrl)
         → SpellsPrefix source (suc (suc i)) k prefix tokens → SpellsFilter source k m filter others
-        → SpellsConfiguration source m l givens more → Ended source l j
+        → SpellsConfiguration source true m l givens more → Ended source l j
         → SpellsStatement source i j
         (statements.Forward (record {
           url = url_at source (suc i);

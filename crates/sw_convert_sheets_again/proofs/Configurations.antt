@@ -14,7 +14,7 @@ use Rattle.sw_parse_table.specs.Expressions.{colon_space}
 use Rattle.sw_parse_table.specs.Statements.{default_flag, given_name, given, giving, with_given, passed, passing, with_passed}
 use Rattle.sw_convert_alike.specs.Statements.{LikeEach, LikeGiven}
 use Rattle.sw_convert_again.specs.Tokens.{Tok, sign, Stands, Old}
-use Rattle.sw_convert_again.specs.Spells.{Spells, SpellsPlain, unlisted, within}
+use Rattle.sw_convert_again.specs.Spells.{SpellsPlain, within}
 use Rattle.sw_convert_again.specs.Again.{Reads, Found}
 use Rattle.sw_convert_again.specs.Params.{dollar_tokens}
 use Rattle.sw_convert_again.specs.Loads.{configured, SpellsConfigured, configured_variable, configured_default, SpellsMoreConfigured, no_more_configured, more_configured, SpellsConfiguration, no_configuration, some_configuration}
@@ -36,12 +36,9 @@ module _ (source written : Source) (n : ℕ) where
     second : Old source (suc i) (just terminals.VariableName)
     third : Old source (suc (suc i)) (just terminals.Colon)
     tokens : List Tok
-    spells : Spells source (suc (suc (suc i))) m value tokens
+    spells : SpellsPlain source (suc (suc (suc i))) m value tokens
     back : (p q : ℕ) → Stands written p (sign terminals.Colon ∷ tokens) q
         → Found written n (colon_space written) value p q
-
-  as_value : {i j : ℕ} {value : Expr} {tokens : List Tok} → SpellsPlain source i j value tokens → Spells source i j value tokens
-  as_value (unlisted plain spells) = spells
 
   named_again : (i k m : ℕ) (u1 u2 : List Part) → Reads source n (given_name source) i k u1
       → Reads source n (colon_space source) k m u2 → NamedAgain i k m (u1 ++ u2)
@@ -57,7 +54,7 @@ module _ (source written : Source) (n : ℕ) where
         second = name.3;
         third = subst (λ (x : ℕ). Old source x (just terminals.Colon)) name.0 value.colon;
         tokens = value.tokens;
-        spells = subst (λ (x : ℕ). Spells source (suc x) m value.value value.tokens) name.0 (as_value value.spells);
+        spells = subst (λ (x : ℕ). SpellsPlain source (suc x) m value.value value.tokens) name.0 value.spells;
         back = value.back;
       }
 
@@ -78,20 +75,20 @@ module _ (source written : Source) (n : ℕ) where
       → name ≡ name_at written (suc p)
   name_same name p place stand = sym (name_back source written n name p place stand).1
 
-  pub record GivenAgain (h : Grammar Part Form) (i j : ℕ) (w : List Part) : Type 0 where
+  pub record GivenAgain (flagged : Bool) (h : Grammar Part Form) (i j : ℕ) (w : List Part) : Type 0 where
     pub given : Given
     pub is : w ≡ Gives given ∷ []
     pub tokens : List Tok
-    pub spells : SpellsConfigured source i j given tokens
+    pub spells : SpellsConfigured source flagged i j given tokens
     pub back : (p q : ℕ) → Stands written p tokens q
         → (found : Given) × Reads written n h p q (Gives found ∷ []) × LikeGiven given found
 
   -- without `!default`
-  plain_again : (h : Grammar Part Form) (i k j : ℕ) (u w : List Part) → NamedAgain i k j u → w ≡ to_given source i j u
+  plain_again : (flagged : Bool) (h : Grammar Part Form) (i k j : ℕ) (u w : List Part) → NamedAgain i k j u → w ≡ to_given source i j u
       → ((p place q : ℕ) (x y : List Part) → Reads written n (given_name written) p place x
       → Reads written n (colon_space written) place q y → Reads written n h p q (to_given written p q (x ++ y)))
-      → GivenAgain h i j w
-  plain_again h i k j u w one e into =
+      → GivenAgain flagged h i j w
+  plain_again flagged h i k j u w one e into =
       let name = name_at source (suc i) in
       let tokens = dollar_tokens name ++ sign terminals.Colon ∷ one.tokens in record {
         given = configured source i false one.value;
@@ -109,17 +106,17 @@ module _ (source written : Source) (n : ℕ) where
             );
       }
 
-  given_again : (i j : ℕ) (w : List Part) → Reads source n (given source) i j w → GivenAgain (given written) i j w
+  given_again : (i j : ℕ) (w : List Part) → Reads source n (given source) i j w → GivenAgain false (given written) i j w
   unfolding given
   given_again i j w (u, (k, u1, u2, d, c, e1), e2) =
-      plain_again (given written) i k j (u1 ++ u2) w (named_again i k j u1 u2 d c) (e2 ∙ ap (to_given source i j) e1)
+      plain_again false (given written) i k j (u1 ++ u2) w (named_again i k j u1 u2 d c) (e2 ∙ ap (to_given source i j) e1)
       (λ p place q x y a b. (x ++ y, (place, x, y, a, b, refl), refl))
 
-  passed_again : (i j : ℕ) (w : List Part) → Reads source n (passed source) i j w → GivenAgain (passed written) i j w
+  passed_again : (i j : ℕ) (w : List Part) → Reads source n (passed source) i j w → GivenAgain true (passed written) i j w
   unfolding passed default_flag
   passed_again i j w (u, (k, u1, u2, d, (m, c1, c2, c, inr (e1, e2), e3), e4), e5) =
       let both : u ≡ u1 ++ c1 = e4 ∙ ap (λ (x : List Part). u1 ++ x) (e3 ∙ ap (λ (x : List Part). c1 ++ x) e2 ∙ append-nil c1) in
-      plain_again (passed written) i k j (u1 ++ c1) w
+      plain_again true (passed written) i k j (u1 ++ c1) w
       (named_again i k j u1 c1 d (subst (λ (x : ℕ). Reads source n (colon_space source) k x c1) (sym e1) c))
       (e5 ∙ ap (to_given source i j) both)
       (λ p place q x y a b. (
@@ -133,7 +130,7 @@ module _ (source written : Source) (n : ℕ) where
       (e4 ∙ ap (λ (x : List Part). u1 ++ x) e3 ∙ sym (append_assoc u1 c1 c2)))
     where
       flagged_again : (i k m j : ℕ) (u c2 w : List Part) → NamedAgain i k m u → Reads source n (default_flag source) m j c2
-          → w ≡ to_given source i j (u ++ c2) → GivenAgain (passed written) i j w
+          → w ≡ to_given source i j (u ++ c2) → GivenAgain true (passed written) i j w
       flagged_again i k m j u c2 w one (a, b1, b2, (m1, f1, f2), (m2, f3, f4), f5) e =
           let name = name_at source (suc i) in
           let marks = sign terminals.Ending ∷ sign terminals.Default ∷ [] in
@@ -147,7 +144,7 @@ module _ (source written : Source) (n : ℕ) where
                 ∙ ap (λ (x : Bool). Gives (given_of source i k x one.value) ∷ []) (ap (λ (x : Bool). x || false) m2)
                 ∙ ap (λ (x : ℕ). Gives (given_of source i x true one.value) ∷ []) one.name_end;
             tokens = tokens;
-            spells = subst (λ (x : ℕ). SpellsConfigured source i x (configured source i true one.value) tokens)
+            spells = subst (λ (x : ℕ). SpellsConfigured source true i x (configured source i true one.value) tokens)
                 (sym (f3 ∙ ap suc f1))
                 (configured_default one.first one.second one.third one.spells (old_of source m endings refl m1) old);
             back = λ p q stand.
@@ -190,8 +187,8 @@ module _ (source written : Source) (n : ℕ) where
 
   -- ---- several with commas between them
 
-  module _ (g : Source → Grammar Part Form)
-      (each : (i j : ℕ) (w : List Part) → Reads source n (g source) i j w → GivenAgain (g written) i j w) where
+  module _ (flagged : Bool) (g : Source → Grammar Part Form)
+      (each : (i j : ℕ) (w : List Part) → Reads source n (g source) i j w → GivenAgain flagged (g written) i j w) where
     abbrev Commas : Source → ℕ → ℕ → List Part → Type 0
     Commas s = Row (Item (text_of s) (just terminals.Comma) (Reads s n (g s)))
 
@@ -199,7 +196,7 @@ module _ (source written : Source) (n : ℕ) where
       givens : List Given
       is : w ≡ map Gives givens
       tokens : List Tok
-      spells : SpellsMoreConfigured source i j givens tokens
+      spells : SpellsMoreConfigured source flagged i j givens tokens
       back : (p q : ℕ) → Stands written p tokens q
           → (found : List Given) × Commas written p q (map Gives found) × LikeEach LikeGiven givens found
 
@@ -229,7 +226,7 @@ module _ (source written : Source) (n : ℕ) where
         }
 
   -- what stands in the parentheses
-  record InsideAgain (form : Form) (i c : ℕ) (w : List Part) : Type 0 where
+  record InsideAgain (flagged : Bool) (form : Form) (i c : ℕ) (w : List Part) : Type 0 where
     given : Given
     givens : List Given
     is : w ≡ map Gives (given ∷ givens)
@@ -237,8 +234,8 @@ module _ (source written : Source) (n : ℕ) where
     m : ℕ
     tokens : List Tok
     others : List Tok
-    first : SpellsConfigured source i k given tokens
-    more : SpellsMoreConfigured source k m givens others
+    first : SpellsConfigured source flagged i k given tokens
+    more : SpellsMoreConfigured source flagged k m givens others
     end : (c ≡ m) ⊎ ((c ≡ suc m) × Old source m (just terminals.Comma))
     back : (p q : ℕ) → Stands written p (tokens ++ others) q
         → (found : List Given) × Inner written n form p q (map Gives found) × LikeEach LikeGiven (given ∷ givens) found
@@ -246,26 +243,26 @@ module _ (source written : Source) (n : ℕ) where
   abbrev pub with_form : Form → Grammar Part Form
   with_form form = alt (seq (skip (just terminals.With)) (group (just terminals.HeadParen) form (just terminals.ParenEnd))) empty
 
-  pub record ConfigurationAgain (form : Form) (i j : ℕ) (w : List Part) : Type 0 where
+  pub record ConfigurationAgain (flagged : Bool) (form : Form) (i j : ℕ) (w : List Part) : Type 0 where
     pub givens : List Given
     pub is : w ≡ map Gives givens
     pub tokens : List Tok
-    pub spells : SpellsConfiguration source i j givens tokens
+    pub spells : SpellsConfiguration source flagged i j givens tokens
     pub back : (p q : ℕ) → Stands written p tokens q
         → (found : List Given) × Reads written n (with_form form) p q (map Gives found)
         × LikeEach LikeGiven givens found
 
-  configuration_by : (form : Form)
-      → ((i c : ℕ) (w : List Part) → Inner source n form i c w → InsideAgain form i c w)
-      → (i j : ℕ) (w : List Part) → Reads source n (with_form form) i j w → ConfigurationAgain form i j w
-  configuration_by form inside i j w (inr (e1, e2)) = record {
+  configuration_by : (flagged : Bool) (form : Form)
+      → ((i c : ℕ) (w : List Part) → Inner source n form i c w → InsideAgain flagged form i c w)
+      → (i j : ℕ) (w : List Part) → Reads source n (with_form form) i j w → ConfigurationAgain flagged form i j w
+  configuration_by flagged form inside i j w (inr (e1, e2)) = record {
     givens = [];
     is = e2;
     tokens = [];
-    spells = subst (λ (x : ℕ). SpellsConfiguration source i x [] []) (sym e1) no_configuration;
+    spells = subst (λ (x : ℕ). SpellsConfiguration source flagged i x [] []) (sym e1) no_configuration;
     back = λ p q e. ([], inr (sym e, refl), tt);
   }
-  configuration_by form inside i j w (inl (k, u, v, (m, e1, e2), (m1, c, d, m2, e3), e4)) =
+  configuration_by flagged form inside i j w (inl (k, u, v, (m, e1, e2), (m1, c, d, m2, e3), e4)) =
       let one = inside (suc k) c v d in
       let inner = one.tokens ++ one.others in
       let tokens = sign terminals.With ∷ within (sign terminals.HeadParen) inner terminals.ParenEnd in
@@ -273,11 +270,11 @@ module _ (source written : Source) (n : ℕ) where
         givens = givens;
         is = e4 ∙ ap (λ (x : List Part). x ++ v) e2 ∙ one.is;
         tokens = tokens;
-        spells = subst (λ (x : ℕ). SpellsConfiguration source i x givens tokens) (sym e3)
+        spells = subst (λ (x : ℕ). SpellsConfiguration source flagged i x givens tokens) (sym e3)
             (some_configuration (old_of source i (just terminals.With) refl m)
             (old_of source (suc i) (just terminals.HeadParen) refl
             (subst (λ (x : ℕ). member (terminal_at source x) (just terminals.HeadParen) ≡ true) e1 m1))
-            (subst (λ (x : ℕ). SpellsConfigured source (suc x) one.k one.given one.tokens) e1 one.first) one.more one.end
+            (subst (λ (x : ℕ). SpellsConfigured source flagged (suc x) one.k one.given one.tokens) e1 one.first) one.more one.end
             (old_of source c (just terminals.ParenEnd) refl m2));
         back = λ p q stand.
             let (place, left, right) = split written q inner (sign terminals.ParenEnd ∷ []) (suc (suc p)) stand.1.1 in
@@ -303,15 +300,15 @@ module _ (source written : Source) (n : ℕ) where
 
 -- both kinds of load
 module _ (source written : Source) where
-  inside_by : (n : ℕ) (g : Source → Grammar Part Form)
-      → ((i j : ℕ) (w : List Part) → Reads source n (g source) i j w → GivenAgain source written n (g written) i j w)
+  inside_by : (flagged : Bool) (n : ℕ) (g : Source → Grammar Part Form)
+      → ((i j : ℕ) (w : List Part) → Reads source n (g source) i j w → GivenAgain source written n flagged (g written) i j w)
       → (form : Form)
       → ((i c : ℕ) (w : List Part) → Inner source (suc n) form i c w
       → Reads source n (seq (g source) (sep (just terminals.Comma) (g source))) i c w)
       → ((i c : ℕ) (w : List Part) → Reads written n (seq (g written) (sep (just terminals.Comma) (g written))) i c w
       → Inner written (suc n) form i c w)
-      → (i c : ℕ) (w : List Part) → Inner source (suc n) form i c w → InsideAgain source written (suc n) form i c w
-  inside_by n g each form down up i c w d = go (down i c w d)
+      → (i c : ℕ) (w : List Part) → Inner source (suc n) form i c w → InsideAgain source written (suc n) flagged form i c w
+  inside_by flagged n g each form down up i c w d = go (down i c w d)
     where
       old_end : (stop : ℕ)
           → (c ≡ stop) ⊎ ((member (terminal_at source stop) (just terminals.Comma) ≡ true) × (c ≡ suc stop))
@@ -320,10 +317,10 @@ module _ (source written : Source) where
       old_end stop (inr (m, e)) = inr (e, old_of source stop (just terminals.Comma) refl m)
 
       go : Reads source n (seq (g source) (sep (just terminals.Comma) (g source))) i c w
-          → InsideAgain source written (suc n) form i c w
+          → InsideAgain source written (suc n) flagged form i c w
       go (k, u, v, a, (stop, row, end), e) =
           let one = each i k u a in
-          let rest = more_again source written n g each row in record {
+          let rest = more_again source written n flagged g each row in record {
             given = one.given;
             givens = rest.givens;
             is = e ∙ ap (λ (x : List Part). x ++ v) one.is ∙ ap (λ (x : List Part). Gives one.given ∷ x) rest.is;
@@ -345,25 +342,25 @@ module _ (source written : Source) where
           }
 
   giving_again : (n i c : ℕ) (w : List Part) → Inner source n Giving i c w
-      → InsideAgain source written n Giving i c w
+      → InsideAgain source written n false Giving i c w
   unfolding giving
   giving_again zero i c w d = absurd d
   giving_again (suc n) i c w d =
-      inside_by n given (given_again source written n) Giving (λ i c w d. d) (λ i c w d. d) i c w d
+      inside_by false n given (given_again source written n) Giving (λ i c w d. d) (λ i c w d. d) i c w d
 
   passing_again : (n i c : ℕ) (w : List Part) → Inner source n Passing i c w
-      → InsideAgain source written n Passing i c w
+      → InsideAgain source written n true Passing i c w
   unfolding passing
   passing_again zero i c w d = absurd d
   passing_again (suc n) i c w d =
-      inside_by n passed (passed_again source written n) Passing (λ i c w d. d) (λ i c w d. d) i c w d
+      inside_by true n passed (passed_again source written n) Passing (λ i c w d. d) (λ i c w d. d) i c w d
 
   pub with_given_again : (n i j : ℕ) (w : List Part) → Reads source n (with_given source) i j w
-      → ConfigurationAgain source written n Giving i j w
+      → ConfigurationAgain source written n false Giving i j w
   unfolding with_given
-  with_given_again n = configuration_by source written n Giving (giving_again n)
+  with_given_again n = configuration_by source written n false Giving (giving_again n)
 
   pub with_passed_again : (n i j : ℕ) (w : List Part) → Reads source n (with_passed source) i j w
-      → ConfigurationAgain source written n Passing i j w
+      → ConfigurationAgain source written n true Passing i j w
   unfolding with_passed
-  with_passed_again n = configuration_by source written n Passing (passing_again n)
+  with_passed_again n = configuration_by source written n true Passing (passing_again n)

@@ -1,10 +1,10 @@
 -- The heads of functions and mixins, and `@include` without arguments.
-use Rattle.std.proofs.Common.{◌≡◌, ℕ, true, false, List, [], ◌∷◌, ◌++◌, Option, None, append-nil, inl, refl, sym, ◌∙◌, ap, subst, lit<}
+use Rattle.std.proofs.Common.{◌≡◌, ℕ, true, false, List, [], ◌∷◌, ◌++◌, Option, Some, None, append-nil, inl, refl, sym, ◌∙◌, ap, subst, lit<}
 use Rattle.std.specs.Prelude.{codes}
 use Rattle.sw_text.specs.Names.{dashed}
 use Rattle.sw_text_scan.specs.Bytes.{sign, byte}
 use Rattle.sw_text_scan.specs.Runs.{begins_name, escape_end, run_end}
-use Rattle.sw_text_scan.proofs.Bounds.{if_true, if_false, not_true}
+use Rattle.sw_text_scan.proofs.Bounds.{if_true, if_false}
 use Rattle.sw_tree.specs.declared.callable.Kind.TheVariants as callables
 use Rattle.sw_tree.specs.declared.callable.Param.{Param}
 use Rattle.sw_tree.specs.declared.callable.Params.{Params as TreeParams}
@@ -29,7 +29,7 @@ use Rattle.sw_convert_written.specs.Names.{name_text}
 use Rattle.sw_convert_passing.specs.Written.{written, apart}
 use Rattle.sw_convert_again.specs.Tokens.{Tok, tok, Old, Dashed, Nothing}
 use Rattle.sw_convert_again.specs.Tokens as again
-use Rattle.sw_convert_again.specs.Params.{SpellsHeadParams, SpellsOptionalParams, no_head, empty_head, some_head}
+use Rattle.sw_convert_again.specs.Params.{are_some, SpellsHeadParams, SpellsOptionalParams, no_head, empty_head, some_head}
 use Rattle.sw_convert_tokens.specs.Joints.{Segment}
 use Rattle.sw_convert_tokens.specs.Written.{Follows}
 use Rattle.sw_convert_tokens.specs.Values.{WasRead}
@@ -41,7 +41,7 @@ use Rattle.sw_convert_heads_passing.specs.Members.{function_head, mixin_head, lo
 use Rattle.sw_convert_heads_passing.specs.Statements.{belonging}
 use Rattle.sw_convert_statements.specs.Segments.{FrontWritten}
 use Rattle.sw_convert_statements.specs.OneName.{is_one_name}
-use Rattle.sw_convert_statements.specs.Fronts.{ValuesAreKnown, writes_params}
+use Rattle.sw_convert_statements.specs.Fronts.{ValuesAreKnown}
 use Rattle.sw_convert_statements.proofs.Keywords.{keyword}
 use Rattle.sw_convert_statements.proofs.OneName.{IsOneName, one_name, name_segment, name_sort, dashed_text}
 use Rattle.sw_convert_statements.proofs.Params.{parens_written}
@@ -51,9 +51,17 @@ use Rattle.sw_convert_statements.proofs.Segments.{sheet, join, as_text, as_behin
 pub name_ends : (name after : List ℕ) → Follows name after → Behind name after
 name_ends name after f = parted_behind name after (follows_parts name after f)
 
-none_there : (params : TreeParams) → params.items ≡ [] → params.rest ≡ None → has_none params ≡ true
+pub none_there : (params : TreeParams) → params.items ≡ [] → params.rest ≡ None → has_none params ≡ true
 none_there params items rest =
     ap (λ (l : List Param). none_in l params.rest) items ∙ ap (λ (o : Option (List ℕ)). none_in [] o) rest
+
+pub some_there : (params : TreeParams) → are_some params.items params.rest ≡ true → has_none params ≡ false
+some_there params some = go params.items params.rest some
+  where
+    go : (items : List Param) (rest : Option (List ℕ)) → are_some items rest ≡ true → none_in items rest ≡ false
+    go [] None s = absurd (cc)
+    go [] (Some name) s = refl
+    go (x ∷ items) rest s = refl
 
 -- `using` before a space
 using_name : IsOneName (codes "using")
@@ -151,15 +159,15 @@ module _ (source : Source) (was : WasRead source) (values : ValuesAreKnown sourc
       }
 
   pub mixin_written : (i : ℕ) → is_one_name (name_text (name_at source i)) ≡ true → {j k : ℕ} {params : TreeParams}
-      {tokens : List Tok} → (head : SpellsOptionalParams source j k params tokens) → writes_params head ≡ true
+      {tokens : List Tok} → SpellsOptionalParams source j k params tokens
       → FrontWritten modes.Head (callable_head callables.Mixin (name_at source i) params)
       (again.sign terminals.AtMixin ∷ tok terminals.Named (Dashed (name_at source i)) ∷ tokens)
-  mixin_written i t no_head w = lone_mixin i t
-  mixin_written i t (empty_head {params = params} head items rest) w =
+  mixin_written i t no_head = lone_mixin i t
+  mixin_written i t (empty_head {params = params} head items rest) =
       subst
       (λ (x : List ℕ). FrontWritten modes.Head (codes "@mixin " ++ (name_text (name_at source i) ++ x)) (again.sign terminals.AtMixin ∷ tok terminals.Named (Dashed (name_at source i)) ∷ []))
       (sym (if_true (has_none params) [] (params_text params) (none_there params items rest))) (lone_mixin i t)
-  mixin_written i t (some_head {params = params} {tokens = tokens} head) w =
+  mixin_written i t (some_head {params = params} {tokens = tokens} head some) =
       subst
       (λ (x : List ℕ). FrontWritten modes.Head (codes "@mixin " ++ (name_text (name_at source i) ++ x)) (again.sign terminals.AtMixin ∷ tok terminals.Named (Dashed (name_at source i)) ∷ tokens))
-      (sym (if_false (has_none params) [] (params_text params) (not_true (has_none params) w))) (mixin_parens i t head)
+      (sym (if_false (has_none params) [] (params_text params) (some_there params some))) (mixin_parens i t head)

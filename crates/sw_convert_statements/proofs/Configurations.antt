@@ -2,7 +2,6 @@
 use Rattle.std.proofs.Common.{◌≡◌, ℕ, suc, Bool, true, false, List, [], ◌∷◌, ◌++◌, map, append-nil, refl, sym, ◌∙◌, ap, subst, append_assoc}
 use Rattle.std.specs.Prelude.{codes}
 use Rattle.sw_text_scan.specs.Bytes.{sign}
-use Rattle.sw_text_scan.proofs.Bounds.{and_left, and_right}
 use Rattle.sw_tree.specs.declared.load.Given.{Given}
 use Rattle.sw_tokens.specs.declared.pieces.Before.{Before}
 use Rattle.sw_tokens.specs.declared.pieces.Before.TheVariants as befores
@@ -22,7 +21,7 @@ use Rattle.sw_convert_passing.specs.Written.{Written, direct}
 use Rattle.sw_convert_passing.specs.Values.{Row, variable, items, first, separated, further, dollar}
 use Rattle.sw_convert_again.specs.Tokens.{Tok, Old}
 use Rattle.sw_convert_again.specs.Tokens as again
-use Rattle.sw_convert_again.specs.Spells.{within}
+use Rattle.sw_convert_again.specs.Spells.{unlisted, within}
 use Rattle.sw_convert_again.specs.Params.{dollar_tokens}
 use Rattle.sw_convert_again.specs.Loads.{SpellsConfigured, SpellsMoreConfigured, SpellsConfiguration, configured_variable, no_more_configured, more_configured, no_configuration, some_configuration}
 use Rattle.sw_convert_tokens.specs.Joints.{Segment}
@@ -35,7 +34,7 @@ use Rattle.sw_convert_heads_passing.specs.Loads.{UseConfiguration, configured_ap
 use Rattle.sw_convert_heads_passing.specs.Loads as loads
 use Rattle.sw_convert_texts.specs.RawTexts.{SheetSegment}
 use Rattle.sw_convert_statements.specs.Segments.{Anything, seams}
-use Rattle.sw_convert_statements.specs.Fronts.{ValuesAreKnown, is_use_entry, are_use_entries, is_use_configuration}
+use Rattle.sw_convert_statements.specs.Fronts.{ValuesAreKnown}
 use Rattle.sw_convert_statements.proofs.Keywords.{spaced_word}
 use Rattle.sw_convert_statements.proofs.Params.{comma_segment, close_segment, open_segment, behind_comma, variable_at}
 use Rattle.sw_convert_statements.proofs.Segments.{sheet, join, as_text, as_toks, as_passed, as_behind, value_pads, padded}
@@ -117,34 +116,32 @@ module _ (source : Source) (was : WasRead source) where
       }
 
 module _ (source : Source) (was : WasRead source) (values : ValuesAreKnown source) where
-  given_first : {i j : ℕ} {given : Given} {tokens : List Tok} → (one : SpellsConfigured source i j given tokens)
-      → is_use_entry one ≡ true → AreGiven (given_text given) tokens
-  given_first (configured_variable {i} {value = value} dollar name colon spelt) t =
+  given_first : {i j : ℕ} {given : Given} {tokens : List Tok} → SpellsConfigured source false i j given tokens
+      → AreGiven (given_text given) tokens
+  given_first (configured_variable {i} {value = value} dollar name colon (unlisted plain spelt)) =
       same_given (sym (append-nil (dollar_name (name_at source (suc i)) ++ (codes ": " ++ expr_text value)))) refl
       (first_given source was (suc i) name (values.rows _ _ _ _ spelt))
-  given_first _ t = absurd (cc)
 
   given_further : {i j : ℕ} {given : Given} {tokens ks : List Tok} {left : List ℕ}
-      → (one : SpellsConfigured source i j given tokens) → is_use_entry one ≡ true → AreGiven left ks
+      → SpellsConfigured source false i j given tokens → AreGiven left ks
       → AreGiven (left ++ (codes ", " ++ given_text given)) (ks ++ again.sign terminals.Comma ∷ tokens)
-  given_further {left = left} (configured_variable {i} {value = value} dollar name colon spelt) t it =
+  given_further {left = left} (configured_variable {i} {value = value} dollar name colon (unlisted plain spelt)) it =
       same_given
       (ap (λ (x : List ℕ). left ++ (codes ", " ++ x))
       (sym (append-nil (dollar_name (name_at source (suc i)) ++ (codes ": " ++ expr_text value))))) refl
       (further_given source was it (suc i) name (values.rows _ _ _ _ spelt))
-  given_further _ t it = absurd (cc)
 
   given_more : {i j : ℕ} {givens : List Given} {others ks : List Tok} {left : List ℕ}
-      → (more : SpellsMoreConfigured source i j givens others) → are_use_entries more ≡ true → AreGiven left ks
+      → SpellsMoreConfigured source false i j givens others → AreGiven left ks
       → AreGiven (left ++ with_commas false (map given_text givens)) (ks ++ others)
-  given_more {ks = ks} {left = left} no_more_configured t it = same_given (sym (append-nil left)) (sym (append-nil ks)) it
+  given_more {ks = ks} {left = left} no_more_configured it = same_given (sym (append-nil left)) (sym (append-nil ks)) it
   given_more {ks = ks} {left = left}
-      (more_configured {given = given} {givens = givens} {tokens = tokens} {others = others} comma one more) t it =
+      (more_configured {given = given} {givens = givens} {tokens = tokens} {others = others} comma one more) it =
       let rest = with_commas false (map given_text givens) in
       same_given
       (append_assoc left (codes ", " ++ given_text given) rest)
       (append_assoc ks (again.sign terminals.Comma ∷ tokens) others)
-      (given_more more (and_right (is_use_entry one) _ t) (given_further one (and_left (is_use_entry one) _ t) it))
+      (given_more more (given_further one it))
 
 -- ---- behind a load
 
@@ -197,12 +194,11 @@ configured_by false row = loads.UseConfiguration.configured (items row)
 pub configured_written : {source : Source} → WasRead source → ValuesAreKnown source → {before : Before} {text : List ℕ}
     {tokens more : List Tok} {passed : List Written} {i j : ℕ} {givens : List Given}
     → SheetSegment before text tokens passed befores.Other (Follows text)
-    → (settings : SpellsConfiguration source i j givens more) → is_use_configuration settings ≡ true
+    → SpellsConfiguration source false i j givens more
     → IsConfigured UseConfiguration before text tokens more passed givens
-configured_written was values it no_configuration t = nothing_configured loads.UseConfiguration.not_configured it
-configured_written {source} was values {text = text} it (some_configuration with_word opens one more end closes) t =
-    let inner = given_more source was values more (and_right (is_use_entry one) _ t)
-    (given_first source was values one (and_left (is_use_entry one) _ t)) in record {
+configured_written was values it no_configuration = nothing_configured loads.UseConfiguration.not_configured it
+configured_written {source} was values {text = text} it (some_configuration with_word opens one more end closes) =
+    let inner = given_more source was values more (given_first source was values one) in record {
       configuration = seams (ends_unclosed text) ++ configuration_in inner.passed;
       are = configured_by (ends_unclosed text) inner.are;
       segment = as_behind (λ after e. tt) (with_written it (sheet inner.segment));

@@ -2,7 +2,6 @@
 use Rattle.std.proofs.Common.{◌≡◌, ℕ, suc, Bool, true, false, List, [], ◌∷◌, ◌++◌, map, append-nil, refl, sym, ◌∙◌, ap, subst, append_assoc}
 use Rattle.std.specs.Prelude.{codes}
 use Rattle.sw_text_scan.specs.Bytes.{sign}
-use Rattle.sw_text_scan.proofs.Bounds.{and_left, and_right, not_true}
 use Rattle.sw_tree.specs.declared.load.Given.{Given}
 use Rattle.sw_tokens.specs.declared.pieces.Before.{Before}
 use Rattle.sw_tokens.specs.declared.pieces.Before.TheVariants as befores
@@ -24,7 +23,6 @@ use Rattle.sw_convert_passing.specs.Written.{Written, direct}
 use Rattle.sw_convert_passing.specs.Values.{Value, Flags, no_flag, flag, seamed, dollar}
 use Rattle.sw_convert_again.specs.Tokens.{Tok, Old}
 use Rattle.sw_convert_again.specs.Tokens as again
-use Rattle.sw_convert_again.specs.Spells.{unlisted}
 use Rattle.sw_convert_again.specs.Params.{dollar_tokens}
 use Rattle.sw_convert_again.specs.Loads.{SpellsConfigured, SpellsMoreConfigured, SpellsConfiguration, configured_variable, configured_default, no_more_configured, more_configured, no_configuration, some_configuration}
 use Rattle.sw_convert_tokens.specs.Written.{Follows, gap_of, begins_white, AsValue, WrittenAs}
@@ -35,7 +33,7 @@ use Rattle.sw_convert_heads_passing.specs.Loads.{Entries, entry, one_entry, more
 use Rattle.sw_convert_heads_passing.specs.Loads as loads
 use Rattle.sw_convert_texts.specs.RawTexts.{SheetSegment}
 use Rattle.sw_convert_statements.specs.Segments.{seams}
-use Rattle.sw_convert_statements.specs.Fronts.{ValuesAreKnown, is_forward_entry, are_forward_entries, is_forward_configuration}
+use Rattle.sw_convert_statements.specs.Fronts.{ValuesAreKnown}
 use Rattle.sw_convert_statements.proofs.Configurations.{IsConfigured, nothing_configured, with_written, behind_colon}
 use Rattle.sw_convert_statements.proofs.Flags.{default_flag, one_flag, flag_closed, flag_of}
 use Rattle.sw_convert_statements.proofs.Params.{comma_segment, behind_comma, variable_at}
@@ -176,24 +174,24 @@ before_entries {spaced} {first} {rest} one more = record {
 }
 
 module _ (source : Source) (was : WasRead source) (values : ValuesAreKnown source) where
-  entry_written : {i j : ℕ} {given : Given} {tokens : List Tok} → (one : SpellsConfigured source i j given tokens)
-      → is_forward_entry one ≡ true → (spaced : Bool) → IsEntry spaced (given_text given) tokens
-  entry_written (configured_variable {i} dollar_sign name colon spelt) t spaced =
-      let (signed, it) = values.plains _ _ _ _ (unlisted (not_true _ t) spelt) in
+  entry_written : {i j : ℕ} {given : Given} {tokens : List Tok} → SpellsConfigured source true i j given tokens
+      → (spaced : Bool) → IsEntry spaced (given_text given) tokens
+  entry_written (configured_variable {i} dollar_sign name colon spelt) spaced =
+      let (signed, it) = values.plains _ _ _ _ spelt in
       without_flag (valued_written source (suc i) was name it spaced)
-  entry_written (configured_default {i} dollar_sign name colon spelt bang default) t spaced =
-      let (signed, it) = values.plains _ _ _ _ (unlisted (not_true _ t) spelt) in
+  entry_written (configured_default {i} dollar_sign name colon spelt bang default) spaced =
+      let (signed, it) = values.plains _ _ _ _ spelt in
       with_flag (valued_written source (suc i) was name it spaced)
 
   entries_written : {i j k m : ℕ} {given : Given} {givens : List Given} {tokens others : List Tok}
-      → (one : SpellsConfigured source i j given tokens) → is_forward_entry one ≡ true
-      → (more : SpellsMoreConfigured source k m givens others) → are_forward_entries more ≡ true → (spaced : Bool)
+      → SpellsConfigured source true i j given tokens → SpellsMoreConfigured source true k m givens others
+      → (spaced : Bool)
       → AreEntries spaced (given_text given ++ with_commas false (map given_text givens)) (tokens ++ others)
-  entries_written one t no_more_configured u spaced =
-      same_entries (sym (append-nil _)) (sym (append-nil _)) (last_entry (entry_written one t spaced))
-  entries_written one t (more_configured comma next more) u spaced =
-      before_entries (entry_written one t spaced)
-      (entries_written next (and_left (is_forward_entry next) _ u) more (and_right (is_forward_entry next) _ u) true)
+  entries_written one no_more_configured spaced =
+      same_entries (sym (append-nil _)) (sym (append-nil _)) (last_entry (entry_written one spaced))
+  entries_written one (more_configured comma next more) spaced =
+      before_entries (entry_written one spaced)
+      (entries_written next more true)
 
 -- ---- behind a load
 
@@ -205,13 +203,12 @@ configured_by false entries = loads.ForwardConfiguration.configured entries
 pub forward_configured : {source : Source} → WasRead source → ValuesAreKnown source → {before : Before} {text : List ℕ}
     {tokens more : List Tok} {passed : List Written} {i j : ℕ} {givens : List Given}
     → SheetSegment before text tokens passed befores.Other (Follows text)
-    → (settings : SpellsConfiguration source i j givens more) → is_forward_configuration settings ≡ true
+    → SpellsConfiguration source true i j givens more
     → IsConfigured ForwardConfiguration before text tokens more passed givens
-forward_configured was values it no_configuration t =
+forward_configured was values it no_configuration =
     nothing_configured loads.ForwardConfiguration.not_configured it
-forward_configured {source} was values {text = text} it (some_configuration with_word opens one more end closes) t =
-    let inner = entries_written source was values one (and_left (is_forward_entry one) _ t) more
-    (and_right (is_forward_entry one) _ t) false in record {
+forward_configured {source} was values {text = text} it (some_configuration with_word opens one more end closes) =
+    let inner = entries_written source was values one more false in record {
       configuration = seams (ends_unclosed text) ++ configuration_in inner.passed;
       are = configured_by (ends_unclosed text) inner.are;
       segment = as_behind (λ after e. tt) (with_written it inner.segment);

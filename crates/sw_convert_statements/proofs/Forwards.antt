@@ -39,7 +39,7 @@ use Rattle.sw_convert_heads_passing.specs.Loads.{is_url, ForwardPrefix, MemberNa
 use Rattle.sw_convert_heads_passing.specs.Statements.{loading}
 use Rattle.sw_convert_texts.specs.RawTexts.{SheetSegment}
 use Rattle.sw_convert_statements.specs.Segments.{FrontWritten}
-use Rattle.sw_convert_statements.specs.Fronts.{ValuesAreKnown, is_prefix, is_member, are_members, is_filter, is_forward_configuration}
+use Rattle.sw_convert_statements.specs.Fronts.{ValuesAreKnown, is_prefix, is_member, are_members, is_filter}
 use Rattle.sw_convert_statements.proofs.Callables.{name_ends, member_written}
 use Rattle.sw_convert_statements.proofs.ForwardConfigurations.{forward_configured}
 use Rattle.sw_convert_statements.proofs.Keywords.{keyword, spaced_word}
@@ -239,14 +239,13 @@ module _ (source : Source) (i : ℕ) (was : WasRead source) where
   pub forward_written : ValuesAreKnown source → {j k m l : ℕ} {prefix : Option (List ℕ)} {filter : Filter}
       {givens : List Given} {tokens others more : List Tok} → (renamed : SpellsPrefix source j k prefix tokens)
       → is_prefix source renamed ≡ true → (members : SpellsFilter source k m filter others)
-      → is_filter source members ≡ true → (settings : SpellsConfiguration source m l givens more)
-      → is_forward_configuration settings ≡ true
+      → is_filter source members ≡ true → SpellsConfiguration source true m l givens more
       → FrontWritten modes.Forward
       (configured givens (codes "@forward " ++ (address ++ (prefix_text prefix ++ filter_text filter))))
       (again.sign terminals.AtForward ∷ address_token ∷ (tokens ++ (others ++ more)))
-  forward_written values {tokens = tokens} {others = others} {more = more} renamed t members u settings s before calm =
+  forward_written values {tokens = tokens} {others = others} {more = more} renamed t members u settings before calm =
       let it = forward_of renamed t members u before calm in
-      let all = forward_configured was values it.segment settings s in
+      let all = forward_configured was values it.segment settings in
       let head = written sorts.AtForward (is_spaced before) terminals.AtForward in
       let url = apart it.sort terminals.LoadUrl in record {
         passed = head ∷ url ∷ (it.prefix ++ (it.filter ++ all.configuration));

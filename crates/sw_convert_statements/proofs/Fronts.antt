@@ -13,7 +13,7 @@ use Rattle.sw_convert_again.specs.Tokens.{Tok}
 use Rattle.sw_convert_again.specs.Tokens as again
 use Rattle.sw_convert_again.specs.Statements.{SpellsStatement}
 use Rattle.sw_convert_again.specs.Statements as spells
-use Rattle.sw_convert_statements.specs.Fronts.{is_unbounded, is_mixin_name, is_namespace, is_prefix, is_filter, FrontsAreWritten, BranchesAreWritten}
+use Rattle.sw_convert_statements.specs.Fronts.{is_unbounded, is_prefix, FrontsAreWritten, BranchesAreWritten}
 use Rattle.sw_convert_statements.specs.Media.{is_seamless}
 use Rattle.sw_convert_statements.proofs.Queries.{media_written}
 use Rattle.sw_convert_statements.proofs.Valued.{return_written, say_written, if_written, while_written, else_if_written}
@@ -21,7 +21,6 @@ use Rattle.sw_convert_statements.proofs.Variables.{variable_written}
 use Rattle.sw_convert_statements.proofs.Loads.{use_written}
 use Rattle.sw_convert_statements.proofs.Forwards.{forward_written}
 use Rattle.sw_convert_statements.specs.Segments.{FrontWritten}
-use Rattle.sw_convert_statements.specs.OneName.{is_one_name}
 use Rattle.sw_convert_statements.proofs.Bounds.{for_written}
 use Rattle.sw_convert_statements.proofs.Assignments.{no_global, assignment_written}
 use Rattle.sw_convert_statements.proofs.Arguments.{given_written}
@@ -59,22 +58,18 @@ fronts_written source was known i j statement tokens
     (subst
     (λ (x : List ℕ). FrontWritten modes.Include (using_params params (codes "@include " ++ x)) (again.sign terminals.AtInclude ∷ ((ks ++ os) ++ more)))
     (append_assoc (space_text namespace) (name_text (name_at source at)) (given_arguments arguments))
-    (using_written source was known mixin (and_left (is_mixin_name source mixin) _ t) (given_written source was known given)
-    using (and_right (is_mixin_name source mixin) _ t)))
+    (using_written source was known mixin t (given_written source was known given) using))
 fronts_written source was known i j statement tokens (spells.at_root_block span old block) t = at_root_written
 fronts_written source was known i j statement tokens
     (spells.forward_line {i = k} span one two renamed members settings end) t =
-    let rest = and_right (is_prefix source renamed) _ t in
     forward_written source (suc k) was known renamed (and_left (is_prefix source renamed) _ t) members
-    (and_left (is_filter source members) _ rest) settings (and_right (is_filter source members) _ rest)
+    (and_right (is_prefix source renamed) _ t) settings
 fronts_written source was known i j statement tokens (spells.use_line {i = k} span one two name settings end) t =
-    use_written source (suc k) was known name (and_left (is_namespace source name) _ t) settings
-    (and_right (is_namespace source name) _ t)
+    use_written source (suc k) was known name t settings
 fronts_written source was known i j statement tokens (spells.function_block {i = k} span one two head block) t =
     function_written source was known (suc k) t head
 fronts_written source was known i j statement tokens (spells.mixin_block {i = k} span one two head block) t =
-    mixin_written source was known (suc k) (and_left (is_one_name (name_text (name_at source (suc k)))) _ t) head
-    (and_right (is_one_name (name_text (name_at source (suc k)))) _ t)
+    mixin_written source was known (suc k) t head
 fronts_written source was known i j statement tokens
     (spells.for_block {from = from} {tokens = ks} span one two three four low old high block) t =
     for_written source was three old (known.rows _ _ _ _ low) (and_left (is_unbounded (expr_text from) ks) _ t)

@@ -3,7 +3,7 @@ use Rattle.std.proofs.Common.{◌≡◌, ℕ, suc, Bool, true, false, not, ◌&&
 use Rattle.std.specs.Prelude.{◌==◌, codes}
 use Rattle.sw_text.specs.Names.{dashed}
 use Rattle.sw_text_scan.specs.Bytes.{sign, byte, is_digit}
-use Rattle.sw_text_scan.proofs.Bounds.{if_false, and_left, and_right, or_left, or_right, not_true}
+use Rattle.sw_text_scan.proofs.Bounds.{if_true, if_false, and_left, and_right, or_left, or_right, not_true}
 use Rattle.sw_tree.specs.declared.callable.Params.{Params as TreeParams}
 use Rattle.sw_tree.specs.declared.expr.Namespaced.{Namespaced}
 use Rattle.sw_tokens.specs.declared.pieces.Before.{Before}
@@ -22,13 +22,13 @@ use Rattle.sw_parse_table.specs.Actions.{name_at, params_with}
 use Rattle.sw_convert_spelling.proofs.Choices.{neither, left_no}
 use Rattle.sw_convert_written.specs.Escapes.{ends_unclosed}
 use Rattle.sw_convert_written.specs.Expressions.{is_url, space_text}
-use Rattle.sw_convert_written.specs.Heads.{has_none, params_text, using_params}
+use Rattle.sw_convert_written.specs.Heads.{has_none, params_text, using_params, word_behind}
 use Rattle.sw_convert_written.specs.Names.{name_text}
 use Rattle.sw_convert_passing.specs.Written.{Written, written, apart}
 use Rattle.sw_convert_passing.specs.Values.{Call, arguments, settled, settled_same}
 use Rattle.sw_convert_again.specs.Tokens.{Tok, tok, Dashed, Bytes}
 use Rattle.sw_convert_again.specs.Tokens as again
-use Rattle.sw_convert_again.specs.Params.{SpellsMixinName, SpellsUsing, own_name, owned_name, no_using, some_using}
+use Rattle.sw_convert_again.specs.Params.{SpellsMixinName, SpellsUsing, own_name, owned_name, no_using, empty_using, some_using}
 use Rattle.sw_convert_again.proofs.Tokens.{one_byte}
 use Rattle.sw_convert_tokens.specs.Joints.{Segment}
 use Rattle.sw_convert_tokens.specs.Written.{Follows, is_calm}
@@ -49,9 +49,9 @@ use Rattle.sw_convert_heads_passing.specs.Statements.{belonging}
 use Rattle.sw_convert_texts.specs.RawTexts.{SheetSegment}
 use Rattle.sw_convert_statements.specs.Segments.{seams, FrontWritten}
 use Rattle.sw_convert_statements.specs.OneName.{is_one_name, goes_behind_dot}
-use Rattle.sw_convert_statements.specs.Fronts.{ValuesAreKnown, is_mixin_name, writes_using}
+use Rattle.sw_convert_statements.specs.Fronts.{ValuesAreKnown, is_mixin_name}
 use Rattle.sw_convert_statements.proofs.Arguments.{IsGiven, nothing_given, arguments_given, settles_around}
-use Rattle.sw_convert_statements.proofs.Callables.{name_ends, word_using, member_written}
+use Rattle.sw_convert_statements.proofs.Callables.{name_ends, none_there, some_there, word_using, member_written}
 use Rattle.sw_convert_statements.proofs.Flow.{content_written}
 use Rattle.sw_convert_statements.proofs.Keywords.{keyword}
 use Rattle.sw_convert_statements.proofs.OneName.{one_name, name_segment, name_sort, dashed_text}
@@ -208,15 +208,22 @@ module _ (source : Source) (was : WasRead source) (values : ValuesAreKnown sourc
         segment = as_behind (λ after e. text_follows _ after e) it.segment;
       }
 
-  pub using_written : {k m : ℕ} {params : TreeParams} {more : List Tok} → (using : SpellsUsing source k m params more)
-      → writes_using using ≡ true
+  pub using_written : {k m : ℕ} {params : TreeParams} {more : List Tok} → SpellsUsing source k m params more
       → FrontWritten modes.Include (using_params params text) (again.sign terminals.AtInclude ∷ ((ks ++ os) ++ more))
-  using_written no_using w before calm =
+  using_written no_using before calm =
       (subst (λ (l : List Tok). FrontWritten modes.Include (using_params (params_with []) text) (again.sign terminals.AtInclude ∷ l))
       (sym (append-nil (ks ++ os)))
       (subst (λ (x : List ℕ). FrontWritten modes.Include x (again.sign terminals.AtInclude ∷ (ks ++ os)))
       (sym (append-nil text)) include_line_written)) before calm
-  using_written (some_using {params = params} {tokens = tokens} word head) w before calm =
+  using_written (empty_using {params = params} word head items rest) before calm =
+      (subst (λ (l : List Tok). FrontWritten modes.Include (using_params params text) (again.sign terminals.AtInclude ∷ l))
+      (sym (append-nil (ks ++ os)))
+      (subst (λ (x : List ℕ). FrontWritten modes.Include x (again.sign terminals.AtInclude ∷ (ks ++ os)))
+      (sym (append-nil text)
+      ∙ ap (λ (x : List ℕ). text ++ x)
+      (sym (if_true (has_none params) [] (word_behind (codes "using ") text ++ params_text params)
+      (none_there params items rest)))) include_line_written)) before calm
+  using_written (some_using {params = params} {tokens = tokens} word head some) before calm =
       let it = include_given (mixin_written source was mixin known) called before calm in
       let parens = parens_written source was values head true in
       let unclosed = ends_unclosed text in
@@ -226,7 +233,7 @@ module _ (source : Source) (was : WasRead source) (values : ValuesAreKnown sourc
       ap (λ (x : List ℕ). text ++ x)
       (sym (append_assoc (space_by unclosed) (codes "using ") (params_text params))
       ∙ sym (if_false (has_none params) [] ((space_by unclosed ++ codes "using ") ++ params_text params)
-      (not_true (has_none params) w))) in record {
+      (some_there params some))) in record {
         passed = written sorts.AtInclude (is_spaced before) terminals.AtInclude
             ∷ (it.passed ++ (seams unclosed ++ apart sorts.Using terminals.Using ∷ params_in true parens.passed));
         front = belonging (it.head (used_of unclosed parens.are));

@@ -37,7 +37,7 @@ use Rattle.sw_convert_heads_passing.specs.Loads.{is_url, UseName, no_name, as_na
 use Rattle.sw_convert_heads_passing.specs.Statements.{loading}
 use Rattle.sw_convert_texts.specs.RawTexts.{SheetSegment}
 use Rattle.sw_convert_statements.specs.Segments.{Anything, FrontWritten}
-use Rattle.sw_convert_statements.specs.Fronts.{ValuesAreKnown, is_use_configuration, is_namespace}
+use Rattle.sw_convert_statements.specs.Fronts.{ValuesAreKnown, is_namespace}
 use Rattle.sw_convert_statements.proofs.Callables.{name_ends}
 use Rattle.sw_convert_statements.proofs.Configurations.{configured_written}
 use Rattle.sw_convert_statements.proofs.OneName.{one_name, name_segment, name_sort}
@@ -151,12 +151,12 @@ module _ (source : Source) (i : ℕ) (was : WasRead source) where
 
   pub use_written : ValuesAreKnown source → {j k m : ℕ} {namespace : Namespace} {givens : List Given}
       {tokens others : List Tok} → (name : SpellsNamespace source i j k namespace tokens) → is_namespace source name ≡ true
-      → (settings : SpellsConfiguration source k m givens others) → is_use_configuration settings ≡ true
+      → SpellsConfiguration source false k m givens others
       → FrontWritten modes.Use (configured givens (codes "@use " ++ (address ++ as_text namespace)))
       (again.sign terminals.AtUse ∷ address_token ∷ (tokens ++ others))
-  use_written values name t settings s before calm =
+  use_written values name t settings before calm =
       let it = use_of name t before calm in
-      let all = configured_written was values it.segment settings s in record {
+      let all = configured_written was values it.segment settings in record {
         passed = written sorts.AtUse (is_spaced before) terminals.AtUse ∷ apart it.sort terminals.LoadUrl
             ∷ (it.name ++ all.configuration);
         first = refl;

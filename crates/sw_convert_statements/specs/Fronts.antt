@@ -3,11 +3,9 @@
 use Rattle.std.specs.Prelude.{◌≡◌, ℕ, suc, Bool, true, false, not, ◌&&◌, ◌||◌, List, ◌∷◌, ◌++◌, take, Option, codes, []}
 use Rattle.sw_text_scan.specs.declared.runs.Class.TheVariants as classes
 use Rattle.sw_text_scan.specs.Runs.{run_end}
-use Rattle.sw_tree.specs.declared.callable.Params.{Params}
 use Rattle.sw_tree.specs.declared.expr.Expr.{Expr}
 use Rattle.sw_tree.specs.declared.expr.Namespaced.{Namespaced}
 use Rattle.sw_tree.specs.declared.load.Filter.{Filter}
-use Rattle.sw_tree.specs.declared.load.Given.{Given}
 use Rattle.sw_tree.specs.declared.load.Member.{Member}
 use Rattle.sw_tree.specs.declared.load.Namespace.{Namespace}
 use Rattle.sw_tree.specs.declared.statement.Statement.{Statement}
@@ -21,17 +19,15 @@ use Rattle.sw_parse_terminals.specs.Urls.{has_namespace}
 use Rattle.sw_parse_table.specs.Sources.{bytes_at, decoded_at}
 use Rattle.sw_parse_table.specs.Actions.{name_at}
 use Rattle.sw_convert_written.specs.Expressions.{expr_text}
-use Rattle.sw_convert_written.specs.Heads.{has_none}
 use Rattle.sw_convert_written.specs.Names.{name_text}
 use Rattle.sw_convert_passing.specs.Kinds.{is_bound}
 use Rattle.sw_convert_again.specs.Tokens.{Tok, sign}
 use Rattle.sw_convert_again.specs.Spells.{Spells, SpellsPlain}
 use Rattle.sw_convert_again.specs.Statements.{SpellsStatement}
 use Rattle.sw_convert_again.specs.Statements as spells
-use Rattle.sw_convert_again.specs.Bare.{is_bare}
-use Rattle.sw_convert_again.specs.Loads.{SpellsConfigured, SpellsMoreConfigured, SpellsConfiguration, SpellsNamespace, SpellsPrefix, SpellsMember, SpellsMoreMembers, SpellsFilter}
+use Rattle.sw_convert_again.specs.Loads.{SpellsNamespace, SpellsPrefix, SpellsMember, SpellsMoreMembers, SpellsFilter}
 use Rattle.sw_convert_again.specs.Loads as spells_loads
-use Rattle.sw_convert_again.specs.Params.{SpellsOptionalParams, SpellsMixinName, SpellsUsing, some_head, own_name, owned_name, no_using, some_using}
+use Rattle.sw_convert_again.specs.Params.{SpellsMixinName, own_name, owned_name}
 use Rattle.sw_convert_tokens.specs.Written.{AsRow, AsValue, WrittenAs}
 use Rattle.sw_convert_tokens.specs.Values.{WasRead}
 use Rattle.sw_convert_statements.specs.Segments.{ElseWritten}
@@ -47,59 +43,12 @@ pub record ValuesAreKnown (source : Source) : Type 0 where
   pub plains : (i j : ℕ) (value : Expr) (tokens : List Tok) → SpellsPlain source i j value tokens
       → (signed : Bool) × WrittenAs (AsValue signed) (expr_text value) tokens
 
--- parentheses stand behind the name of a mixin where it has parameters
-abbrev pub writes_params : {source : Source} {i j : ℕ} {params : Params} {tokens : List Tok}
-    → SpellsOptionalParams source i j params tokens → Bool
-writes_params (some_head {params = params} head) = not (has_none params)
-writes_params _ = true
-
--- the same of the parameters of a content block
-abbrev pub writes_using : {source : Source} {i j : ℕ} {params : Params} {tokens : List Tok}
-    → SpellsUsing source i j params tokens → Bool
-writes_using no_using = true
-writes_using (some_using {params = params} old head) = not (has_none params)
-
 -- the name of a mixin is one, and makes no number of a `.` before it
 abbrev pub is_mixin_name : (source : Source) {i j : ℕ} {namespace : Option Namespaced} {at : ℕ} {tokens : List Tok}
     → SpellsMixinName source i j namespace at tokens → Bool
 is_mixin_name source (own_name {i} old) = is_one_name (name_text (name_at source i))
 is_mixin_name source (owned_name {i} owner dot old) =
     is_one_name (name_text (name_at source (suc (suc i)))) && goes_behind_dot (name_text (name_at source (suc (suc i))))
-
--- variables are configured without `!default`, which `@use` never has
-abbrev pub is_use_entry : {source : Source} {i j : ℕ} {given : Given} {tokens : List Tok}
-    → SpellsConfigured source i j given tokens → Bool
-is_use_entry (spells_loads.configured_variable dollar name colon spelt) = true
-is_use_entry _ = false
-
-abbrev pub are_use_entries : {source : Source} {i j : ℕ} {givens : List Given} {tokens : List Tok}
-    → SpellsMoreConfigured source i j givens tokens → Bool
-are_use_entries spells_loads.no_more_configured = true
-are_use_entries (spells_loads.more_configured comma one more) = is_use_entry one && are_use_entries more
-
-abbrev pub is_use_configuration : {source : Source} {i j : ℕ} {givens : List Given} {tokens : List Tok}
-    → SpellsConfiguration source i j givens tokens → Bool
-is_use_configuration spells_loads.no_configuration = true
-is_use_configuration (spells_loads.some_configuration with_word opens one more end closes) =
-    is_use_entry one && are_use_entries more
-
--- variables are configured with single values, with `!default` or without, as `@forward` has them
-abbrev pub is_forward_entry : {source : Source} {i j : ℕ} {given : Given} {tokens : List Tok}
-    → SpellsConfigured source i j given tokens → Bool
-is_forward_entry (spells_loads.configured_variable {value = value} dollar name colon spelt) = not (is_bare value)
-is_forward_entry (spells_loads.configured_default {value = value} dollar name colon spelt bang default) =
-    not (is_bare value)
-
-abbrev pub are_forward_entries : {source : Source} {i j : ℕ} {givens : List Given} {tokens : List Tok}
-    → SpellsMoreConfigured source i j givens tokens → Bool
-are_forward_entries spells_loads.no_more_configured = true
-are_forward_entries (spells_loads.more_configured comma one more) = is_forward_entry one && are_forward_entries more
-
-abbrev pub is_forward_configuration : {source : Source} {i j : ℕ} {givens : List Given} {tokens : List Tok}
-    → SpellsConfiguration source i j givens tokens → Bool
-is_forward_configuration spells_loads.no_configuration = true
-is_forward_configuration (spells_loads.some_configuration with_word opens one more end closes) =
-    is_forward_entry one && are_forward_entries more
 
 -- the url gives a namespace, or one is written, and is one name
 abbrev pub is_namespace : (source : Source) {url i j : ℕ} {namespace : Namespace} {tokens : List Tok}
@@ -164,16 +113,13 @@ is_told {source} (spells.assignment_line {i} span target_span one two three four
 is_told (spells.charset_line span one two end) = true
 is_told (spells.content_line span old given end) = true
 is_told {source} (spells.include_line span name_span old mixin given using end) = is_mixin_name source mixin
-is_told {source} (spells.include_block span name_span old mixin given using block) =
-    is_mixin_name source mixin && writes_using using
+is_told {source} (spells.include_block span name_span old mixin given using block) = is_mixin_name source mixin
 is_told (spells.at_root_block span old block) = true
 is_told {source} (spells.forward_line span one two renamed members settings end) =
-    is_prefix source renamed && (is_filter source members && is_forward_configuration settings)
-is_told {source} (spells.use_line span one two name settings end) =
-    is_namespace source name && is_use_configuration settings
+    is_prefix source renamed && is_filter source members
+is_told {source} (spells.use_line span one two name settings end) = is_namespace source name
 is_told {source} (spells.function_block {i} span one two head block) = is_one_name (name_text (name_at source (suc i)))
-is_told {source} (spells.mixin_block {i} span one two head block) =
-    is_one_name (name_text (name_at source (suc i))) && writes_params head
+is_told {source} (spells.mixin_block {i} span one two head block) = is_one_name (name_text (name_at source (suc i)))
 is_told
     (spells.for_block {from = from} {to = to} {tokens = tokens} {others = others} span one two three four low old high
     block) =
