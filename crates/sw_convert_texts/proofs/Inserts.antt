@@ -49,16 +49,19 @@ close_token : (before : Before) (after : List ℕ)
 unfolding code_piece byte
 close_token before after = refl
 
-abbrev pub opening : Before → Bool → Terminal → Said → Seen
-opening before spaced terminal said = record {
-  gap = gap_of spaced;
+abbrev pub opening_behind : Before → List ℕ → Terminal → Said → Seen
+opening_behind before gap terminal said = record {
+  gap = gap;
   kind = kinds.OpenInterpolation;
   bytes = codes "#{";
   change = changes.Push insides.Interpolation;
-  spaced = is_spaced (behind_gap before (gap_of spaced));
+  spaced = is_spaced (behind_gap before gap);
   may_be = terminal ∷ [];
   said = said;
 }
+
+abbrev pub opening : Before → Bool → Terminal → Said → Seen
+opening before spaced terminal said = opening_behind before (gap_of spaced) terminal said
 
 abbrev pub closing : Said → Seen
 closing said = record {
@@ -103,18 +106,18 @@ close_stand stack said joints after more = (
   more,
 )
 
-pub insert_stand : (stack : List Inside) (before : Before) (spaced : Bool) (terminal : Terminal) (first said : Said)
+pub value_stand : (stack : List Inside) (before : Before) (gap : List ℕ) (terminal : Terminal) (first said : Said)
     {value : List ℕ} {tokens : List Tok} (inner : Inner value tokens) (joints : List Joint) (after : List ℕ)
-    → takes_insert (innermost stack) ≡ true → is_gap (innermost stack) (gap_of spaced) (codes "#{") ≡ true
+    → takes_insert (innermost stack) ≡ true → is_gap (innermost stack) gap (codes "#{") ≡ true
     → Stand stack befores.Other joints stack after
     → Stand stack before
-    (Token (opening before spaced terminal first) ∷ (inner.segment.joints ++ Token (closing said) ∷ joints)) stack after
-insert_stand stack before spaced terminal first said {value} inner joints after takes gap more = (
-  gap,
+    (Token (opening_behind before gap terminal first) ∷ (inner.segment.joints ++ Token (closing said) ∷ joints)) stack after
+value_stand stack before gap terminal first said {value} inner joints after takes is more = (
+  is,
   some_two,
   (refl, refl),
   λ e. absurd (cc),
-  open_token (innermost stack) (behind_gap before (gap_of spaced)) _ takes,
+  open_token (innermost stack) (behind_gap before gap) _ takes,
   stand_append (insides.Interpolation ∷ stack) (insides.Interpolation ∷ stack) stack befores.Other inner.segment.joints
       (Token (closing said) ∷ joints) after
       (inner.segment.stand (insides.Interpolation ∷ stack) (text (Token (closing said) ∷ joints) ++ after) refl
@@ -122,3 +125,12 @@ insert_stand stack before spaced terminal first said {value} inner joints after 
       (subst (λ (b : Before). Stand (insides.Interpolation ∷ stack) b (Token (closing said) ∷ joints) stack after)
       (sym inner.segment.last) (close_stand stack said joints after more)),
 )
+
+pub insert_stand : (stack : List Inside) (before : Before) (spaced : Bool) (terminal : Terminal) (first said : Said)
+    {value : List ℕ} {tokens : List Tok} (inner : Inner value tokens) (joints : List Joint) (after : List ℕ)
+    → takes_insert (innermost stack) ≡ true → is_gap (innermost stack) (gap_of spaced) (codes "#{") ≡ true
+    → Stand stack befores.Other joints stack after
+    → Stand stack before
+    (Token (opening before spaced terminal first) ∷ (inner.segment.joints ++ Token (closing said) ∷ joints)) stack after
+insert_stand stack before spaced terminal first said inner joints after takes gap more =
+    value_stand stack before (gap_of spaced) terminal first said inner joints after takes gap more

@@ -33,3 +33,15 @@ pub mod WordsWithValues
 pub mod Dotted
 mod UrlTokens
 pub mod Urls
+mod AroundTexts
+mod SeamedTexts
+mod RawOlds
+mod RawNames
+mod RawSigns
+mod RawLiterals
+mod RawTokens
+mod RawSits
+mod RawRows
+mod RawBrackets
+mod RawJoined
+mod RawWritten

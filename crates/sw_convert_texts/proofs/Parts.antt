@@ -46,10 +46,11 @@ one_byte (b ∷ []) e = (b, refl)
 one_byte (b ∷ c ∷ xs) e = absurd (omega (arith, e))
 
 -- no unit goes on there
-quiet_stop : (after : List ℕ) → Quiet (byte after 0) → next classes.Unit after 0 ≤ 0
-quiet_stop after quiet =
-    let stays = if_false (goes_in_unit after 0) (0 + 1) (escape_end after 0) (no_more_unit (byte after 0) _ quiet.name)
-    ∙ no_escape after quiet.slash in omega (arith, stays)
+pub unit_stop : (after : List ℕ) → is_name_byte (byte after 0) ≡ false → (byte after 0 == sign "\\") ≡ false
+    → next classes.Unit after 0 ≤ 0
+unit_stop after name slash =
+    let stays = if_false (goes_in_unit after 0) (0 + 1) (escape_end after 0) (no_more_unit (byte after 0) _ name)
+    ∙ no_escape after slash in omega (arith, stays)
   where
     no_more_unit : (b : ℕ) (x : Bool) → is_name_byte b ≡ false
         → (starts_plainly b || (is_digit b || ((b == sign "-") && x))) ≡ false
@@ -58,6 +59,9 @@ quiet_stop after quiet =
         neither (starts_plainly b) _ (or_left (starts_plainly b) (is_digit b || (b == sign "-")) e)
         (neither (is_digit b) _ (or_left (is_digit b) (b == sign "-") more)
         (left_no (b == sign "-") x (or_right (is_digit b) (b == sign "-") more)))
+
+quiet_stop : (after : List ℕ) → Quiet (byte after 0) → next classes.Unit after 0 ≤ 0
+quiet_stop after quiet = unit_stop after quiet.name quiet.slash
 
 module _ (source : Source) (k : ℕ) (lexeme : Lexeme) (there : lexeme_at source k ≡ Some lexeme) (kind : TokenKind)
     (text : List ℕ) (fits : is_part (sort_of kind text) ≡ true) (it : Whole source lexeme kind text) where

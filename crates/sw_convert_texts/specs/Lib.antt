@@ -2,4 +2,5 @@ pub mod Adjoining
 pub mod Inserted
 pub mod Names
 pub mod RawTexts
+pub mod RawKinds
 pub mod Urls

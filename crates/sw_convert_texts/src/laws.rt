@@ -1,6 +1,7 @@
 // What is written of a text in which values stand is its tokens.
 ghost use Rattle.sw_convert_texts.specs.Adjoining.{PartsAdjoin};
 ghost use Rattle.sw_convert_texts.specs.Names.{AtNamesAreWritten, CalledWordsAreWritten, CustomNamesAreWritten, WordsWithValuesAreWritten};
+ghost use Rattle.sw_convert_texts.specs.RawKinds.{RawTextsAreWritten};
 ghost use Rattle.sw_convert_texts.specs.Urls.{UrlsAreWritten};
 
 /// A law: what is written of a word with `#{}` in it is its tokens, where this is so of the values in it.
@@ -33,4 +34,10 @@ pub fn urls_are_written()
 /// A law: what a word or a name that was read goes on with begins where it ends, and no comment stands between them.
 pub fn parts_adjoin()
     ensures { PartsAdjoin }
+{}
+
+/// A law: what is written of raw text without comments is its tokens, with values in `#{}` and through any number of
+/// brackets, where this is so of the values in it.
+pub fn raw_texts_are_written()
+    ensures { RawTextsAreWritten }
 {}

@@ -7,5 +7,5 @@ mod laws;
 
 pub use laws::{
     at_names_are_written, called_words_are_written, custom_names_are_written, parts_adjoin,
-    urls_are_written, words_with_values_are_written,
+    raw_texts_are_written, urls_are_written, words_with_values_are_written,
 };

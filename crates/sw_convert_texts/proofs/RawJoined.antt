@@ -1,0 +1,148 @@
+-- Raw text without comments is written as its tokens: items one behind the other, through any number of brackets.
+use Rattle.std.proofs.Common.{◌≡◌, ℕ, suc, ◌+◌, Bool, true, false, ◌&&◌, List, [], ◌∷◌, ◌++◌, length, refl, sym, ◌∙◌, ap, subst, arith, append_assoc, length-append}
+use Rattle.std.specs.List.{list_all}
+use Rattle.sw_text_scan.specs.Bytes.{is_white}
+use Rattle.sw_text_scan.proofs.Bounds.{and_left, and_right}
+use Rattle.sw_tokens.specs.declared.pieces.Before.{Before}
+use Rattle.sw_tokens.specs.declared.pieces.Before.TheVariants as befores
+use Rattle.sw_parse_lexemes.specs.declared.state.Mode.{Mode}
+use Rattle.sw_parse_table.specs.declared.source.Source.{Source}
+use Rattle.sw_parse_table.specs.Parts.{Part}
+use Rattle.sw_parse_table.specs.Sources.{Texts, begun, to_at, bytes_at}
+use Rattle.sw_convert_spelling.specs.Spelt.{behind_gap}
+use Rattle.sw_convert_passing.specs.Written.{Written}
+use Rattle.sw_convert_written.specs.Expressions.{expr_text}
+use Rattle.sw_convert_heads_passing.specs.RawTexts.{RawText}
+use Rattle.sw_convert_again.specs.Tokens.{Said, Nothing, Extent, shifted, Tok, saying}
+use Rattle.sw_convert_again.specs.RawTexts.{SpellsRawItem, SpellsRawText, raw_token, raw_insert, raw_brackets, raw_end, raw_more}
+use Rattle.sw_convert_tokens.specs.Joints.{Joint, text, toks, writtens, behind, Stand, Sit}
+use Rattle.sw_convert_tokens.specs.Values.{WasRead}
+use Rattle.sw_convert_tokens.specs.Written.{is_calm}
+use Rattle.sw_convert_tokens.proofs.Joins.{text_behind, toks_append, writtens_append, behind_append, stand_append, sit_left}
+use Rattle.sw_convert_texts.specs.Inserted.{RawItemHasValues, RawTextHasValues}
+use Rattle.sw_convert_texts.specs.RawKinds.{gap_before, row_text, is_bracketed, is_beside, item_known, row_known}
+use Rattle.sw_convert_texts.proofs.AroundTexts.{CutFrom}
+use Rattle.sw_convert_texts.proofs.Inserts.{inner_of}
+use Rattle.sw_convert_texts.proofs.RawOlds.{item_cut, row_cut, beside_told, brackets_told}
+use Rattle.sw_convert_texts.proofs.RawSits.{shifted_append, shifted_twice, ends_apart, ends_append, sit_right, sit_end}
+use Rattle.sw_convert_texts.proofs.RawRows.{Placed, StandBefore, IsRaw, ItemIs, RowIs, token_is, insert_is}
+use Rattle.sw_convert_texts.proofs.RawBrackets.{brackets_is}
+
+-- the first token of an item says nothing of its own
+nothing_said : {source : Source} {i k : ℕ} {parts : List Part} {tokens : List Tok} {extents : List Extent}
+    → SpellsRawItem source i k parts tokens extents → saying Nothing tokens ≡ tokens
+nothing_said (raw_token old) = refl
+nothing_said (raw_insert opens inner close) = refl
+nothing_said (raw_brackets kind opens text close) = refl
+
+-- behind an item as it is written
+pub row_stand : (before : Before) (xs ys : List Joint) (behind_text whole : List ℕ) → StandBefore before xs whole
+    → behind before xs ≡ befores.Other → text ys ++ behind_text ≡ whole → StandBefore befores.Other ys behind_text
+    → StandBefore before (xs ++ ys) behind_text
+row_stand before xs ys behind_text whole one last same more after ends =
+    stand_append [] [] [] before xs ys (behind_text ++ after)
+    (subst (Stand [] before xs [])
+    (ap (λ (t : List ℕ). t ++ after) (sym same) ∙ append_assoc (text ys) behind_text after) (one after ends))
+    (subst (λ (b : Before). Stand [] b ys [] (behind_text ++ after)) (sym last) (more after ends))
+
+pub row_raw : (mode : Mode) (xs ys : List Joint) → IsRaw mode xs → IsRaw mode ys → IsRaw mode (xs ++ ys)
+row_raw mode xs ys one more around rest told =
+    subst (RawText mode around)
+    (sym (ap (λ (t : List Written). t ++ rest) (writtens_append xs ys) ∙ append_assoc (writtens xs) (writtens ys) rest))
+    (one around (writtens ys ++ rest) (more around rest told))
+
+row_placed : (xs ys : List Joint) (count others : ℕ) (extents further : List Extent) (cut then : Texts → Texts)
+    → length (toks xs) ≡ count → ends_apart false xs ≡ false → Placed xs count extents cut → Placed ys others further then
+    → Placed (xs ++ ys) (count + others) (extents ++ shifted count further) (λ cuts. cut (then cuts))
+row_placed xs ys count others extents further cut then counted ended one more new at front after to end list cuts here sit rest =
+    let left = sit_left new false (suc at) front xs ys after sit in
+    let right = sit_right new false (suc at) front xs ys after sit in
+    let there : to_at new (at + count) ≡ length (front ++ text xs) =
+    ap (λ (n : ℕ). to_at new (at + n)) (sym counted) ∙ sit_end new false at front xs (text ys ++ after) (λ f. here) left ended in
+    let sits : Sit new false (suc (at + count)) (front ++ text xs) ys after =
+    subst (λ (n : ℕ). Sit new false n (front ++ text xs) ys after)
+    (let z : suc at + length (toks xs) ≡ suc (at + count) = omega (arith, counted) in z)
+    (subst (λ (b : Bool). Sit new b (suc at + length (toks xs)) (front ++ text xs) ys after) ended right) in
+    let behind_cut = more new (at + count) (front ++ text xs) after to end list cuts there sits
+    (subst (λ (n : ℕ). CutFrom new to end n list cuts) (let z : at + (count + others) ≡ (at + count) + others = omega arith in z) rest) in
+    subst (λ (extents : List Extent). CutFrom new to end at extents (cut (then cuts)))
+    (sym (ap (λ (t : List Extent). t ++ list)
+    (shifted_append (suc at) extents (shifted count further)
+    ∙ ap (λ (t : List Extent). shifted (suc at) extents ++ t)
+    (shifted_twice (suc at) count (suc (at + count)) further (let z : suc at + count ≡ suc (at + count) = omega arith in z)))
+    ∙ append_assoc (shifted (suc at) extents) (shifted (suc (at + count)) further) list))
+    (one new at front (text ys ++ after) to end (shifted (suc (at + count)) further ++ list) (then cuts) here left behind_cut)
+
+calm_gap : (gap : List ℕ) → is_calm (behind_gap befores.Other gap) ≡ true
+calm_gap [] = refl
+calm_gap (b ∷ gap) = refl
+
+module _ (source : Source) (was : WasRead source) (mode : Mode) where
+  more_is : {i k j : ℕ} {parts more : List Part} {tokens others : List Tok} {extents further : List Extent}
+      (item : SpellsRawItem source i k parts tokens extents) (row : SpellsRawText source k j more others further)
+      (behind_text : List ℕ) → ItemIs source mode item (row_text source row behind_text) befores.Other (gap_before source i) Nothing
+      → RowIs source mode row behind_text → RowIs source mode (raw_more item row) behind_text
+  more_is {i} {tokens = tokens} {others = others} {extents = extents} {further = further} item row behind_text one rest =
+      let xs = one.joints in
+      let ys = rest.joints in record {
+        joints = xs ++ ys;
+        spelling = λ t. text_behind xs ys t
+            ∙ ap (λ (u : List ℕ). text xs ++ u) (rest.spelling t) ∙ one.spelling (row_text source row t);
+        seen = toks_append xs ys
+            ∙ ap (λ (t : List Tok). t ++ toks ys) (one.seen ∙ nothing_said item)
+            ∙ ap (λ (t : List Tok). tokens ++ t) rest.seen;
+        last = behind_append befores.Other xs ys ∙ ap (λ (b : Before). behind b ys) one.last ∙ rest.last;
+        ended = ends_append false xs ys ∙ ap (λ (b : Bool). ends_apart b ys) (one.ended false) ∙ rest.ended;
+        raw = row_raw mode xs ys one.raw rest.raw;
+        tells = one.tells ys rest.tells (λ new commented at front after sit. tt);
+        placed = λ new at front after to end list cuts here sit cut.
+            row_placed xs ys (length tokens) (length others) extents further
+            (λ cuts. begun (gap_before source i) (item_cut source item cuts)) (row_cut source row) one.counted (one.ended false)
+            one.placed rest.placed new at front after to end list cuts here sit
+            (subst (λ (n : ℕ). CutFrom new to end (at + n) list cuts) (length-append tokens others) cut);
+        stand = row_stand befores.Other xs ys behind_text (row_text source row behind_text) one.stand one.last
+            (rest.spelling behind_text) rest.stand;
+      }
+
+  mutual
+    -- an item behind white space, and its first token says this
+    pub item_is : {i k : ℕ} {parts : List Part} {tokens : List Tok} {extents : List Extent}
+        (item : SpellsRawItem source i k parts tokens extents) (behind_text : List ℕ) (before : Before) (gap : List ℕ) (said : Said)
+        → item_known source mode item behind_text ≡ true → list_all is_white gap ≡ true
+        → is_calm (behind_gap before gap) ≡ true → RawItemHasValues item
+        → ItemIs source mode item behind_text before gap said
+    item_is (raw_token old) behind_text before gap said known white calm has =
+        token_is source was mode old behind_text before gap said known white calm
+    item_is (raw_insert {value = value} {tokens = tokens} opens inner close) behind_text before gap said known white calm has =
+        insert_is source was mode opens inner close (inner_of (expr_text value) tokens has) before gap said behind_text white
+    item_is (raw_brackets {i = i} {c = c} kind opens row close) behind_text before gap said known white calm has =
+        let are = brackets_told source mode i c kind (and_left (is_bracketed mode kind && _) _ known) in
+        let inner = and_right (is_bracketed mode kind && _) _ known in
+        let beside = beside_told source c (and_left (is_beside source c) _ inner) in
+        brackets_is source mode kind are row behind_text before gap said beside.white
+        (row_is row (gap_before source c ++ (bytes_at source c ++ behind_text)) (and_right (is_beside source c) _ inner) has)
+        opens close white
+
+    pub row_is : {i j : ℕ} {parts : List Part} {tokens : List Tok} {extents : List Extent}
+        (row : SpellsRawText source i j parts tokens extents) (behind_text : List ℕ) → row_known source mode row behind_text ≡ true
+        → RawTextHasValues row → RowIs source mode row behind_text
+    row_is raw_end behind_text known has = record {
+      joints = [];
+      spelling = λ rest. refl;
+      seen = refl;
+      last = refl;
+      ended = refl;
+      raw = λ around rest more. more;
+      tells = tt;
+      placed = λ new at front after to end more cuts here sit rest.
+          subst (λ (n : ℕ). CutFrom new to end n more cuts) (let z : at + 0 ≡ at = omega arith in z) rest;
+      stand = λ after ends. refl;
+    }
+    row_is (raw_more {i = i} item row) behind_text known (has, more) =
+        let rest = and_right (is_beside source i) _ known in
+        let beside = beside_told source i (and_left (is_beside source i) _ known) in
+        more_is item row behind_text
+        (item_is item (row_text source row behind_text) befores.Other (gap_before source i) Nothing
+        (and_left (item_known source mode item (row_text source row behind_text)) _ rest) beside.white
+        (calm_gap (gap_before source i)) has)
+        (row_is row behind_text (and_right (item_known source mode item (row_text source row behind_text)) _ rest) more)

@@ -1,0 +1,232 @@
+-- Raw text that was read, item by item: the texts around its values, and what is written of it.
+use Rattle.std.proofs.Common.{◌≡◌, ◌≤◌, ◌<◌, ℕ, suc, ◌-◌, true, not, ◌&&◌, List, [], ◌∷◌, ◌++◌, length, refl, sym, ◌∙◌, ap, subst, arith, append_assoc}
+use Rattle.std.specs.Prelude.{nat_le, nat_lt, bytes_eq, slice_range}
+use Rattle.std.specs.List.{list_all}
+use Rattle.std.proofs.lemmas.Bool.Decides.{nat_tests}
+use Rattle.std.proofs.lemmas.Slice.Eq.{bytes_eq-Decides}
+use Rattle.sw_text_scan.specs.Bytes.{is_white}
+use Rattle.sw_text_scan.proofs.Bounds.{and_left, and_right, not_true}
+use Rattle.sw_parse_terminals.specs.declared.terminal.Terminal.{Terminal}
+use Rattle.sw_parse_lexemes.specs.declared.state.Mode.{Mode}
+use Rattle.sw_parse_table.specs.declared.source.Source.{Source}
+use Rattle.sw_parse_table.specs.Parts.{Part, Inserts}
+use Rattle.sw_parse_table.specs.Sources.{Texts, begun, bytes, from_at, to_at, bytes_at, is_commented, pieces_from}
+use Rattle.sw_convert_again.specs.Tokens.{Tok, Extent, extent}
+use Rattle.sw_convert_again.specs.Spells.{extents_of}
+use Rattle.sw_convert_again.specs.RawTexts.{Brackets, parens, squares, braces, SpellsRawItem, SpellsRawText, raw_token, raw_insert, raw_brackets, raw_end, raw_more}
+use Rattle.sw_convert_texts.specs.RawKinds.{gap_before, item_text, row_text, is_some, opening_text, closing_text, is_bracketed, is_beside, item_known, row_known}
+use Rattle.sw_convert_texts.proofs.JoinedTexts.{slice_some}
+use Rattle.sw_convert_texts.proofs.AroundTexts.{lones, cut_before, around_texts, CutFrom, Step, Beside, cut_token, cut_insert, first_token, first_insert}
+use Rattle.sw_convert_texts.proofs.SeamedTexts.{in_insert, IsSeamed, SeamedFrom, seamed_token, seamed_value, seamed_first, value_first}
+
+-- ---- the texts around its values
+
+abbrev mutual
+  pub item_cut : (source : Source) {i k : ℕ} {parts : List Part} {tokens : List Tok} {extents : List Extent}
+      → SpellsRawItem source i k parts tokens extents → Texts → Texts
+  item_cut source (raw_token {i = i} old) cuts = begun (bytes_at source i) cuts
+  item_cut source (raw_insert opens inner close) cuts = cut_before cuts
+  item_cut source (raw_brackets {i = i} {c = c} kind opens text close) cuts =
+      begun (bytes_at source i) (row_cut source text (begun (gap_before source c) (begun (bytes_at source c) cuts)))
+
+  pub row_cut : (source : Source) {i j : ℕ} {parts : List Part} {tokens : List Tok} {extents : List Extent}
+      → SpellsRawText source i j parts tokens extents → Texts → Texts
+  row_cut source raw_end cuts = cuts
+  row_cut source (raw_more {i = i} item text) cuts = begun (gap_before source i) (item_cut source item (row_cut source text cuts))
+
+-- ---- what is told of tokens
+
+equal : (xs ys : List ℕ) → bytes_eq xs ys ≡ true → xs ≡ ys
+equal xs ys e = (bytes_eq-Decides xs ys).0 e
+
+some_bytes : (text : List ℕ) → is_some text ≡ true → 0 < length text
+some_bytes [] e = absurd (cc)
+some_bytes (b ∷ text) e = omega arith
+
+pub opening_some : {opening closing : Terminal} (kind : Brackets opening closing) → is_some (opening_text kind) ≡ true
+opening_some parens = refl
+opening_some squares = refl
+opening_some braces = refl
+
+pub closing_some : {opening closing : Terminal} (kind : Brackets opening closing) → is_some (closing_text kind) ≡ true
+closing_some parens = refl
+closing_some squares = refl
+closing_some braces = refl
+
+-- what stands beside the token before
+pub record IsBeside (source : Source) (i : ℕ) : Type 0 where
+  pub place : suc (i - 1) ≡ i
+  pub beside : Beside source (i - 1) (gap_before source i)
+  pub white : list_all is_white (gap_before source i) ≡ true
+
+pub beside_told : (source : Source) (i : ℕ) → is_beside source i ≡ true → IsBeside source i
+beside_told source i e =
+    let rest = and_right (nat_lt 0 i) _ e in
+    let more = and_right (not (is_commented source i)) _ rest in
+    let place : suc (i - 1) ≡ i = behind i (and_left (nat_lt 0 i) _ e) in record {
+      place = place;
+      beside = record {
+        calm = ap (is_commented source) place ∙ not_true (is_commented source i) (and_left (not (is_commented source i)) _ rest);
+        gap_is = ap (λ (m : ℕ). slice_range (bytes source) (to_at source (i - 1)) (from_at source m)) place;
+        low = subst (λ (m : ℕ). to_at source (i - 1) ≤ from_at source m) (sym place)
+            (le (to_at source (i - 1)) (from_at source i) (and_left (nat_le (to_at source (i - 1)) (from_at source i)) _ more));
+      };
+      white = and_right (nat_le (to_at source (i - 1)) (from_at source i)) _ more;
+    }
+  where
+    behind : (n : ℕ) → nat_lt 0 n ≡ true → suc (n - 1) ≡ n
+    behind n l = let some : 0 < n = grind (arith, nat_tests) in omega (arith, some)
+
+    le : (a b : ℕ) → nat_le a b ≡ true → a ≤ b
+    le a b l = grind (arith, nat_tests)
+
+-- it ends behind its begin
+pub lies : (source : Source) (i : ℕ) → is_some (bytes_at source i) ≡ true → from_at source i ≤ to_at source i
+lies source i some =
+    let lt = slice_some (bytes source) (from_at source i) (to_at source i) (some_bytes (bytes_at source i) some) in
+    omega (arith, lt)
+
+-- a token with text of its own
+pub step_told : (source : Source) (i : ℕ) → IsBeside source i → is_some (bytes_at source i) ≡ true
+    → Step source (i - 1) (gap_before source i) (bytes_at source i)
+step_told source i it some =
+    let high = lies source i some in record {
+      calm = it.beside.calm;
+      gap_is = it.beside.gap_is;
+      text_is = ap (bytes_at source) it.place;
+      low = it.beside.low;
+      high = subst (λ (m : ℕ). from_at source m ≤ to_at source m) (sym it.place) high;
+    }
+
+some_as : (text other : List ℕ) → bytes_eq text other ≡ true → is_some other ≡ true → is_some text ≡ true
+some_as text other e some = ap is_some (equal text other e) ∙ some
+
+module _ (source : Source) (mode : Mode) where
+  -- what is told of brackets
+  pub record AreBrackets {opening closing : Terminal} (i c : ℕ) (kind : Brackets opening closing) : Type 0 where
+    pub bracketed : is_bracketed mode kind ≡ true
+    pub opening_is : bytes_at source i ≡ opening_text kind
+    pub closing_is : bytes_at source c ≡ closing_text kind
+    pub opening_some : is_some (bytes_at source i) ≡ true
+    pub closing_some : is_some (bytes_at source c) ≡ true
+
+  pub brackets_told : {opening closing : Terminal} (i c : ℕ) (kind : Brackets opening closing)
+      → (is_bracketed mode kind
+      && (bytes_eq (bytes_at source i) (opening_text kind) && bytes_eq (bytes_at source c) (closing_text kind))) ≡ true
+      → AreBrackets i c kind
+  brackets_told i c kind e =
+      let rest = and_right (is_bracketed mode kind) _ e in
+      let opens = and_left (bytes_eq (bytes_at source i) (opening_text kind)) _ rest in
+      let closes = and_right (bytes_eq (bytes_at source i) (opening_text kind)) _ rest in record {
+        bracketed = and_left (is_bracketed mode kind) _ e;
+        opening_is = equal (bytes_at source i) (opening_text kind) opens;
+        closing_is = equal (bytes_at source c) (closing_text kind) closes;
+        opening_some = some_as (bytes_at source i) (opening_text kind) opens (opening_some kind);
+        closing_some = some_as (bytes_at source c) (closing_text kind) closes (closing_some kind);
+      }
+
+  -- ---- item by item
+
+  module _ (to end : ℕ) where
+    -- from the token at a place on
+    pub record From (at : ℕ) (parts : List Part) (cuts : Texts) (text : List ℕ) : Type 0 where
+      pub cut : CutFrom source to end at (extents_of parts) cuts
+      pub seamed : SeamedFrom source to end at parts text
+
+    token_from : (i at : ℕ) (parts : List Part) (cuts : Texts) (text : List ℕ) → IsBeside source i
+        → is_some (bytes_at source i) ≡ true → at ≡ i → From at parts cuts text
+        → From (i - 1) parts (begun (gap_before source i) (begun (bytes_at source i) cuts))
+        (gap_before source i ++ (bytes_at source i ++ text))
+    token_from i at parts cuts text it some e more =
+        let step = step_told source i it some in
+        let here : From (suc (i - 1)) parts cuts text = subst (λ (m : ℕ). From m parts cuts text) (e ∙ sym it.place) more in record {
+          cut = cut_token source to end (i - 1) (gap_before source i) (bytes_at source i) (extents_of parts) cuts step here.cut;
+          seamed = seamed_token source to end (i - 1) (gap_before source i) (bytes_at source i) parts text step here.seamed;
+        }
+
+    mutual
+      pub old_item : {i k : ℕ} {parts : List Part} {tokens : List Tok} {extents : List Extent}
+          (item : SpellsRawItem source i k parts tokens extents) (behind : List ℕ) → is_beside source i ≡ true
+          → item_known source mode item behind ≡ true → (more : List Part) (cuts : Texts) → From (k - 1) more cuts behind
+          → From (i - 1) (parts ++ more) (begun (gap_before source i) (item_cut source item cuts))
+          (gap_before source i ++ item_text source item behind)
+      old_item (raw_token {i = i} old) behind b e more cuts rest =
+          token_from i (suc i - 1) more cuts behind (beside_told source i b) (and_left (is_some (bytes_at source i)) _ e)
+          (let z : suc i - 1 ≡ i = omega arith in z) rest
+      old_item (raw_insert {i = i} {c = c} {value = value} opens inner close) behind b e more cuts rest =
+          let it = beside_told source i b in
+          let here : From c more cuts behind =
+          subst (λ (m : ℕ). From m more cuts behind) (let z : suc c - 1 ≡ c = omega arith in z) rest in record {
+            cut = subst (λ (m : ℕ). CutFrom source to end (i - 1) (extent m (suc c) ∷ extents_of more) (begun (gap_before source i) (cut_before cuts)))
+                it.place (cut_insert source to end (i - 1) c (gap_before source i) (extents_of more) cuts it.beside here.cut);
+            seamed = subst (λ (m : ℕ). SeamedFrom source to end (i - 1) (Inserts m (suc c) value ∷ more) (gap_before source i ++ in_insert value behind))
+                it.place (seamed_value source to end (i - 1) c (gap_before source i) value more behind it.beside here.seamed);
+          }
+      old_item (raw_brackets {i = i} {c = c} {parts = parts} kind opens text close) behind b e more cuts rest =
+          let it = brackets_told i c kind (and_left (is_bracketed mode kind && _) _ e) in
+          let inner = and_right (is_bracketed mode kind && _) _ e in
+          let known = and_right (is_beside source c) _ inner in
+          let last = token_from c (suc c - 1) more cuts behind (beside_told source c (and_left (is_beside source c) _ inner))
+          it.closing_some (let z : suc c - 1 ≡ c = omega arith in z) rest in
+          token_from i (suc i - 1) (parts ++ more)
+          (row_cut source text (begun (gap_before source c) (begun (bytes_at source c) cuts)))
+          (row_text source text (gap_before source c ++ (bytes_at source c ++ behind)))
+          (beside_told source i b) it.opening_some (let z : suc i - 1 ≡ i = omega arith in z)
+          (old_row text (gap_before source c ++ (bytes_at source c ++ behind)) known more
+          (begun (gap_before source c) (begun (bytes_at source c) cuts)) last)
+
+      pub old_row : {i j : ℕ} {parts : List Part} {tokens : List Tok} {extents : List Extent}
+          (row : SpellsRawText source i j parts tokens extents) (behind : List ℕ) → row_known source mode row behind ≡ true
+          → (more : List Part) (cuts : Texts) → From (j - 1) more cuts behind
+          → From (i - 1) (parts ++ more) (row_cut source row cuts) (row_text source row behind)
+      old_row raw_end behind e more cuts rest = rest
+      old_row (raw_more {i = i} {parts = parts} {more = others} item text) behind e more cuts rest =
+          let known = and_right (is_beside source i) _ e in
+          subst (λ (list : List Part). From (i - 1) list (begun (gap_before source i) (item_cut source item (row_cut source text cuts)))
+          (gap_before source i ++ item_text source item (row_text source text behind)))
+          (sym (append_assoc parts others more))
+          (old_item item (row_text source text behind) (and_left (is_beside source i) _ e)
+          (and_left (item_known source mode item (row_text source text behind)) _ known) (others ++ more) (row_cut source text cuts)
+          (old_row text behind (and_right (item_known source mode item (row_text source text behind)) _ known) more cuts rest))
+
+    -- ---- from the first token on
+
+    -- the texts around the values of a whole text, and what is written of it
+    pub record Whole (i : ℕ) (parts : List Part) (cuts : Texts) (text : List ℕ) : Type 0 where
+      pub cut : around_texts source (record { from = from_at source i; to = to; first = i; end = end }) (extents_of parts) ≡ lones cuts
+      pub seamed : IsSeamed (pieces_from source (record { from = from_at source i; to = to; first = i; end = end }) parts) text
+
+    token_whole : (i at : ℕ) (parts : List Part) (cuts : Texts) (text : List ℕ) → is_some (bytes_at source i) ≡ true
+        → at ≡ i → From at parts cuts text → Whole i parts (begun (bytes_at source i) cuts) (bytes_at source i ++ text)
+    token_whole i at parts cuts text some e more =
+        let low = lies source i some in
+        let here : From i parts cuts text = subst (λ (m : ℕ). From m parts cuts text) e more in record {
+          cut = first_token source to end i (extents_of parts) cuts low here.cut;
+          seamed = seamed_first source to end i parts text low here.seamed;
+        }
+
+    pub old_whole : {i k : ℕ} {parts : List Part} {tokens : List Tok} {extents : List Extent}
+        (item : SpellsRawItem source i k parts tokens extents) (behind : List ℕ) → item_known source mode item behind ≡ true
+        → (more : List Part) (cuts : Texts) → From (k - 1) more cuts behind
+        → Whole i (parts ++ more) (item_cut source item cuts) (item_text source item behind)
+    old_whole (raw_token {i = i} old) behind e more cuts rest =
+        token_whole i (suc i - 1) more cuts behind (and_left (is_some (bytes_at source i)) _ e)
+        (let z : suc i - 1 ≡ i = omega arith in z) rest
+    old_whole (raw_insert {i = i} {c = c} {value = value} opens inner close) behind e more cuts rest =
+        let here : From c more cuts behind =
+        subst (λ (m : ℕ). From m more cuts behind) (let z : suc c - 1 ≡ c = omega arith in z) rest in record {
+          cut = first_insert source to end i c (extents_of more) cuts here.cut;
+          seamed = value_first source to end i c value more behind here.seamed;
+        }
+    old_whole (raw_brackets {i = i} {c = c} {parts = parts} kind opens text close) behind e more cuts rest =
+        let it = brackets_told i c kind (and_left (is_bracketed mode kind && _) _ e) in
+        let inner = and_right (is_bracketed mode kind && _) _ e in
+        let known = and_right (is_beside source c) _ inner in
+        let last = token_from c (suc c - 1) more cuts behind (beside_told source c (and_left (is_beside source c) _ inner))
+        it.closing_some (let z : suc c - 1 ≡ c = omega arith in z) rest in
+        token_whole i (suc i - 1) (parts ++ more)
+        (row_cut source text (begun (gap_before source c) (begun (bytes_at source c) cuts)))
+        (row_text source text (gap_before source c ++ (bytes_at source c ++ behind)))
+        it.opening_some (let z : suc i - 1 ≡ i = omega arith in z)
+        (old_row text (gap_before source c ++ (bytes_at source c ++ behind)) known more
+        (begun (gap_before source c) (begun (bytes_at source c) cuts)) last)

@@ -1,0 +1,183 @@
+-- Raw text of which it is proved that it is written as its tokens, told by what was read.
+use Rattle.std.specs.Prelude.{◌≡◌, ℕ, ◌+◌, ◌-◌, Bool, true, false, not, ◌&&◌, ◌||◌, ◌==◌, nat_le, nat_lt, if◌then◌else◌, List, [], ◌∷◌, ◌++◌, length, codes, bytes_eq}
+use Rattle.std.specs.List.{list_all}
+use Rattle.sw_text_scan.specs.declared.runs.Class.TheVariants as classes
+use Rattle.sw_text_scan.specs.declared.signs.TheConstants.{LINE_FEED}
+use Rattle.sw_text_scan.specs.Bytes.{sign, byte, is_white, is_digit, is_quote, is_name_byte}
+use Rattle.sw_text_scan.specs.Runs.{run_end}
+use Rattle.sw_text_scan.specs.Words.{is_plus_or_minus}
+use Rattle.sw_parse_terminals.specs.declared.terminal.Terminal.{Terminal}
+use Rattle.sw_parse_lexemes.specs.declared.sort.Sort.{Sort}
+use Rattle.sw_parse_lexemes.specs.declared.sort.Sort.TheVariants as sorts
+use Rattle.sw_parse_lexemes.specs.declared.state.Mode.{Mode}
+use Rattle.sw_parse_lexemes.specs.Ahead.{sort_at}
+use Rattle.sw_parse_lexemes.specs.Brackets.{is_custom}
+use Rattle.sw_parse_lexemes.specs.Classes.{is_name}
+use Rattle.sw_parse_lexemes.specs.Plains.{plains_of}
+use Rattle.sw_parse_table.specs.declared.source.Source.{Source}
+use Rattle.sw_parse_table.specs.Parts.{Part}
+use Rattle.sw_parse_table.specs.Sources.{bytes, from_at, to_at, bytes_from, bytes_at, is_commented}
+use Rattle.sw_convert_written.specs.Expressions.{is_url, expr_text}
+use Rattle.sw_convert_again.specs.Tokens.{Tok, Extent, Old}
+use Rattle.sw_convert_tokens.specs.Values.{WasRead}
+use Rattle.sw_convert_again.specs.RawTexts.{Brackets, parens, squares, braces, SpellsRawItem, SpellsRawText, raw_token, raw_insert, raw_brackets, raw_end, raw_more}
+use Rattle.sw_convert_texts.specs.Inserted.{RawTextHasValues}
+use Rattle.sw_convert_texts.specs.Names.{digits_and_unit}
+use Rattle.sw_convert_texts.specs.RawTexts.{IsText}
+
+-- ---- what is written of it
+
+-- the white space before the token at a place
+abbrev pub gap_before : Source → ℕ → List ℕ
+gap_before source i = bytes_from source (to_at source (i - 1)) (from_at source i)
+
+-- an item, and items with the white space before each, where this stands behind them
+abbrev mutual
+  pub item_text : (source : Source) {i k : ℕ} {parts : List Part} {tokens : List Tok} {extents : List Extent}
+      → SpellsRawItem source i k parts tokens extents → List ℕ → List ℕ
+  item_text source (raw_token {i = i} old) behind = bytes_at source i ++ behind
+  item_text source (raw_insert {value = value} opens inner close) behind =
+      codes "#{" ++ (expr_text value ++ (codes "}" ++ behind))
+  item_text source (raw_brackets {i = i} {c = c} kind opens text close) behind =
+      bytes_at source i ++ row_text source text (gap_before source c ++ (bytes_at source c ++ behind))
+
+  pub row_text : (source : Source) {i j : ℕ} {parts : List Part} {tokens : List Tok} {extents : List Extent}
+      → SpellsRawText source i j parts tokens extents → List ℕ → List ℕ
+  row_text source raw_end behind = behind
+  row_text source (raw_more {i = i} item text) behind =
+      gap_before source i ++ item_text source item (row_text source text behind)
+
+-- ---- tokens
+
+-- the sort of a token that was read
+abbrev pub sort_there : {source : Source} {i : ℕ} {set : List ℕ} → Old source i set → Sort
+sort_there {source} old = sort_at (plains_of (bytes source) source.tokens.now.list) old.lexeme.token
+
+-- signs that are text, by their bytes
+abbrev pub sign_text : Sort → List ℕ
+sign_text sorts.Colon = codes ":"
+sign_text sorts.Comma = codes ","
+sign_text sorts.Dot = codes "."
+sign_text sorts.Ampersand = codes "&"
+sign_text sorts.Plus = codes "+"
+sign_text sorts.Minus = codes "-"
+sign_text sorts.Star = codes "*"
+sign_text sorts.Percent = codes "%"
+sign_text sorts.Exclamation = codes "!"
+sign_text sorts.Equals = codes "="
+sign_text sorts.Less = codes "<"
+sign_text sorts.Greater = codes ">"
+sign_text _ = []
+
+-- where the text in a string ends
+abbrev pub string_end : List ℕ → ℕ
+string_end text = run_end (classes.SheetText (byte text 0)) text 1
+
+abbrev pub is_some : List ℕ → Bool
+is_some [] = false
+is_some (b ∷ text) = true
+
+-- a sign doesn't join the byte behind it
+abbrev pub sign_stays : Sort → ℕ → Bool
+sign_stays sorts.Dot b = not (is_digit b || (b == sign "."))
+sign_stays sorts.Minus b = not (is_name_byte b || (b == sign "\\"))
+sign_stays sorts.Exclamation b = not (b == sign "=")
+sign_stays sorts.Equals b = not (b == sign "=")
+sign_stays sorts.Less b = not (b == sign "=")
+sign_stays sorts.Greater b = not (b == sign "=")
+sign_stays _ b = true
+
+-- no escape begins there
+abbrev pub is_unescaped : ℕ → Bool
+is_unescaped b = not (b == sign "\\")
+
+-- a name without escapes doesn't go on with the byte behind it, and begins no range and no url with it
+abbrev pub name_stays : List ℕ → ℕ → Bool
+name_stays text b =
+    list_all is_unescaped text
+    && (not (is_name_byte b || ((b == sign "\\") || ((b == LINE_FEED) || (is_plus_or_minus b || (b == sign "=")))))
+    && not ((b == sign "(") && is_url text))
+
+-- a whole string
+abbrev pub is_string : List ℕ → Bool
+is_string text =
+    is_quote (byte text 0)
+    && ((byte text (string_end text) == byte text 0) && (string_end text + 1 == length text))
+
+-- digits, with a unit or without, don't go on with the byte behind them
+abbrev pub number_stays : List ℕ → ℕ → Bool
+number_stays text b =
+    (is_digit (byte text 0) && digits_and_unit text)
+    && not (is_name_byte b || ((b == sign "\\") || ((b == sign "%") || (b == sign "."))))
+
+-- signs that are no other token
+abbrev pub is_other : List ℕ → Bool
+is_other text = bytes_eq text (codes "~") || (bytes_eq text (codes "|") || bytes_eq text (codes "^"))
+
+abbrev pub told_by : Sort → List ℕ → ℕ → Bool
+told_by sorts.Quoted text b = is_string text
+told_by sorts.Unnamed text b = is_string text
+told_by sorts.Digits text b = number_stays text b
+told_by sorts.Other text b = is_other text
+told_by sort text b = bytes_eq text (sign_text sort) && sign_stays sort b
+
+-- a token stays what it is before the byte behind it
+abbrev pub token_stays : Sort → List ℕ → ℕ → Bool
+token_stays sort text b = is_some text && (if is_name sort then name_stays text b else told_by sort text b)
+
+-- ---- texts
+
+abbrev pub opening_text : {opening closing : Terminal} → Brackets opening closing → List ℕ
+opening_text parens = codes "("
+opening_text squares = codes "["
+opening_text braces = codes "{"
+
+abbrev pub closing_text : {opening closing : Terminal} → Brackets opening closing → List ℕ
+closing_text parens = codes ")"
+closing_text squares = codes "]"
+closing_text braces = codes "}"
+
+-- braces are brackets in a custom property alone
+abbrev pub is_bracketed : Mode → {opening closing : Terminal} → Brackets opening closing → Bool
+is_bracketed mode braces = is_custom mode
+is_bracketed mode _ = true
+
+-- white space alone, or nothing, stands between a token and the one before
+abbrev pub is_beside : Source → ℕ → Bool
+is_beside source i =
+    nat_lt 0 i
+    && (not (is_commented source i)
+    && (nat_le (to_at source (i - 1)) (from_at source i) && list_all is_white (gap_before source i)))
+
+-- an item, and items, behind which this is written: without comments, names and signs that stay what they are there,
+-- values in `#{}`, and brackets
+abbrev mutual
+  pub item_known : (source : Source) → Mode → {i k : ℕ} {parts : List Part} {tokens : List Tok} {extents : List Extent}
+      → SpellsRawItem source i k parts tokens extents → List ℕ → Bool
+  item_known source mode (raw_token {i = i} old) behind = token_stays (sort_there old) (bytes_at source i) (byte behind 0)
+  item_known source mode (raw_insert opens inner close) behind = true
+  item_known source mode (raw_brackets {i = i} {c = c} kind opens text close) behind =
+      (is_bracketed mode kind
+      && (bytes_eq (bytes_at source i) (opening_text kind) && bytes_eq (bytes_at source c) (closing_text kind)))
+      && (is_beside source c && row_known source mode text (gap_before source c ++ (bytes_at source c ++ behind)))
+
+  pub row_known : (source : Source) → Mode → {i j : ℕ} {parts : List Part} {tokens : List Tok} {extents : List Extent}
+      → SpellsRawText source i j parts tokens extents → List ℕ → Bool
+  row_known source mode raw_end behind = true
+  row_known source mode (raw_more {i = i} item text) behind =
+      is_beside source i
+      && (item_known source mode item (row_text source text behind) && row_known source mode text behind)
+
+-- a whole text isn't empty; before its first token anything may stand
+abbrev pub raw_known : (source : Source) → Mode → {i j : ℕ} {parts : List Part} {tokens : List Tok} {extents : List Extent}
+    → SpellsRawText source i j parts tokens extents → Bool
+raw_known source mode raw_end = false
+raw_known source mode (raw_more item text) =
+    item_known source mode item (row_text source text []) && row_known source mode text []
+
+-- what is written of such a text is its tokens, where this is so of the values in it
+abbrev pub RawTextsAreWritten : Type 0
+RawTextsAreWritten =
+    (source : Source) (mode : Mode) (i j : ℕ) (values : List Part) (tokens : List Tok) (extents : List Extent) → WasRead source
+    → (spelt : SpellsRawText source i j values tokens extents) → raw_known source mode spelt ≡ true → RawTextHasValues spelt
+    → IsText source mode i j values extents tokens
