@@ -3,6 +3,7 @@ use Rattle.std.proofs.Common.{◌≡◌, ℕ, Bool, true, false, List, [], ◌�
 use Rattle.std.specs.Prelude.{codes}
 use Rattle.sw_text.specs.Names.{dashed}
 use Rattle.sw_text_scan.specs.Bytes.{sign, byte}
+use Rattle.sw_tokens.specs.declared.pieces.Before.{Before}
 use Rattle.sw_tokens.specs.declared.pieces.Before.TheVariants as befores
 use Rattle.sw_tokens.specs.declared.token.TokenKind.TheVariants as kinds
 use Rattle.sw_parse_terminals.specs.declared.terminal.Terminal.TheVariants as terminals
@@ -15,15 +16,16 @@ use Rattle.sw_parse_table.specs.declared.source.Source.{Source}
 use Rattle.sw_parse_table.specs.Sources.{bytes_at}
 use Rattle.sw_convert_written.specs.Names.{dollar_name}
 use Rattle.sw_convert_passing.specs.Written.{Written, written, direct}
-use Rattle.sw_convert_passing.specs.Values.{dollar, Value, Row, Call, Settles, no_colon, settled_end, settled_same, settled_named, variable, no_items, items, first, separated, further, arguments, settled}
+use Rattle.sw_convert_passing.specs.Values.{dollar, Value, Row, Call, Settles, no_colon, settled_end, settled_same, settled_named, variable, seam, no_items, items, seamed_items, first, separated, further, arguments, settled}
 use Rattle.sw_convert_again.specs.Tokens.{Tok, tok, Old, Dashed}
 use Rattle.sw_convert_again.specs.Tokens as again
 use Rattle.sw_convert_tokens.specs.Joints.{Segment}
 use Rattle.sw_convert_tokens.specs.Written.{Follows, gap_of, AsValue, WrittenAs}
 use Rattle.sw_convert_tokens.specs.Values.{WasRead}
-use Rattle.sw_convert_tokens.proofs.Joins.{join, as_behind}
+use Rattle.sw_convert_tokens.proofs.Joins.{join, as_text, as_behind}
 use Rattle.sw_convert_tokens.proofs.Rows.{comma_segment}
 use Rattle.sw_convert_tokens.proofs.Signs.{lone_segment, sign_segment, sign_token}
+use Rattle.sw_convert_tokens.proofs.Spaces.{apart_segment}
 use Rattle.sw_convert_tokens.proofs.Unclosed.{space_ends, follows_end}
 use Rattle.sw_convert_tokens.proofs.Variables.{Begins, variable_name, variable_segment}
 
@@ -55,17 +57,17 @@ behind_it before named loose exact tail other left right end rest more e s =
 
 -- ---- one argument
 
--- a value in the arguments, or the name before one, with a space before it or none
-pub record IsArgument (named spaced : Bool) (text : List ℕ) (tokens : List Tok) : Type 0 where
+-- a value in the arguments, or the name before one, behind what stands before it, with a space there or none
+pub record IsArgument (before : Before) (named spaced : Bool) (text : List ℕ) (tokens : List Tok) : Type 0 where
   pub loose : List Written
   pub exact : List Written
   pub signed : Bool
-  pub segment : Segment befores.Other (gap_of spaced ++ text) tokens exact befores.Other (Follows text)
+  pub segment : Segment before (gap_of spaced ++ text) tokens exact befores.Other (Follows text)
   pub told : Value modes.Expression spaced signed loose
   pub settles : Exactly named loose exact
 
 pub value_argument : (spaced : Bool) → {signed : Bool} {text : List ℕ} {tokens : List Tok}
-    → WrittenAs (AsValue signed) text tokens → IsArgument false spaced text tokens
+    → WrittenAs (AsValue signed) text tokens → IsArgument befores.Other false spaced text tokens
 value_argument true {signed} value =
     let it = value befores.Other true refl in record {
       loose = it.passed;
@@ -99,7 +101,7 @@ name_settles spaced name n (next ∷ rest) more e s =
 
 pub name_argument : (spaced : Bool) → (source : Source) (i : ℕ) → WasRead source
     → Old source i (just terminals.VariableName)
-    → IsArgument true spaced (dollar_name (dashed (bytes_at source i)))
+    → IsArgument befores.Other true spaced (dollar_name (dashed (bytes_at source i)))
     (again.sign terminals.DollarNamed ∷ tok terminals.VariableName (Dashed (dashed (bytes_at source i))) ∷ [])
 name_argument true source i was old =
     let name = variable_name source i was old in record {
@@ -122,16 +124,21 @@ name_argument false source i was old =
 
 -- ---- several
 
-pub record AreArguments (named : Bool) (text : List ℕ) (tokens : List Tok) : Type 0 where
+-- arguments behind what stands before them, with a space there or none, of which the last is a name alone or not
+pub record ArgumentsBehind (before : Before) (spaced named : Bool) (text : List ℕ) (tokens : List Tok) : Type 0 where
   pub loose : List Written
   pub exact : List Written
   pub ended : Bool
-  pub segment : Segment befores.Other text tokens exact befores.Other (Follows text)
-  pub told : Row modes.Expression false ended loose
+  pub segment : Segment before (gap_of spaced ++ text) tokens exact befores.Other (Follows text)
+  pub told : Row modes.Expression spaced ended loose
   pub settles : Exactly named loose exact
 
-pub first_argument : {named : Bool} {text : List ℕ} {tokens : List Tok} → IsArgument named false text tokens
-    → AreArguments named text tokens
+-- those directly behind a `(`
+abbrev pub AreArguments : Bool → List ℕ → List Tok → Type 0
+AreArguments = ArgumentsBehind befores.Other false
+
+pub first_argument : {before : Before} {named spaced : Bool} {text : List ℕ} {tokens : List Tok}
+    → IsArgument before named spaced text tokens → ArgumentsBehind before spaced named text tokens
 first_argument it = record {
   loose = it.loose;
   exact = it.exact;
@@ -142,18 +149,19 @@ first_argument it = record {
 }
 
 -- a comma and one more
-pub further_argument : {named : Bool} {left right : List ℕ} {ks ls : List Tok} → AreArguments false left ks
-    → IsArgument named true right ls
-    → AreArguments named (left ++ (codes ", " ++ right)) (ks ++ again.sign terminals.Comma ∷ ls)
-further_argument {named} {left} {right} a b = record {
+pub further_argument : {before : Before} {spaced named : Bool} {left right : List ℕ} {ks ls : List Tok}
+    → ArgumentsBehind before spaced false left ks → IsArgument befores.Other named true right ls
+    → ArgumentsBehind before spaced named (left ++ (codes ", " ++ right)) (ks ++ again.sign terminals.Comma ∷ ls)
+further_argument {spaced = spaced} {named = named} {left = left} {right = right} a b = record {
   loose = a.loose ++ direct sorts.Comma terminals.Comma ∷ b.loose;
   exact = a.exact ++ direct sorts.Comma terminals.Comma ∷ b.exact;
   ended = true;
   segment = as_behind (λ after f. follows_end (left ++ codes ",") right (sign " ") space_ends after
       (subst (λ (t : List ℕ). Follows t after) (sym (append_assoc left (codes ",") (sign " " ∷ right))) f))
+      (as_text (append_assoc (gap_of spaced) left (codes ", " ++ right))
       (join a.segment (join (comma_segment befores.Other) b.segment (λ after f. tt))
-      (λ after f. record { stop = refl; closed = refl }));
-  told = subst (λ (ws : List Written). Row modes.Expression false true ws)
+      (λ after f. record { stop = refl; closed = refl })));
+  told = subst (λ (ws : List Written). Row modes.Expression spaced true ws)
       (append_assoc a.loose (direct sorts.Comma terminals.Comma ∷ []) b.loose)
       (further (separated a.told sorts.Comma refl) b.told);
   settles = behind_it false named a.loose a.exact (direct sorts.Comma terminals.Comma ∷ b.loose) (direct sorts.Comma terminals.Comma ∷ b.exact)
@@ -161,19 +169,21 @@ further_argument {named} {left} {right} a b = record {
 }
 
 -- a `:` and the value behind the last name
-pub colon_argument : {left right : List ℕ} {ks ls : List Tok} → AreArguments true left ks → IsArgument false true right ls
-    → AreArguments false (left ++ (codes ": " ++ right)) (ks ++ again.sign terminals.Colon ∷ ls)
-colon_argument {left} {right} a b = record {
+pub colon_argument : {before : Before} {spaced : Bool} {left right : List ℕ} {ks ls : List Tok}
+    → ArgumentsBehind before spaced true left ks → IsArgument befores.Other false true right ls
+    → ArgumentsBehind before spaced false (left ++ (codes ": " ++ right)) (ks ++ again.sign terminals.Colon ∷ ls)
+colon_argument {spaced = spaced} {left = left} {right = right} a b = record {
   loose = a.loose ++ direct sorts.Colon terminals.Colon ∷ b.loose;
   exact = a.exact ++ direct sorts.Colon terminals.Colon ∷ b.exact;
   ended = true;
   segment = as_behind (λ after f. follows_end (left ++ codes ":") right (sign " ") space_ends after
       (subst (λ (t : List ℕ). Follows t after) (sym (append_assoc left (codes ":") (sign " " ∷ right))) f))
+      (as_text (append_assoc (gap_of spaced) left (codes ": " ++ right))
       (join a.segment
       (join (lone_segment (sign ":") (terminals.Colon ∷ []) befores.Other false refl refl refl (λ inside code. refl)) b.segment
       (λ after f. tt))
-      (λ after f. record { stop = refl; closed = refl }));
-  told = subst (λ (ws : List Written). Row modes.Expression false true ws)
+      (λ after f. record { stop = refl; closed = refl })));
+  told = subst (λ (ws : List Written). Row modes.Expression spaced true ws)
       (append_assoc a.loose (direct sorts.Colon terminals.Colon ∷ []) b.loose)
       (further (separated a.told sorts.Colon refl) b.told);
   settles = behind_it true false a.loose a.exact (direct sorts.Colon terminals.Colon ∷ b.loose) (direct sorts.Colon terminals.Colon ∷ b.exact)
@@ -181,19 +191,21 @@ colon_argument {left} {right} a b = record {
 }
 
 -- `...` behind them
-pub dots_behind : {text : List ℕ} {tokens : List Tok} → AreArguments false text tokens
-    → AreArguments false (text ++ codes "...") (tokens ++ again.sign terminals.Ellipsis ∷ [])
+pub dots_behind : {before : Before} {spaced : Bool} {text : List ℕ} {tokens : List Tok}
+    → ArgumentsBehind before spaced false text tokens
+    → ArgumentsBehind before spaced false (text ++ codes "...") (tokens ++ again.sign terminals.Ellipsis ∷ [])
 unfolding byte
-dots_behind {text} a = record {
+dots_behind {spaced = spaced} {text = text} a = record {
   loose = a.loose ++ direct sorts.Ellipsis terminals.Ellipsis ∷ [];
   exact = a.exact ++ direct sorts.Ellipsis terminals.Ellipsis ∷ [];
   ended = false;
   segment = as_behind (λ after f. f)
+      (as_text (append_assoc (gap_of spaced) text (codes "..."))
       (join a.segment
       (sign_segment kinds.Ellipsis (codes "...") (terminals.Ellipsis ∷ []) befores.Other false
       (Follows (text ++ codes "...")) refl refl refl (lit< tt)
       (λ inside after code f. sign_token kinds.Ellipsis after inside befores.Other refl code refl refl))
-      (λ after f. record { stop = refl; closed = refl }));
+      (λ after f. record { stop = refl; closed = refl })));
   told = separated a.told sorts.Ellipsis refl;
   settles = behind_it false false a.loose a.exact (direct sorts.Ellipsis terminals.Ellipsis ∷ []) (direct sorts.Ellipsis terminals.Ellipsis ∷ [])
       a.settles (λ rest more e s. settled_same (direct sorts.Ellipsis terminals.Ellipsis) s) (λ rest. refl);
@@ -231,4 +243,18 @@ arguments_written {text} a = record {
       settled (arguments (items a.told))
       (settled_same (direct sorts.OpenParen terminals.CallParen)
       (a.settles (close ∷ []) (close ∷ []) refl (settled_same close settled_end)));
+}
+
+-- behind an empty comment and a space
+pub guarded_written : {text : List ℕ} {tokens : List Tok} → ArgumentsBehind befores.White true false text tokens
+    → IsItems (codes "/**/ " ++ text) tokens
+guarded_written {text} a = record {
+  passed = seam ∷ a.exact;
+  segment = as_behind (λ after b. subst (Follows text) (sym b.1) (record { stop = refl; closed = refl }))
+      (join apart_segment a.segment (λ after f. tt));
+  told =
+      let close = direct sorts.CloseParen terminals.ParenEnd in
+      settled (arguments (seamed_items a.told))
+      (settled_same (direct sorts.OpenParen terminals.CallParen)
+      (settled_same seam (a.settles (close ∷ []) (close ∷ []) refl (settled_same close settled_end))));
 }

@@ -262,10 +262,11 @@ exact_segment {before} first it = record {
   stand = λ stack after code f. exact_stand stack stack before it.joints after (it.stand stack after code f);
 }
 
-pub placed_argument : (spaced : Bool) → {signed : Bool} {bytes : List ℕ} {tokens : List Tok}
-    → WrittenAs (AsValue signed) bytes tokens → IsArgument false spaced bytes (undollared tokens)
-placed_argument true {signed} value =
-    let it = value befores.Other true refl in
+-- with a space before it, and without one directly behind a `(`
+pub spaced_argument : (before : Before) → {signed : Bool} {bytes : List ℕ} {tokens : List Tok}
+    → WrittenAs (AsValue signed) bytes tokens → IsArgument before false true bytes (undollared tokens)
+spaced_argument before {signed} value =
+    let it = value before true refl in
     let told = it.told modes.Expression refl in record {
       loose = it.passed;
       exact = exact_of it.passed;
@@ -274,6 +275,10 @@ placed_argument true {signed} value =
       told = told;
       settles = value_told told;
     }
+
+pub placed_argument : (spaced : Bool) → {signed : Bool} {bytes : List ℕ} {tokens : List Tok}
+    → WrittenAs (AsValue signed) bytes tokens → IsArgument befores.Other false spaced bytes (undollared tokens)
+placed_argument true value = spaced_argument befores.Other value
 placed_argument false {signed} value =
     let it = value befores.Other false refl in
     let told = it.told modes.Expression refl in record {
