@@ -3,6 +3,7 @@ use Rattle.std.proofs.Common.{◌≡◌, ℕ, Bool, true, false, if◌then◌els
 use Rattle.std.specs.Prelude.{codes}
 use Rattle.sw_text.specs.declared.place.Span.{Span}
 use Rattle.sw_text_scan.proofs.Bounds.{and_left, and_right, not_true}
+use Rattle.sw_tokens.specs.declared.pieces.Before.{Before}
 use Rattle.sw_tree.specs.declared.text.Parts.{Parts}
 use Rattle.sw_tree.specs.declared.expr.Argument.{Argument}
 use Rattle.sw_tree.specs.declared.expr.ExprKind.TheVariants as exprs
@@ -21,7 +22,7 @@ use Rattle.sw_convert_tokens.specs.Values.{WasRead}
 use Rattle.sw_convert_values.specs.Values.{is_called, is_name_called}
 use Rattle.sw_convert_tokens.specs.Calls.{is_free_name}
 use Rattle.sw_convert_tokens.proofs.Calls.{call_written, owned_call_written, name_called, name_dotted, call_shown, named_call_text}
-use Rattle.sw_convert_tokens.proofs.Arguments.{IsItems, AreArguments}
+use Rattle.sw_convert_tokens.proofs.Arguments.{IsItems, ArgumentsBehind}
 use Rattle.sw_convert_texts.specs.Inserted.{WordHasValues}
 use Rattle.sw_convert_texts.specs.Names.{joined, is_mixed, word_plain}
 use Rattle.sw_convert_texts.proofs.Dotted.{mixed_dotted}
@@ -31,9 +32,11 @@ use Rattle.sw_convert_values.proofs.Shapes.{same, no_url_at, opens_paren}
 
 -- ---- arguments
 
-pub arguments_as : {xs ys : List ℕ} {ks ls : List Tok} → xs ≡ ys → ks ≡ ls → AreArguments false xs ks → AreArguments false ys ls
-arguments_as {xs} {ys} {ks} {ls} e f a =
-    subst (λ (t : List Tok). AreArguments false ys t) f (subst (λ (t : List ℕ). AreArguments false t ks) e a)
+pub arguments_as : {before : Before} {spaced : Bool} {xs ys : List ℕ} {ks ls : List Tok} → xs ≡ ys → ks ≡ ls
+    → ArgumentsBehind before spaced false xs ks → ArgumentsBehind before spaced false ys ls
+arguments_as {before} {spaced} {xs} {ys} {ks} {ls} e f a =
+    subst (λ (t : List Tok). ArgumentsBehind before spaced false ys t) f
+    (subst (λ (t : List ℕ). ArgumentsBehind before spaced false t ks) e a)
 
 -- a name, `: ` and a value
 pub named_text : (name value : List ℕ) → name ++ (codes ": " ++ value) ≡ (name ++ codes ": ") ++ (value ++ [])

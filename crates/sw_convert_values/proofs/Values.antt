@@ -3,9 +3,10 @@ use Rattle.std.proofs.Common.{◌≡◌, ◌⊎◌, ℕ, suc, Bool, true, false,
 use Rattle.std.specs.Prelude.{codes}
 use Rattle.std.specs.List.{list_all}
 use Rattle.sw_text.specs.Names.{dashed}
-use Rattle.sw_text.specs.declared.place.Span.{Span}
 use Rattle.sw_text_scan.specs.Bytes.{sign}
 use Rattle.sw_text_scan.proofs.Bounds.{and_left, and_right}
+use Rattle.sw_tokens.specs.declared.pieces.Before.{Before}
+use Rattle.sw_tokens.specs.declared.pieces.Before.TheVariants as befores
 use Rattle.sw_tokens.specs.declared.token.TokenKind.TheVariants as kinds
 use Rattle.sw_tree.specs.declared.text.Parts.{Parts}
 use Rattle.sw_tree.specs.declared.text.Parts.TheVariants.{Plain as PlainParts}
@@ -22,120 +23,60 @@ use Rattle.sw_tree.specs.declared.expr.Separator.TheVariants as separators
 use Rattle.sw_tree.specs.declared.expr.Sign.{Sign}
 use Rattle.sw_parse_terminals.specs.declared.terminal.Terminal.{Terminal}
 use Rattle.sw_parse_terminals.specs.declared.terminal.Terminal.TheVariants as terminals
-use Rattle.sw_parse_terminals.specs.Numbers.{just}
-use Rattle.sw_parse_lexemes.specs.Classes.{is_reserved}
-use Rattle.sw_parse_lexemes.specs.Words.{word_sort}
 use Rattle.sw_parse_table.specs.declared.source.Source.{Source}
 use Rattle.sw_parse_table.specs.Parts.{Part}
-use Rattle.sw_parse_table.specs.Operators.{operator_of, operator_in, sign_of, sign_in, constant_of, constant_in, constant_at}
-use Rattle.sw_parse_table.specs.Sets.{constants}
-use Rattle.sw_parse_table.specs.Sources.{lexeme_at, bytes_at, decoded_at, parts_between, bytes_between}
+use Rattle.sw_parse_table.specs.Operators.{operator_of, operator_in, sign_of, sign_in}
+use Rattle.sw_parse_table.specs.Sources.{lexeme_at, bytes_at, decoded_at, bytes_between}
 use Rattle.sw_parse_table.specs.Values.{expression, qualified_of}
 use Rattle.sw_convert_written.specs.Names.{dollar_name}
 use Rattle.sw_convert_written.specs.Escapes.{ends_unclosed, space_behind}
 use Rattle.sw_convert_written.specs.declared.manner.Manner.TheVariants as manners
 use Rattle.sw_convert_written.specs.Pieces.{Written, piece_text, pieces_text}
-use Rattle.sw_convert_written.specs.Signs.{operator_text, constant_text, sign_text}
-use Rattle.sw_convert_written.specs.Expressions.{ShownLink, expr_text, expr_shown, link_shown, links_text, is_quotient, is_divide, is_number, items_behind, signs_text, pair_text, with_commas, quoted_text, argument_text, piece_written}
+use Rattle.sw_convert_written.specs.Signs.{operator_text, sign_text}
+use Rattle.sw_convert_written.specs.Expressions.{ShownLink, expr_text, expr_shown, link_shown, links_text, is_quotient, is_divide, is_number, items_behind, signs_text, pair_text, with_commas, quoted_text, of_argument, argument_text, piece_written}
 use Rattle.sw_convert_written.proofs.Unrolled as unrolled
 use Rattle.sw_convert_passing.specs.Standing.{is_prefix_sign}
-use Rattle.sw_convert_passing.specs.Values as passing
-use Rattle.sw_convert_again.specs.Bare.{is_bare}
 use Rattle.sw_convert_again.specs.Tokens.{Tok, tok, Old}
 use Rattle.sw_convert_again.specs.Tokens as again
 use Rattle.sw_convert_again.specs.Spells.{from_start, is_named, without_named, undollared, call_tokens, Spells, SpellsWord, SpellsPlain, SpellsLinks, SpellsItems, SpellsCommas, SpellsPairs, SpellsSigns, SpellsArgument, SpellsMore, SpellsArguments, SpellsPieces, SpellsRow, unlisted, no_links, more_links, no_items, more_items, no_commas, more_commas, no_pairs, more_pairs, no_signs, more_signs, within, paren}
 use Rattle.sw_convert_again.specs.Spells as spells
 use Rattle.sw_convert_tokens.specs.Written.{AsValue, AsRow, WrittenAs}
 use Rattle.sw_convert_tokens.specs.Values.{WasRead, IsValueWritten}
-use Rattle.sw_convert_values.specs.Values.{is_called, is_text, are_some, begins_plus, is_single_word, is_single, SinglesAreWritten, ValuesAreWritten, PlainsAreWritten}
+use Rattle.sw_convert_values.specs.Values.{is_called, is_url_called, has_arguments, is_text, are_some, begins_plus, SinglesAreWritten, ValuesAreWritten, PlainsAreWritten}
 use Rattle.sw_convert_tokens.proofs.Ends.{bare_list, no_sign_behind}
 use Rattle.sw_convert_tokens.proofs.Signs.{Fits}
 use Rattle.sw_convert_tokens.proofs.Unclosed.{slash_ends, unclosed_behind}
 use Rattle.sw_convert_tokens.proofs.Spaces.{unclosed_spaced}
 use Rattle.sw_convert_tokens.proofs.Between.{operators_are, binary_by, beside_written, linked_written, divided_written, unclosed_linked, prefix_by, prefix_written}
 use Rattle.sw_convert_values.proofs.Quotients.{number_begun}
-use Rattle.sw_convert_spelling.proofs.Choices.{by_test}
+use Rattle.sw_convert_spelling.proofs.Choices.{by_test, neither}
 use Rattle.sw_convert_tokens.proofs.Staying.{number_kept, sign_bytes, minus_kept}
 use Rattle.sw_convert_texts.proofs.OldHashes.{hash_written}
-use Rattle.sw_convert_tokens.proofs.Undollared.{placed_argument}
-use Rattle.sw_convert_tokens.proofs.Arguments.{IsItems, AreArguments, value_argument, name_argument, first_argument, further_argument, colon_argument, dots_behind, no_arguments_written, arguments_written}
+use Rattle.sw_convert_tokens.proofs.Undollared.{placed_argument, spaced_argument}
+use Rattle.sw_convert_tokens.proofs.Arguments.{IsItems, AreArguments, ArgumentsBehind, value_argument, name_argument, first_argument, further_argument, colon_argument, dots_behind, no_arguments_written, arguments_written, guarded_written}
 use Rattle.sw_convert_tokens.proofs.Templates.{IsText, nothing_more, text_more, insert_more, template_written}
 use Rattle.sw_convert_texts.specs.Inserted.{RowHasValues, WordHasValues}
-use Rattle.sw_convert_texts.specs.Names.{is_mixed, word_plain}
 use Rattle.sw_convert_texts.specs.Urls.{is_unbroken}
-use Rattle.sw_convert_texts.proofs.WordsWithValues.{words_written as mixed_words_written}
 use Rattle.sw_convert_texts.proofs.Urls.{urls_written}
 use Rattle.sw_convert_tokens.proofs.OldNumbers.{numbers_written}
 use Rattle.sw_convert_tokens.proofs.Variables.{variable_written, qualified_written}
 use Rattle.sw_convert_tokens.proofs.Rows.{row_of, comma_written, comma_ended, colon_written, parens_none, parens_written, brackets_none, brackets_written}
 use Rattle.sw_convert_tokens.proofs.Leaves.{constant_by, constant_written, parent_written, important_written, quoted_written}
-use Rattle.sw_convert_tokens.proofs.Words.{words_written}
 use Rattle.sw_convert_tokens.proofs.Ranges.{range_written}
 use Rattle.sw_convert_tokens.proofs.Decodings.{decoded_there}
 use Rattle.sw_convert_values.proofs.Shapes.{same, same_row, stays_as, list_around, bare_text, pieces_more, quoted_is, text_some, is_divided, again_behind, three, tokens_behind, parens_text, brackets_text}
 use Rattle.sw_convert_values.proofs.Called.{called_in, owned_in, arguments_as, named_text}
+use Rattle.sw_convert_values.proofs.Single.{unsigned, retold, constant_is, Either, row_in, plain_in, single, name_in, mixed_in}
+use Rattle.sw_convert_values.proofs.Firsts.{value_begun, IsBegun, begun_more}
+use Rattle.sw_convert_values.proofs.UrlCalls.{has_by, UrlArguments, opaque_arguments, guarded_arguments, url_called_in}
 use Rattle.sw_convert_values.proofs.Strings.{TextBefore, text_before, text_alone, begun_in}
 
 module _ (source : Source) (was : WasRead source) (known : SinglesAreWritten source) where
   abbrev IsWritten : ℕ → List ℕ → List Tok → Type 0
   IsWritten = IsValueWritten source
 
-  unsigned : {i : ℕ} {text : List ℕ} {tokens : List Tok} → WrittenAs (AsValue false) text tokens → IsWritten i text tokens
-  unsigned it = record { signed = false; written = it; sign = λ e. absurd (cc) }
-
-  retold : {i : ℕ} {xs ys : List ℕ} {ks ls : List Tok} → xs ≡ ys → ks ≡ ls → IsWritten i xs ks → IsWritten i ys ls
-  retold e f a = record { signed = a.signed; written = same e f a.written; sign = a.sign }
-
-  single : {i j : ℕ} {value : Expr} {tokens : List Tok} → (spelt : Spells source i j value tokens)
-      → is_single spelt ≡ true → IsWritten i (expr_text value) tokens
-  single {i} {j} {value} {tokens} spelt e = unsigned (known i j value tokens spelt e)
-
-  -- a name by itself that is no constant and no operator
-  name_in : {i : ℕ} → (span : Span) (old : Old source i (just terminals.Word))
-      → IsWritten i (expr_text (expression (exprs.Word (parts_between source i (suc i) [])) span))
-      (tok terminals.Word (from_start source i [] 1) ∷ [])
-  name_in {i} span old =
-      by_test (IsWritten _ _ _) (is_reserved (word_sort (bytes_at source i)))
-      (λ e. single (spells.word span (spells.named old spells.row_end)) e)
-      (λ e. unsigned (words_written source i span was old e))
-
-  -- a word with `#{}`
-  mixed_in : {i j : ℕ} {parts : Parts} {tokens : List Tok} → (span : Span) (word : SpellsWord source i j parts tokens)
-      → is_mixed word ≡ true → is_single_word source word ≡ not (word_plain source word) → WordHasValues word
-      → IsWritten i (expr_text (expression (exprs.Word parts) span)) tokens
-  mixed_in {i} {j} {parts} {tokens} span word mixed same_test values =
-      by_test (IsWritten _ _ _) (word_plain source word)
-      (λ e. unsigned (same (sym (unrolled.word_is parts)) refl
-      (λ before spaced calm.
-      let it = mixed_words_written source i j parts tokens was word mixed e values before spaced calm in record {
-        passed = it.passed;
-        segment = it.segment;
-        told = λ mode free. passing.word (it.told mode false false);
-      })))
-      (λ e. single (spells.word span word) (same_test ∙ ap not e))
-
-  -- a value, or a list with commas and without brackets
-  abbrev Either : ℕ → Expr → List Tok → Type 0
-  Either i value tokens =
-      IsWritten i (expr_text value) tokens
-      ⊎ ((is_bare value ≡ true) × WrittenAs AsRow (expr_text value) tokens)
-
-  constant_is : {i : ℕ} (old : Old source i constants) (span : Span)
-      → expr_text (expression (exprs.Constant (constant_at source i)) span)
-      ≡ constant_text (constant_of old.lexeme.terminal)
-  constant_is {i} old span = unrolled.constant_is (constant_at source i) ∙ ap constant_text (ap constant_in old.there)
-
-  row_in : {i : ℕ} (value : Expr) {tokens : List Tok} → Either i value tokens → WrittenAs AsRow (expr_text value) tokens
-  row_in value (inl it) = row_of it.written
-  row_in value (inr (e, it)) = it
-
-  plain_in : {i : ℕ} (value : Expr) {tokens : List Tok} → is_bare value ≡ false → Either i value tokens
-      → IsWritten i (expr_text value) tokens
-  plain_in value bare (inl it) = it
-  plain_in value bare (inr (e, it)) = absurd (cc)
-
   mutual
-    either : {i j : ℕ} {value : Expr} {tokens : List Tok} → Spells source i j value tokens → Either i value tokens
+    either : {i j : ℕ} {value : Expr} {tokens : List Tok} → Spells source i j value tokens → Either source i value tokens
     either (spells.number {i} {j} number span e old) = inl (unsigned (numbers_written source i j number span was e old))
     either (spells.quoted {i} span old) =
         inl (unsigned (same
@@ -145,7 +86,7 @@ module _ (source : Source) (was : WasRead source) (known : SinglesAreWritten sou
         inl (by_test (IsWritten _ _ _) (are_some inner)
         (λ e. unsigned (same (sym (quoted_is span texts)) refl
         (template_written (pieces_in false (λ t. absurd (cc)) inner e) (begun_in source was opens inner close))))
-        (λ e. single (spells.template span opens inner close) (ap not e)))
+        (λ e. single source was known (spells.template span opens inner close) (ap not e)))
     either (spells.hash {i} span one two) =
         inl (unsigned (same (sym (unrolled.hash_is (bytes_between source i (suc (suc i))))) refl (hash_written source was i one two)))
     either (spells.constant span old) =
@@ -154,9 +95,11 @@ module _ (source : Source) (was : WasRead source) (known : SinglesAreWritten sou
     either (spells.url {i} span old) =
         inl (by_test (IsWritten _ _ _) (is_unbroken (bytes_at source i))
         (λ e. unsigned (urls_written source i span was old e))
-        (λ e. single (spells.url span old) (ap not e)))
-    either (spells.url_template span opens inner close) = inl (single (spells.url_template span opens inner close) refl)
-    either (spells.special span name opens inner close) = inl (single (spells.special span name opens inner close) refl)
+        (λ e. single source was known (spells.url span old) (ap not e)))
+    either (spells.url_template span opens inner close) =
+        inl (single source was known (spells.url_template span opens inner close) refl)
+    either (spells.special span name opens inner close) =
+        inl (single source was known (spells.special span name opens inner close) refl)
     either (spells.stays_number {i} span old) =
         inl (unsigned (same (sym (stays_as (bytes_between source i (suc i)) span)) refl (number_kept source was i old)))
     either (spells.stays_signed {i} span one two) = inl (by_sign (sign_bytes source was i one))
@@ -164,7 +107,7 @@ module _ (source : Source) (was : WasRead source) (known : SinglesAreWritten sou
         by_sign : (bytes_at source i ≡ codes "+") ⊎ (bytes_at source i ≡ codes "-")
             → IsWritten i (expr_text (expression (exprs.Special (PlainParts (bytes_between source i (suc (suc i))))) span))
             (tok terminals.Sign (again.Bytes 2 (bytes_between source i (suc (suc i)))) ∷ again.sign terminals.Number ∷ [])
-        by_sign (inl e) = single (spells.stays_signed span one two) (ap begins_plus e)
+        by_sign (inl e) = single source was known (spells.stays_signed span one two) (ap begins_plus e)
         by_sign (inr e) =
             unsigned (same (sym (stays_as (bytes_between source i (suc (suc i))) span)) refl (minus_kept source was i one two e))
     either (spells.variable {i} span one two) =
@@ -174,25 +117,30 @@ module _ (source : Source) (was : WasRead source) (known : SinglesAreWritten sou
         inl (unsigned (same (sym (unrolled.qualified_is (qualified_of source i (suc (suc (suc i)))))) refl
         (qualified_written source i was one four)))
     either (spells.range {i} span old) = inl (unsigned (range_written source i span was old))
-    either (spells.word span (spells.named old spells.row_end)) = inl (name_in span old)
+    either (spells.word span (spells.named old spells.row_end)) = inl (name_in source was known span old)
     either (spells.word span (spells.named old (spells.row_part one more))) =
-        inl (mixed_in span (spells.named old (spells.row_part one more)) refl refl (row_values more))
+        inl (mixed_in source was known span (spells.named old (spells.row_part one more)) refl refl (row_values more))
     either (spells.word span (spells.named old (spells.row_insert {value = value} opens inner close more))) =
-        inl (mixed_in span (spells.named old (spells.row_insert opens inner close more)) refl refl
+        inl (mixed_in source was known span (spells.named old (spells.row_insert opens inner close more)) refl refl
         (row_in value (either inner), row_values more))
     either (spells.word span (spells.begun {value = value} opens inner close more)) =
-        inl (mixed_in span (spells.begun opens inner close more) refl refl (row_in value (either inner), row_values more))
+        inl (mixed_in source was known span (spells.begun opens inner close more) refl refl
+        (row_in value (either inner), row_values more))
     either (spells.word span (spells.begun_minus {value = value} minus opens inner close more)) =
-        inl (mixed_in span (spells.begun_minus minus opens inner close more) refl refl
+        inl (mixed_in source was known span (spells.begun_minus minus opens inner close more) refl refl
         (row_in value (either inner), row_values more))
     either (spells.call {args = args} span name_span name opens inner close) =
         inl (by_test (IsWritten _ _ _) (is_called source false name)
         (λ e. unsigned (called_in source was args span name_span name e (word_values name) (arguments_in inner)))
-        (λ e. single (spells.call span name_span name opens inner close) (ap not e)))
+        (λ e. by_test (IsWritten _ _ _) (is_url_called source args name)
+        (λ f. unsigned (url_called_in source args span name_span name f
+        (url_arguments_in inner (has_by source args name f))))
+        (λ f. single source was known (spells.call span name_span name opens inner close)
+        (ap not (neither (is_called source false name) _ e f)))))
     either (spells.owned_call {args = args} span name_span owner dot name opens inner close) =
         inl (by_test (IsWritten _ _ _) (is_called source true name)
         (λ e. unsigned (owned_in source was args span name_span owner name e (word_values name) (arguments_in inner)))
-        (λ e. single (spells.owned_call span name_span owner dot name opens inner close) (ap not e)))
+        (λ e. single source was known (spells.owned_call span name_span owner dot name opens inner close) (ap not e)))
     either (spells.parent span old) = inl (unsigned (same (sym unrolled.parent_is) refl parent_written))
     either (spells.important span one two) = inl (unsigned (same (sym unrolled.important_is) refl important_written))
     either (spells.prefixed {operand = operand} first span before value) =
@@ -401,8 +349,10 @@ module _ (source : Source) (was : WasRead source) (known : SinglesAreWritten sou
     argument_in (spells.spread_argument {value = inner} value dots) = dots_behind (first_argument (placed_argument false (plain value).written))
 
     argument_behind : {i j : ℕ} {arg : Argument} {ks tokens : List Tok} {left : List ℕ}
-        → SpellsArgument source i j arg tokens → AreArguments false left ks
-        → AreArguments false (left ++ (codes ", " ++ argument_text arg)) (ks ++ again.sign terminals.Comma ∷ tokens)
+        {before : Before} {spaced : Bool}
+        → SpellsArgument source i j arg tokens → ArgumentsBehind before spaced false left ks
+        → ArgumentsBehind before spaced false (left ++ (codes ", " ++ argument_text arg))
+        (ks ++ again.sign terminals.Comma ∷ tokens)
     argument_behind {ks = ks} {left = left} (spells.named_argument {i} {value = inner} {tokens = tokens} dollar name colon value) it =
         let said = dollar_name (dashed (bytes_at source (suc i))) in
         arguments_as
@@ -419,9 +369,9 @@ module _ (source : Source) (was : WasRead source) (known : SinglesAreWritten sou
         (tokens_behind ks (again.sign terminals.Comma) (undollared tokens) (again.sign terminals.Ellipsis ∷ []))
         (dots_behind (further_argument it (placed_argument true (plain value).written)))
 
-    more_in : {k j : ℕ} {ks others : List Tok} {args : List Argument} {left : List ℕ}
-        → SpellsMore source k j args others → AreArguments false left ks
-        → AreArguments false (left ++ with_commas false (map argument_text args)) (ks ++ others)
+    more_in : {k j : ℕ} {ks others : List Tok} {args : List Argument} {left : List ℕ} {before : Before} {spaced : Bool}
+        → SpellsMore source k j args others → ArgumentsBehind before spaced false left ks
+        → ArgumentsBehind before spaced false (left ++ with_commas false (map argument_text args)) (ks ++ others)
     more_in {ks = ks} {left = left} spells.no_more it = arguments_as (sym (append-nil left)) (sym (append-nil ks)) it
     more_in {ks = ks} {left = left}
         (spells.more {arg = arg} {args = args} {tokens = tokens} {others = others} comma one rest) it =
@@ -435,8 +385,33 @@ module _ (source : Source) (was : WasRead source) (known : SinglesAreWritten sou
     arguments_in (spells.arguments one rest end) =
         arguments_written (more_in rest (argument_in one))
 
+    -- the first behind a comment, and all of a url
+    guarded_in : {i j : ℕ} {arg : Argument} {tokens : List Tok} → SpellsArgument source i j arg tokens
+        → (of_argument arg).opaque ≡ false
+        → IsBegun (argument_text arg) × ArgumentsBehind befores.White true false (argument_text arg) tokens
+    guarded_in (spells.named_argument dollar name colon value) o = absurd (cc)
+    guarded_in (spells.placed_argument {value = inner} value) o =
+        let it = (plain value).written in (
+          begun_more (expr_text inner) [] (value_begun it),
+          arguments_as (sym (append-nil (expr_text inner))) refl (first_argument (spaced_argument befores.White it)),
+        )
+    guarded_in (spells.spread_argument {value = inner} value dots) o =
+        let it = (plain value).written in (
+          begun_more (expr_text inner) (codes "...") (value_begun it),
+          dots_behind (first_argument (spaced_argument befores.White it)),
+        )
+
+    url_arguments_in : {i j : ℕ} {args : List Argument} {tokens : List Tok} → SpellsArguments source i j args tokens
+        → has_arguments args ≡ true → UrlArguments args tokens
+    url_arguments_in spells.no_arguments e = absurd (cc)
+    url_arguments_in (spells.arguments {arg = arg} {args = args} one rest end) e =
+        by_test (UrlArguments _ _) (of_argument arg).opaque
+        (λ o. opaque_arguments arg args o (arguments_written (more_in rest (argument_in one))))
+        (λ o. let first = guarded_in one o in
+        guarded_arguments arg args o first.0 (guarded_written (more_in rest first.1)))
+
 pub values_written : ValuesAreWritten
-values_written source was known i j value tokens spelt = row_in source was known value (either source was known spelt)
+values_written source was known i j value tokens spelt = row_in value (either source was known spelt)
 
 pub plains_written : PlainsAreWritten
 plains_written source was known i j value tokens spelt =

@@ -1,6 +1,7 @@
 -- What is written of each value that was read is its tokens, where that of some kinds in it is.
-use Rattle.std.specs.Prelude.{◌≡◌, ◌==◌, ℕ, Bool, true, false, if◌then◌else◌, not, ◌&&◌, List, [], ◌∷◌}
+use Rattle.std.specs.Prelude.{◌≡◌, ◌==◌, ℕ, Bool, true, false, if◌then◌else◌, not, ◌&&◌, ◌||◌, List, [], ◌∷◌}
 use Rattle.sw_text_scan.specs.Bytes.{sign}
+use Rattle.sw_tree.specs.declared.expr.Argument.{Argument}
 use Rattle.sw_tree.specs.declared.expr.Expr.{Expr}
 use Rattle.sw_tree.specs.declared.text.Parts.{Parts}
 use Rattle.sw_tree.specs.declared.text.Piece.{Piece}
@@ -8,7 +9,7 @@ use Rattle.sw_parse_lexemes.specs.Classes.{is_reserved}
 use Rattle.sw_parse_lexemes.specs.Words.{word_sort}
 use Rattle.sw_parse_table.specs.declared.source.Source.{Source}
 use Rattle.sw_parse_table.specs.Sources.{bytes_at, decoded_at}
-use Rattle.sw_convert_written.specs.Expressions.{ends_in_url, expr_text}
+use Rattle.sw_convert_written.specs.Expressions.{is_url, ends_in_url, expr_text}
 use Rattle.sw_convert_again.specs.Tokens.{Tok}
 use Rattle.sw_convert_again.specs.Spells.{Spells, SpellsPlain, SpellsWord, SpellsArgument, SpellsMore, SpellsArguments, SpellsPieces, is_named}
 use Rattle.sw_convert_again.specs.Spells as spells
@@ -38,6 +39,22 @@ abbrev pub is_called : (source : Source) (owned : Bool) {i j : ℕ} {parts : Par
 is_called source owned {parts = parts} word =
     if is_mixed word then word_plain source word && not (ends_in_url (joined parts)) else is_name_called source owned word
 
+abbrev pub has_arguments : List Argument → Bool
+has_arguments [] = false
+has_arguments (argument ∷ arguments) = true
+
+-- `url` with arguments
+abbrev pub is_url_called : (source : Source) (arguments : List Argument) {i j : ℕ} {parts : Parts} {tokens : List Tok}
+    → SpellsWord source i j parts tokens → Bool
+is_url_called source arguments (spells.named {i} old spells.row_end) =
+    is_url (bytes_at source i) && has_arguments arguments
+is_url_called source arguments _ = false
+
+-- a call of one of these
+abbrev pub is_call : (source : Source) (arguments : List Argument) {i j : ℕ} {parts : Parts} {tokens : List Tok}
+    → SpellsWord source i j parts tokens → Bool
+is_call source arguments name = is_called source false name || is_url_called source arguments name
+
 abbrev pub is_text : List ℕ → Bool
 is_text [] = false
 is_text (b ∷ text) = true
@@ -63,8 +80,8 @@ is_single (spells.url_template span opens inner close) = true
 is_single (spells.special span name opens inner close) = true
 is_single {source = source} (spells.stays_signed {i} span one two) = begins_plus (bytes_at source i)
 is_single {source = source} (spells.word span word) = is_single_word source word
-is_single {source = source} (spells.call span name_span name opens inner close) =
-    not (is_called source false name)
+is_single {source = source} (spells.call {args = arguments} span name_span name opens inner close) =
+    not (is_call source arguments name)
 is_single {source = source} (spells.owned_call span name_span owner dot name opens inner close) =
     not (is_called source true name)
 is_single _ = false

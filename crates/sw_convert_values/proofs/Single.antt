@@ -1,0 +1,95 @@
+-- Single values, and values that are lists or not.
+use Rattle.std.proofs.Common.{◌≡◌, ◌⊎◌, ℕ, suc, true, false, not, List, [], ◌∷◌, inl, inr, refl, sym, ◌∙◌, ap}
+use Rattle.sw_text.specs.declared.place.Span.{Span}
+use Rattle.sw_tree.specs.declared.text.Parts.{Parts}
+use Rattle.sw_tree.specs.declared.expr.Expr.{Expr}
+use Rattle.sw_tree.specs.declared.expr.ExprKind.TheVariants as exprs
+use Rattle.sw_parse_terminals.specs.declared.terminal.Terminal.TheVariants as terminals
+use Rattle.sw_parse_terminals.specs.Numbers.{just}
+use Rattle.sw_parse_lexemes.specs.Classes.{is_reserved}
+use Rattle.sw_parse_lexemes.specs.Words.{word_sort}
+use Rattle.sw_parse_table.specs.declared.source.Source.{Source}
+use Rattle.sw_parse_table.specs.Operators.{constant_of, constant_in, constant_at}
+use Rattle.sw_parse_table.specs.Sets.{constants}
+use Rattle.sw_parse_table.specs.Sources.{bytes_at, parts_between}
+use Rattle.sw_parse_table.specs.Values.{expression}
+use Rattle.sw_convert_written.specs.Signs.{constant_text}
+use Rattle.sw_convert_written.specs.Expressions.{expr_text}
+use Rattle.sw_convert_written.proofs.Unrolled as unrolled
+use Rattle.sw_convert_passing.specs.Values as passing
+use Rattle.sw_convert_again.specs.Bare.{is_bare}
+use Rattle.sw_convert_again.specs.Tokens.{Tok, tok, Old}
+use Rattle.sw_convert_again.specs.Spells.{from_start, Spells, SpellsWord}
+use Rattle.sw_convert_again.specs.Spells as spells
+use Rattle.sw_convert_tokens.specs.Written.{AsValue, AsRow, WrittenAs}
+use Rattle.sw_convert_tokens.specs.Values.{WasRead, IsValueWritten}
+use Rattle.sw_convert_values.specs.Values.{is_single_word, is_single, SinglesAreWritten}
+use Rattle.sw_convert_spelling.proofs.Choices.{by_test}
+use Rattle.sw_convert_texts.specs.Inserted.{WordHasValues}
+use Rattle.sw_convert_texts.specs.Names.{is_mixed, word_plain}
+use Rattle.sw_convert_texts.proofs.WordsWithValues.{words_written as mixed_words_written}
+use Rattle.sw_convert_tokens.proofs.Rows.{row_of}
+use Rattle.sw_convert_tokens.proofs.Words.{words_written}
+use Rattle.sw_convert_values.proofs.Shapes.{same}
+
+pub unsigned : {source : Source} {i : ℕ} {text : List ℕ} {tokens : List Tok} → WrittenAs (AsValue false) text tokens
+    → IsValueWritten source i text tokens
+unsigned it = record { signed = false; written = it; sign = λ e. absurd (cc) }
+
+pub retold : {source : Source} {i : ℕ} {xs ys : List ℕ} {ks ls : List Tok} → xs ≡ ys → ks ≡ ls
+    → IsValueWritten source i xs ks → IsValueWritten source i ys ls
+retold e f a = record { signed = a.signed; written = same e f a.written; sign = a.sign }
+
+pub constant_is : {source : Source} {i : ℕ} (old : Old source i constants) (span : Span)
+    → expr_text (expression (exprs.Constant (constant_at source i)) span)
+    ≡ constant_text (constant_of old.lexeme.terminal)
+constant_is {source} {i} old span = unrolled.constant_is (constant_at source i) ∙ ap constant_text (ap constant_in old.there)
+
+-- ---- a value, or a list with commas and without brackets
+
+abbrev pub Either : Source → ℕ → Expr → List Tok → Type 0
+Either source i value tokens =
+    IsValueWritten source i (expr_text value) tokens
+    ⊎ ((is_bare value ≡ true) × WrittenAs AsRow (expr_text value) tokens)
+
+pub row_in : {source : Source} {i : ℕ} (value : Expr) {tokens : List Tok} → Either source i value tokens
+    → WrittenAs AsRow (expr_text value) tokens
+row_in value (inl it) = row_of it.written
+row_in value (inr (e, it)) = it
+
+pub plain_in : {source : Source} {i : ℕ} (value : Expr) {tokens : List Tok} → is_bare value ≡ false
+    → Either source i value tokens → IsValueWritten source i (expr_text value) tokens
+plain_in value bare (inl it) = it
+plain_in value bare (inr (e, it)) = absurd (cc)
+
+-- ---- what is asked for, and words
+
+module _ (source : Source) (was : WasRead source) (known : SinglesAreWritten source) where
+  pub single : {i j : ℕ} {value : Expr} {tokens : List Tok} → (spelt : Spells source i j value tokens)
+      → is_single spelt ≡ true → IsValueWritten source i (expr_text value) tokens
+  single {i} {j} {value} {tokens} spelt e = unsigned (known i j value tokens spelt e)
+
+  -- a name by itself that is no constant and no operator
+  pub name_in : {i : ℕ} → (span : Span) (old : Old source i (just terminals.Word))
+      → IsValueWritten source i (expr_text (expression (exprs.Word (parts_between source i (suc i) [])) span))
+      (tok terminals.Word (from_start source i [] 1) ∷ [])
+  name_in {i} span old =
+      by_test (IsValueWritten source _ _ _) (is_reserved (word_sort (bytes_at source i)))
+      (λ e. single (spells.word span (spells.named old spells.row_end)) e)
+      (λ e. unsigned (words_written source i span was old e))
+
+  -- a word with `#{}`
+  pub mixed_in : {i j : ℕ} {parts : Parts} {tokens : List Tok} → (span : Span)
+      (word : SpellsWord source i j parts tokens)
+      → is_mixed word ≡ true → is_single_word source word ≡ not (word_plain source word) → WordHasValues word
+      → IsValueWritten source i (expr_text (expression (exprs.Word parts) span)) tokens
+  mixed_in {i} {j} {parts} {tokens} span word mixed same_test values =
+      by_test (IsValueWritten source _ _ _) (word_plain source word)
+      (λ e. unsigned (same (sym (unrolled.word_is parts)) refl
+      (λ before spaced calm.
+      let it = mixed_words_written source i j parts tokens was word mixed e values before spaced calm in record {
+        passed = it.passed;
+        segment = it.segment;
+        told = λ mode free. passing.word (it.told mode false false);
+      })))
+      (λ e. single (spells.word span word) (same_test ∙ ap not e))
