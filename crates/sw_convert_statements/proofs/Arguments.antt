@@ -26,6 +26,8 @@ use Rattle.sw_convert_tokens.proofs.Joins.{join}
 use Rattle.sw_convert_tokens.proofs.Signs.{Anything, lone_segment}
 use Rattle.sw_convert_tokens.proofs.Arguments.{IsItems, AreArguments, value_argument, name_argument, first_argument, further_argument, colon_argument, dots_behind, no_arguments_written, arguments_written}
 use Rattle.sw_convert_tokens.proofs.Undollared.{placed_argument}
+use Rattle.sw_convert_values.specs.Values.{is_led}
+use Rattle.sw_convert_values.proofs.Starts.{behind_old}
 use Rattle.sw_convert_statements.specs.Fronts.{ValuesAreKnown}
 use Rattle.sw_convert_statements.proofs.Params.{close_segment}
 
@@ -42,22 +44,23 @@ three left space value rest =
     append_assoc left (space ++ value) rest ∙ ap (λ (t : List ℕ). left ++ t) (append_assoc space value rest)
 
 module _ (source : Source) (was : WasRead source) (values : ValuesAreKnown source) where
-  argument_in : {i j : ℕ} {arg : Argument} {tokens : List Tok} → SpellsArgument source i j arg tokens
+  argument_in : {i j : ℕ} {arg : Argument} {tokens : List Tok} → is_led source i ≡ false
+      → SpellsArgument source i j arg tokens
       → AreArguments false (argument_text arg) tokens
-  argument_in (spells.named_argument {i} {value = inner} dollar name colon value) =
+  argument_in led (spells.named_argument {i} {value = inner} dollar name colon value) =
       arguments_as (named_text (dollar_name (dashed (bytes_at source (suc i)))) (expr_text inner)) refl
       (colon_argument (first_argument (name_argument false source (suc i) was name))
-      (value_argument true (values.plains _ _ _ _ value).1))
-  argument_in (spells.placed_argument {value = inner} value) =
+      (value_argument true (values.plains _ _ _ _ (behind_old colon refl) value).1))
+  argument_in led (spells.placed_argument {value = inner} value) =
       arguments_as (sym (append-nil (expr_text inner))) refl
-      (first_argument (placed_argument false (values.plains _ _ _ _ value).1))
-  argument_in (spells.spread_argument value dots) =
-      dots_behind (first_argument (placed_argument false (values.plains _ _ _ _ value).1))
+      (first_argument (placed_argument false (values.plains _ _ _ _ led value).1))
+  argument_in led (spells.spread_argument value dots) =
+      dots_behind (first_argument (placed_argument false (values.plains _ _ _ _ led value).1))
 
   argument_behind : {i j : ℕ} {arg : Argument} {ks tokens : List Tok} {left : List ℕ}
-      → SpellsArgument source i j arg tokens → AreArguments false left ks
+      → is_led source i ≡ false → SpellsArgument source i j arg tokens → AreArguments false left ks
       → AreArguments false (left ++ (codes ", " ++ argument_text arg)) (ks ++ again.sign terminals.Comma ∷ tokens)
-  argument_behind {ks = ks} {left = left}
+  argument_behind {ks = ks} {left = left} led
       (spells.named_argument {i} {value = inner} {tokens = tokens} dollar name colon value) it =
       let said = dollar_name (dashed (bytes_at source (suc i))) in
       arguments_as
@@ -66,14 +69,14 @@ module _ (source : Source) (was : WasRead source) (values : ValuesAreKnown sourc
       (append_assoc ks (again.sign terminals.Comma ∷ again.sign terminals.DollarNamed
       ∷ tok terminals.VariableName (Dashed (dashed (bytes_at source (suc i)))) ∷ []) (again.sign terminals.Colon ∷ tokens))
       (colon_argument (further_argument it (name_argument true source (suc i) was name))
-      (value_argument true (values.plains _ _ _ _ value).1))
-  argument_behind {left = left} (spells.placed_argument {value = inner} value) it =
+      (value_argument true (values.plains _ _ _ _ (behind_old colon refl) value).1))
+  argument_behind {left = left} led (spells.placed_argument {value = inner} value) it =
       arguments_as (ap (λ (t : List ℕ). left ++ (codes ", " ++ t)) (sym (append-nil (expr_text inner)))) refl
-      (further_argument it (placed_argument true (values.plains _ _ _ _ value).1))
-  argument_behind {ks = ks} {left = left} (spells.spread_argument {value = inner} {tokens = tokens} value dots) it =
+      (further_argument it (placed_argument true (values.plains _ _ _ _ led value).1))
+  argument_behind {ks = ks} {left = left} led (spells.spread_argument {value = inner} {tokens = tokens} value dots) it =
       arguments_as (three left (codes ", ") (expr_text inner) (codes "..."))
       (append_assoc ks (again.sign terminals.Comma ∷ undollared tokens) (again.sign terminals.Ellipsis ∷ []))
-      (dots_behind (further_argument it (placed_argument true (values.plains _ _ _ _ value).1)))
+      (dots_behind (further_argument it (placed_argument true (values.plains _ _ _ _ led value).1)))
 
   more_in : {k j : ℕ} {ks others : List Tok} {args : List Argument} {left : List ℕ}
       → SpellsMore source k j args others → AreArguments false left ks
@@ -83,12 +86,12 @@ module _ (source : Source) (was : WasRead source) (values : ValuesAreKnown sourc
       (spells.more {arg = arg} {args = args} {tokens = tokens} {others = others} comma one rest) it =
       arguments_as (three left (codes ", ") (argument_text arg) (with_commas false (map argument_text args)))
       (append_assoc ks (again.sign terminals.Comma ∷ tokens) others)
-      (more_in rest (argument_behind one it))
+      (more_in rest (argument_behind (behind_old comma refl) one it))
 
-  arguments_in : {i j : ℕ} {args : List Argument} {tokens : List Tok} → SpellsArguments source i j args tokens
-      → IsItems (with_commas true (map argument_text args)) tokens
-  arguments_in spells.no_arguments = no_arguments_written
-  arguments_in (spells.arguments one rest end) = arguments_written (more_in rest (argument_in one))
+  arguments_in : {i j : ℕ} {args : List Argument} {tokens : List Tok} → is_led source i ≡ false
+      → SpellsArguments source i j args tokens → IsItems (with_commas true (map argument_text args)) tokens
+  arguments_in led spells.no_arguments = no_arguments_written
+  arguments_in led (spells.arguments one rest end) = arguments_written (more_in rest (argument_in led one))
 
 -- ---- behind a name
 
@@ -107,7 +110,7 @@ pub given_written : (source : Source) → WasRead source → ValuesAreKnown sour
 given_written source was values no_parens = nothing_given
 given_written source was values (empty_parens opens closes) = nothing_given
 given_written source was values (some_given opens inner closes) =
-    let it = arguments_in source was values inner in
+    let it = arguments_in source was values (behind_old opens refl) inner in
     arguments_given it.told (join open_segment (join it.segment close_segment (λ after ok. (after, refl))) (λ after ok. tt))
 
 -- ---- the same tokens with others around them

@@ -49,6 +49,8 @@ use Rattle.sw_convert_tokens.proofs.Spaces.{BeginsSpace}
 use Rattle.sw_convert_tokens.proofs.Variables.{Begins}
 use Rattle.sw_convert_tokens.proofs.Words.{bytes_sit}
 use Rattle.sw_convert_heads_passing.specs.Media.{Compared, one_side, equal_sides, Inside, feature_row, feature_compared}
+use Rattle.sw_convert_values.specs.Values.{is_led}
+use Rattle.sw_convert_values.proofs.Starts.{behind_old}
 use Rattle.sw_convert_statements.specs.Fronts.{ValuesAreKnown}
 use Rattle.sw_convert_statements.specs.Media.{comparison_text, is_side, is_compared, are_compared, is_inside}
 use Rattle.sw_convert_statements.proofs.Configurations.{row_behind}
@@ -221,7 +223,7 @@ module _ (source : Source) (values : ValuesAreKnown source) where
       let word = comparison_text old.lexeme.terminal in
       let same = (bytes_eq-Decides said word).0 (and_left (bytes_eq said word) _ t) in
       let rest = and_right (bytes_eq said word) _ t in
-      let (signed, it) = values.plains _ _ _ _ (unlisted (not_true _ (and_left _ _ rest)) spelt) in
+      let (signed, it) = values.plains _ _ _ _ (behind_old old refl) (unlisted (not_true _ (and_left _ _ rest)) spelt) in
       let shown = expr_text value in
       let whole : flat (pieces.Text (codes " " ++ (said ++ codes " ")) ∷ pieces.Value value ∷ [])
       ≡ codes " " ++ (word ++ (codes " " ++ shown)) =
@@ -290,8 +292,8 @@ same_inside : {xs ys : List ℕ} {ks : List Tok} → xs ≡ ys → IsInside xs k
 same_inside {xs} {ys} {ks} e it = subst (λ (t : List ℕ). IsInside t ks) e it
 
 pub inside_written : (source : Source) → ValuesAreKnown source → {i j : ℕ} {list : List Piece} {tokens : List Tok}
-    → (inside : SpellsFeatureInside source i j list tokens) → is_inside source inside ≡ true → IsInside (flat list) tokens
-inside_written source values
+    → is_led source i ≡ false → (inside : SpellsFeatureInside source i j list tokens) → is_inside source inside ≡ true → IsInside (flat list) tokens
+inside_written source values led
     (spells.inside_parens (spells.side {value = value} spelt) (spells.given_side colon (spells.side {value = other} more)))
     t =
     same_inside
@@ -300,12 +302,12 @@ inside_written source values
     ∙ ap (λ (x : List ℕ). x ++ flat (pieces.Text (codes ": ") ∷ pieces.Value other ∷ [])) (flat_value value)
     ∙ ap (λ (x : List ℕ). expr_text value ++ x)
     (flat_text (codes ": ") (pieces.Value other ∷ []) ∙ ap (λ (x : List ℕ). codes ": " ++ x) (flat_value other))))
-    (given_inside (values.rows _ _ _ _ spelt) (values.rows _ _ _ _ more))
-inside_written source values
+    (given_inside (values.rows _ _ _ _ led spelt) (values.rows _ _ _ _ (behind_old colon refl) more))
+inside_written source values led
     (spells.inside_parens (spells.side {value = value} spelt) (spells.compared_sides {list = others} sides)) t =
     let side = is_side (spells.side spelt) in
     let plain = and_left side _ t in
-    let (signed, it) = values.plains _ _ _ _ (unlisted (not_true _ (and_left _ _ plain)) spelt) in
+    let (signed, it) = values.plains _ _ _ _ led (unlisted (not_true _ (and_left _ _ plain)) spelt) in
     same_inside
     (sym
     (flat_append (pieces.Value value ∷ []) others ∙ ap (λ (x : List ℕ). x ++ flat others) (flat_value value)))

@@ -39,6 +39,7 @@ use Rattle.sw_convert_statements.proofs.Keywords.{spaced_word}
 use Rattle.sw_convert_statements.proofs.Params.{comma_segment, close_segment, open_segment, behind_comma, variable_at}
 use Rattle.sw_convert_statements.proofs.Segments.{sheet, join, as_text, as_toks, as_passed, as_behind, value_pads, padded}
 use Rattle.sw_convert_statements.proofs.Variables.{colon_segment}
+use Rattle.sw_convert_values.proofs.Starts.{behind_old}
 
 -- ---- values one behind the other
 
@@ -120,7 +121,7 @@ module _ (source : Source) (was : WasRead source) (values : ValuesAreKnown sourc
       → AreGiven (given_text given) tokens
   given_first (configured_variable {i} {value = value} dollar name colon (unlisted plain spelt)) =
       same_given (sym (append-nil (dollar_name (name_at source (suc i)) ++ (codes ": " ++ expr_text value)))) refl
-      (first_given source was (suc i) name (values.rows _ _ _ _ spelt))
+      (first_given source was (suc i) name (values.rows _ _ _ _ (behind_old colon refl) spelt))
 
   given_further : {i j : ℕ} {given : Given} {tokens ks : List Tok} {left : List ℕ}
       → SpellsConfigured source false i j given tokens → AreGiven left ks
@@ -129,7 +130,7 @@ module _ (source : Source) (was : WasRead source) (values : ValuesAreKnown sourc
       same_given
       (ap (λ (x : List ℕ). left ++ (codes ", " ++ x))
       (sym (append-nil (dollar_name (name_at source (suc i)) ++ (codes ": " ++ expr_text value))))) refl
-      (further_given source was it (suc i) name (values.rows _ _ _ _ spelt))
+      (further_given source was it (suc i) name (values.rows _ _ _ _ (behind_old colon refl) spelt))
 
   given_more : {i j : ℕ} {givens : List Given} {others ks : List Tok} {left : List ℕ}
       → SpellsMoreConfigured source false i j givens others → AreGiven left ks

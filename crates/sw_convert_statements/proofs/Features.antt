@@ -6,6 +6,7 @@ use Rattle.sw_tree.specs.declared.text.Piece.{Piece}
 use Rattle.sw_tokens.specs.declared.pieces.Before.TheVariants as befores
 use Rattle.sw_parse_terminals.specs.declared.terminal.Terminal.{Terminal}
 use Rattle.sw_parse_terminals.specs.declared.terminal.Terminal.TheVariants as terminals
+use Rattle.sw_parse_terminals.specs.Numbers.{just}
 use Rattle.sw_parse_lexemes.specs.declared.sort.Sort.{Sort}
 use Rattle.sw_parse_lexemes.specs.declared.sort.Sort.TheVariants as sorts
 use Rattle.sw_parse_table.specs.declared.source.Source.{Source}
@@ -21,6 +22,7 @@ use Rattle.sw_convert_tokens.specs.Written.{gap_of, stops, AsRow, WrittenAs}
 use Rattle.sw_convert_tokens.proofs.Joins.{join, as_text}
 use Rattle.sw_convert_tokens.proofs.Signs.{Anything}
 use Rattle.sw_convert_heads_passing.specs.Media.{is_insert, opens, Joins, and_joins, or_joins, Feature, insert_feature, condition_feature, inside_feature, Features, no_feature, more_features, Condition, not_condition, joined_condition}
+use Rattle.sw_convert_values.proofs.Starts.{is_clear, behind_old}
 use Rattle.sw_convert_statements.specs.Fronts.{ValuesAreKnown}
 use Rattle.sw_convert_statements.specs.Media.{begins_feature, in_parens, begins_condition, is_feature, is_worded, are_joined, is_condition}
 use Rattle.sw_convert_statements.proofs.Comparisons.{inside_written}
@@ -60,12 +62,12 @@ insert_at terminal false w =
     record { inner = it.inner; items = it.items; segment = it.segment }
 
 pub inserted_written : {source : Source} → ValuesAreKnown source → {terminal : Terminal} {i j : ℕ} {list : List Piece}
-    {tokens : List Tok} → SpellsInserted source terminal i j list tokens → (spaced : Bool)
+    {tokens : List Tok} → is_clear (just terminal) ≡ true → SpellsInserted source terminal i j list tokens → (spaced : Bool)
     → IsInserted terminal spaced (flat list) tokens
-inserted_written values {terminal} (spells.inserted_value {value = value} {tokens = tokens} old spelt close) spaced =
+inserted_written values {terminal} clear (spells.inserted_value {value = value} {tokens = tokens} old spelt close) spaced =
     subst
     (λ (t : List ℕ). IsInserted terminal spaced t (within (again.sign terminal) tokens terminals.InsertEnd))
-    (sym (flat_insert value)) (insert_at terminal spaced (values.rows _ _ _ _ spelt))
+    (sym (flat_insert value)) (insert_at terminal spaced (values.rows _ _ _ _ (behind_old old clear) spelt))
 
 -- parentheses around tokens
 in_parens_written : (terminal : Terminal) (spaced : Bool) {text : List ℕ} {tokens : List Tok} {passed : List Written}
@@ -170,7 +172,7 @@ module _ (source : Source) (values : ValuesAreKnown source) where
         → (one : SpellsFeature source i j list tokens) → is_feature source one ≡ true → (spaced : Bool)
         → IsFeature (in_parens one) spaced (flat list) tokens
     feature_written (spells.inserted_feature one) t spaced =
-        let it = inserted_written values one spaced in record {
+        let it = inserted_written values refl one spaced in record {
           passed = _;
           are = insert_feature it.items;
           opening = λ e. absurd (cc);
@@ -186,7 +188,7 @@ module _ (source : Source) (values : ValuesAreKnown source) where
           segment = in_parens_written terminals.ConditionParen spaced it.segment (λ after. tt);
         })
     feature_written (spells.inside_feature {list = list} {tokens = tokens} opened inside closes) t spaced =
-        let it = inside_written source values inside (and_right (begins_feature tokens) _ t) in
+        let it = inside_written source values (behind_old opened refl) inside (and_right (begins_feature tokens) _ t) in
         let seg = it.segment in
         same_feature (sym (flat_parens list)) (record {
           passed = _;

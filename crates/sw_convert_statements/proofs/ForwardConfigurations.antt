@@ -32,6 +32,7 @@ use Rattle.sw_convert_tokens.proofs.Unclosed.{space_ends, unclosed_behind, follo
 use Rattle.sw_convert_heads_passing.specs.Loads.{Entries, entry, one_entry, more_entries, ForwardConfiguration, configuration_in}
 use Rattle.sw_convert_heads_passing.specs.Loads as loads
 use Rattle.sw_convert_texts.specs.RawTexts.{SheetSegment}
+use Rattle.sw_convert_values.proofs.Starts.{behind_old}
 use Rattle.sw_convert_statements.specs.Segments.{seams}
 use Rattle.sw_convert_statements.specs.Fronts.{ValuesAreKnown}
 use Rattle.sw_convert_statements.proofs.Configurations.{IsConfigured, nothing_configured, with_written, behind_colon}
@@ -177,10 +178,10 @@ module _ (source : Source) (was : WasRead source) (values : ValuesAreKnown sourc
   entry_written : {i j : ℕ} {given : Given} {tokens : List Tok} → SpellsConfigured source true i j given tokens
       → (spaced : Bool) → IsEntry spaced (given_text given) tokens
   entry_written (configured_variable {i} dollar_sign name colon spelt) spaced =
-      let (signed, it) = values.plains _ _ _ _ spelt in
+      let (signed, it) = values.plains _ _ _ _ (behind_old colon refl) spelt in
       without_flag (valued_written source (suc i) was name it spaced)
   entry_written (configured_default {i} dollar_sign name colon spelt bang default) spaced =
-      let (signed, it) = values.plains _ _ _ _ spelt in
+      let (signed, it) = values.plains _ _ _ _ (behind_old colon refl) spelt in
       with_flag (valued_written source (suc i) was name it spaced)
 
   entries_written : {i j k m : ℕ} {given : Given} {givens : List Given} {tokens others : List Tok}

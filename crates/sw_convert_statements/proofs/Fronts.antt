@@ -1,8 +1,11 @@
 -- Statements with values, by their kinds.
-use Rattle.std.proofs.Common.{ℕ, suc, List, ◌∷◌, ◌++◌, subst, append_assoc}
+use Rattle.std.proofs.Common.{◌≡◌, ℕ, suc, true, List, ◌∷◌, ◌++◌, refl, subst, append_assoc}
 use Rattle.std.specs.Prelude.{codes}
 use Rattle.sw_text_scan.proofs.Bounds.{and_left, and_right}
 use Rattle.sw_tree.specs.declared.text.Parts.TheVariants.{Mixed}
+use Rattle.sw_tree.specs.declared.statement.Level.{Level}
+use Rattle.sw_tree.specs.declared.statement.Level.TheVariants as levels
+use Rattle.sw_parse_terminals.specs.Numbers.{just}
 use Rattle.sw_parse_table.specs.Actions.{flags_at, name_at, mixin_of}
 use Rattle.sw_parse_terminals.specs.declared.terminal.Terminal.TheVariants as terminals
 use Rattle.sw_parse_lexemes.specs.declared.state.Mode.TheVariants as modes
@@ -11,8 +14,9 @@ use Rattle.sw_convert_written.specs.Heads.{given_arguments, include_text, using_
 use Rattle.sw_convert_written.specs.Names.{name_text}
 use Rattle.sw_convert_again.specs.Tokens.{Tok}
 use Rattle.sw_convert_again.specs.Tokens as again
-use Rattle.sw_convert_again.specs.Statements.{SpellsStatement}
+use Rattle.sw_convert_again.specs.Statements.{SpellsStatement, say_name}
 use Rattle.sw_convert_again.specs.Statements as spells
+use Rattle.sw_convert_values.proofs.Starts.{is_clear, behind_old}
 use Rattle.sw_convert_statements.specs.Fronts.{is_unbounded, is_prefix, FrontsAreWritten, BranchesAreWritten}
 use Rattle.sw_convert_statements.specs.Media.{is_seamless}
 use Rattle.sw_convert_statements.proofs.Queries.{media_written}
@@ -28,17 +32,22 @@ use Rattle.sw_convert_statements.proofs.Includes.{content_called, include_line_w
 use Rattle.sw_convert_statements.proofs.Callables.{function_written, mixin_written}
 use Rattle.sw_convert_statements.proofs.Flow.{each_written, charset_written, at_root_written}
 
+say_clear : (level : Level) → is_clear (just (say_name level)) ≡ true
+say_clear levels.Warn = refl
+say_clear levels.Debug = refl
+say_clear levels.Error = refl
+
 pub fronts_written : FrontsAreWritten
 fronts_written source was known i j statement tokens (spells.return_line span old inner end) t =
-    return_written (known.rows _ _ _ _ inner)
+    return_written (known.rows _ _ _ _ (behind_old old refl) inner)
 fronts_written source was known i j statement tokens (spells.say_line level span old inner end) t =
-    say_written (known.rows _ _ _ _ inner) level
+    say_written (known.rows _ _ _ _ (behind_old old (say_clear level)) inner) level
 fronts_written source was known i j statement tokens
     (spells.variable_line {i = k} {places = places} span one two three inner flags end) t =
-    variable_written source (suc k) was two (known.rows _ _ _ _ inner) (flags_at source places)
+    variable_written source (suc k) was two (known.rows _ _ _ _ (behind_old three refl) inner) (flags_at source places)
 fronts_written source was known i j statement tokens
     (spells.assignment_line {i = k} {places = places} span target_span one two three four five inner flags end) t =
-    assignment_written source k was one four t (known.rows _ _ _ _ inner) (flags_at source places) (no_global source flags)
+    assignment_written source k was one four t (known.rows _ _ _ _ (behind_old five refl) inner) (flags_at source places) (no_global source flags)
 fronts_written source was known i j statement tokens (spells.charset_line span one two end) t = charset_written
 fronts_written source was known i j statement tokens (spells.content_line span old given end) t =
     content_called (given_written source was known given)
@@ -72,15 +81,15 @@ fronts_written source was known i j statement tokens (spells.mixin_block {i = k}
     mixin_written source was known (suc k) t head
 fronts_written source was known i j statement tokens
     (spells.for_block {from = from} {tokens = ks} span one two three four low old high block) t =
-    for_written source was three old (known.rows _ _ _ _ low) (and_left (is_unbounded (expr_text from) ks) _ t)
-    (known.rows _ _ _ _ high) (and_right (is_unbounded (expr_text from) ks) _ t)
+    for_written source was three old (known.rows _ _ _ _ (behind_old four refl) low) (and_left (is_unbounded (expr_text from) ks) _ t)
+    (known.rows _ _ _ _ (behind_old old refl) high) (and_right (is_unbounded (expr_text from) ks) _ t)
 fronts_written source was known i j statement tokens (spells.while_block span old inner block) t =
-    while_written (known.rows _ _ _ _ inner)
+    while_written (known.rows _ _ _ _ (behind_old old refl) inner)
 fronts_written source was known i j statement tokens (spells.if_block span old inner block further otherwise) t =
-    if_written (known.rows _ _ _ _ inner)
+    if_written (known.rows _ _ _ _ (behind_old old refl) inner)
 fronts_written source was known i j statement tokens
     (spells.each_block span one two three names in_word inner block) t =
-    each_written source was three names (known.rows _ _ _ _ inner)
+    each_written source was three names (known.rows _ _ _ _ (behind_old in_word refl) inner)
 fronts_written source was known i j statement tokens
     (spells.media_block {list = list} span text_span old queries block) t =
     let seamless = is_seamless (record { parts = Mixed list; span = text_span }) in

@@ -51,6 +51,7 @@ use Rattle.sw_convert_statements.specs.OneName.{begins_dashed}
 use Rattle.sw_convert_statements.specs.Names.{NamedAs, is_free_word, is_property, is_custom, names_rule, is_at_rule}
 use Rattle.sw_convert_statements.proofs.Dashes.{first_dashed}
 use Rattle.sw_convert_statements.proofs.Segments.{sheet}
+use Rattle.sw_convert_values.proofs.Starts.{is_clear, behind_old}
 
 abbrev pub AsProperty : List Written → Type 0
 AsProperty passed = PropertyHead (passed ++ colon ∷ [])
@@ -62,20 +63,24 @@ AsCustom passed = CustomHead (passed ++ colon ∷ [])
 
 module _ {source : Source} (values : ValuesAreKnown source) where
   row_values : {part opening : Terminal} {extra i j count : ℕ} {inserts : List Part} {tokens : List Tok}
-      → (row : SpellsRow source part opening extra i j inserts count tokens) → RowHasValues row
-  row_values spells.row_end = tt
-  row_values (spells.row_part old row) = row_values row
-  row_values (spells.row_insert opens inner close row) = (values.rows _ _ _ _ inner, row_values row)
+      → is_clear (just opening) ≡ true → (row : SpellsRow source part opening extra i j inserts count tokens)
+      → RowHasValues row
+  row_values c spells.row_end = tt
+  row_values c (spells.row_part old row) = row_values c row
+  row_values c (spells.row_insert opens inner close row) =
+      (values.rows _ _ _ _ (behind_old opens c) inner, row_values c row)
 
   word_values : {i j : ℕ} {parts : Parts} {tokens : List Tok} → (word : SpellsWord source i j parts tokens)
       → WordHasValues word
-  word_values (spells.named old row) = row_values row
-  word_values (spells.begun opens inner close row) = (values.rows _ _ _ _ inner, row_values row)
-  word_values (spells.begun_minus minus opens inner close row) = (values.rows _ _ _ _ inner, row_values row)
+  word_values (spells.named old row) = row_values refl row
+  word_values (spells.begun opens inner close row) =
+      (values.rows _ _ _ _ (behind_old opens refl) inner, row_values refl row)
+  word_values (spells.begun_minus minus opens inner close row) =
+      (values.rows _ _ _ _ (behind_old opens refl) inner, row_values refl row)
 
   name_values : {first : Terminal} {i j : ℕ} {parts : Parts} {tokens : List Tok}
       → (name : SpellsName source first i j parts tokens) → NameHasValues name
-  name_values (name_row old row) = row_values row
+  name_values (name_row old row) = row_values refl row
 
 -- a `:` stands behind a name
 pub before_colon : (name : List ℕ) → Follows name (codes ":")

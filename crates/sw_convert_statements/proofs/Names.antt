@@ -33,6 +33,7 @@ use Rattle.sw_convert_statements.proofs.Loose.{text_of_raw}
 use Rattle.sw_convert_statements.proofs.Segments.{sheet, join, as_text, as_toks, as_passed, as_behind, text_follows, value_pads, padded}
 use Rattle.sw_convert_statements.proofs.Texts.{begins_spaced, text_end}
 use Rattle.sw_convert_statements.proofs.Variables.{colon_segment}
+use Rattle.sw_convert_values.proofs.Starts.{behind_old}
 
 colon_ends : Ends (sign ":")
 colon_ends = record { slash = refl; digit = refl }
@@ -157,7 +158,7 @@ rule_written {name = name} {ks = ks} is known (some_raw {i} {j} {values} {tokens
 pub named_fronts_written : NamedFrontsAreWritten
 named_fronts_written source was values raws customs selectors i j statement tokens
     (spells.declaration_line span text_span word mark inner end) t =
-    property_written (properties_written source was values word t) (values.rows _ _ _ _ inner)
+    property_written (properties_written source was values word t) (values.rows _ _ _ _ (behind_old mark refl) inner)
 named_fronts_written source was values raws customs selectors i j statement tokens
     (spells.custom_line span text_span name mark inner end) t =
     custom_written (customs_written source was values name t) customs inner
@@ -172,7 +173,7 @@ named_fronts_written source was values raws customs selectors i j statement toke
     lone_property (properties_written source was values word t)
 named_fronts_written source was values raws customs selectors i j statement tokens
     (spells.properties_value_block span text_span word mark inner block) t =
-    property_written (properties_written source was values word t) (values.rows _ _ _ _ inner)
+    property_written (properties_written source was values word t) (values.rows _ _ _ _ (behind_old mark refl) inner)
 named_fronts_written source was values raws customs selectors i j statement tokens (spells.rule_block span raw block) t =
     selectors _ _ _ _ _ raw
 named_fronts_written source was values raws customs selectors i j statement tokens _ t = absurd (cc)

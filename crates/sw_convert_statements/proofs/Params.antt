@@ -31,6 +31,7 @@ use Rattle.sw_convert_tokens.proofs.Signs.{Anything, lone_segment, sign_segment,
 use Rattle.sw_convert_tokens.proofs.Unclosed.{space_ends, follows_end}
 use Rattle.sw_convert_tokens.proofs.Variables.{Begins, variable_name, variable_segment}
 use Rattle.sw_convert_heads_passing.specs.Members as told
+use Rattle.sw_convert_values.proofs.Starts.{behind_old}
 use Rattle.sw_convert_statements.specs.Fronts.{ValuesAreKnown}
 use Rattle.sw_convert_statements.proofs.Variables.{colon_segment}
 
@@ -162,7 +163,7 @@ module _ (source : Source) (was : WasRead source) (values : ValuesAreKnown sourc
   one_more (plain_param {i} one two) all =
       record { params = more_are (plain_written source was (suc i) two) all.params; rest = all.rest }
   one_more (default_param {i} one two three value) all =
-      let (signed, it) = values.plains _ _ _ _ value in
+      let (signed, it) = values.plains _ _ _ _ (behind_old three refl) value in
       record { params = more_are (default_written source was (suc i) two it) all.params; rest = all.rest }
   one_more (rest_param {i} one two three) all =
       record { params = all.params; rest = rest_written source was (suc i) two }

@@ -6,7 +6,7 @@ use Rattle.sw_parse_lexemes.specs.declared.state.Mode.TheVariants as modes
 use Rattle.sw_parse_table.specs.declared.source.Source.{Source}
 use Rattle.sw_convert_passing.proofs.Facts.{and_left, and_right}
 use Rattle.sw_convert_again.specs.Tokens.{Tok}
-use Rattle.sw_convert_again.specs.Statements.{SpellsStatement, SpellsBlock, SpellsBranches, SpellsElse, SpellsStatements}
+use Rattle.sw_convert_again.specs.Statements.{SpellsStatement, SpellsBlock, SpellsBranches, SpellsElse, SpellsStatements, OldElseIf, one_word, two_words}
 use Rattle.sw_convert_again.specs.Statements as spells
 use Rattle.sw_convert_tokens.specs.Values.{WasRead}
 use Rattle.sw_convert_values.proofs.Values.{values_written, plains_written}
@@ -21,6 +21,12 @@ use Rattle.sw_convert_statements.proofs.Fronts.{fronts_written, branches_written
 use Rattle.sw_convert_statements.specs.Names.{SelectorsAreKnown, has_name}
 use Rattle.sw_convert_statements.proofs.Names.{named_fronts_written}
 use Rattle.sw_convert_statements.proofs.Texts.{text_fronts_written}
+use Rattle.sw_convert_values.specs.Values.{is_led}
+use Rattle.sw_convert_values.proofs.Starts.{behind_old}
+
+behind_else : {source : Source} {i k : ℕ} → OldElseIf source i k → is_led source k ≡ false
+behind_else (one_word old) = behind_old old refl
+behind_else (two_words one two) = behind_old two refl
 
 module _ (source : Source) (was : WasRead source) (values : ValuesAreKnown source) (raws : TextsAreKnown modes.Raw source)
     (customs : TextsAreKnown modes.Custom source) (selectors : SelectorsAreKnown source) where
@@ -126,7 +132,7 @@ module _ (source : Source) (was : WasRead source) (values : ValuesAreKnown sourc
         → BranchesHaveFronts further
     branch_fronts spells.no_branches k = tt
     branch_fronts (spells.more_branches old inner block more) k = (
-      branches_written _ _ (values.rows _ _ _ _ inner),
+      branches_written _ _ (values.rows _ _ _ _ (behind_else old) inner),
       block_fronts block (and_left (block_known block) _ k),
       branch_fronts more (and_right (block_known block) _ k),
     )

@@ -34,13 +34,15 @@ use Rattle.sw_convert_statements.specs.Segments.{ElseWritten}
 use Rattle.sw_convert_statements.specs.Statements.{FrontIs}
 use Rattle.sw_convert_statements.specs.Media.{are_queries, is_seamless}
 use Rattle.sw_convert_statements.specs.OneName.{is_one_name, goes_behind_dot, is_owner}
+use Rattle.sw_convert_values.specs.Values.{is_led}
 
 -- what is written of each value of a sheet is its tokens, and of one that is no list with commas and without brackets
 -- those of one value
 pub record ValuesAreKnown (source : Source) : Type 0 where
-  pub rows : (i j : ℕ) (value : Expr) (tokens : List Tok) → Spells source i j value tokens
+  pub rows : (i j : ℕ) (value : Expr) (tokens : List Tok) → is_led source i ≡ false → Spells source i j value tokens
       → WrittenAs AsRow (expr_text value) tokens
-  pub plains : (i j : ℕ) (value : Expr) (tokens : List Tok) → SpellsPlain source i j value tokens
+  pub plains : (i j : ℕ) (value : Expr) (tokens : List Tok) → is_led source i ≡ false
+      → SpellsPlain source i j value tokens
       → (signed : Bool) × WrittenAs (AsValue signed) (expr_text value) tokens
 
 -- the name of a mixin is one, and makes no number of a `.` before it

@@ -82,12 +82,12 @@ in_ending k (x ∷ xs) a m =
 -- ---- the last token of a value
 
 -- the token before a place ends an operand
-record Ended (source : Source) (place : ℕ) : Type 0 where
-  lexeme : Lexeme
-  at : ℕ
-  is : place ≡ suc at
-  there : lexeme_at source at ≡ Some lexeme
-  ends : ends_operand lexeme.terminal ≡ true
+pub record Ended (source : Source) (place : ℕ) : Type 0 where
+  pub lexeme : Lexeme
+  pub at : ℕ
+  pub is : place ≡ suc at
+  pub there : lexeme_at source at ≡ Some lexeme
+  pub ends : ends_operand lexeme.terminal ≡ true
 
 module _ (source : Source) where
   ended : {set : List ℕ} (at : ℕ) → all_end set ≡ true → Old source at set → Ended source (suc at)
@@ -150,7 +150,7 @@ module _ (source : Source) where
     value_ends (spells.in_parens_some {k = k} span opens inner close) b = ended k refl close
     value_ends (spells.map {close = close} span opens one colon two more end last) b = ended close refl last
 
-    plain_ends : {i j : ℕ} {value : Expr} {tokens : List Tok} → SpellsPlain source i j value tokens → Ended source j
+    pub plain_ends : {i j : ℕ} {value : Expr} {tokens : List Tok} → SpellsPlain source i j value tokens → Ended source j
     plain_ends (unlisted b spelt) = value_ends spelt b
 
     links_end : {i j : ℕ} {links : List Link} {tokens : List Tok} → Ended source i → SpellsLinks source i j links tokens

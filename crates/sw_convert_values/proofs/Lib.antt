@@ -3,6 +3,7 @@ mod Shapes
 mod Firsts
 mod UrlNames
 mod UrlCalls
+pub mod Starts
 mod Called
 mod Single
 mod Strings

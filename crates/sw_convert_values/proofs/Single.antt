@@ -23,7 +23,7 @@ use Rattle.sw_convert_again.specs.Spells.{from_start, Spells, SpellsWord}
 use Rattle.sw_convert_again.specs.Spells as spells
 use Rattle.sw_convert_tokens.specs.Written.{AsValue, AsRow, WrittenAs}
 use Rattle.sw_convert_tokens.specs.Values.{WasRead, IsValueWritten}
-use Rattle.sw_convert_values.specs.Values.{is_single_word, is_single, SinglesAreWritten}
+use Rattle.sw_convert_values.specs.Values.{is_led, is_single_word, is_single, SinglesAreWritten}
 use Rattle.sw_convert_spelling.proofs.Choices.{by_test}
 use Rattle.sw_convert_texts.specs.Inserted.{WordHasValues}
 use Rattle.sw_convert_texts.specs.Names.{is_mixed, word_plain}
@@ -65,25 +65,25 @@ plain_in value bare (inr (e, it)) = absurd (cc)
 -- ---- what is asked for, and words
 
 module _ (source : Source) (was : WasRead source) (known : SinglesAreWritten source) where
-  pub single : {i j : ℕ} {value : Expr} {tokens : List Tok} → (spelt : Spells source i j value tokens)
-      → is_single spelt ≡ true → IsValueWritten source i (expr_text value) tokens
-  single {i} {j} {value} {tokens} spelt e = unsigned (known i j value tokens spelt e)
+  pub single : {i j : ℕ} {value : Expr} {tokens : List Tok} → is_led source i ≡ false
+      → (spelt : Spells source i j value tokens) → is_single spelt ≡ true → IsValueWritten source i (expr_text value) tokens
+  single {i} {j} {value} {tokens} led spelt e = unsigned (known i j value tokens spelt led e)
 
   -- a name by itself that is no constant and no operator
-  pub name_in : {i : ℕ} → (span : Span) (old : Old source i (just terminals.Word))
+  pub name_in : {i : ℕ} → is_led source i ≡ false → (span : Span) (old : Old source i (just terminals.Word))
       → IsValueWritten source i (expr_text (expression (exprs.Word (parts_between source i (suc i) [])) span))
       (tok terminals.Word (from_start source i [] 1) ∷ [])
-  name_in {i} span old =
+  name_in {i} led span old =
       by_test (IsValueWritten source _ _ _) (is_reserved (word_sort (bytes_at source i)))
-      (λ e. single (spells.word span (spells.named old spells.row_end)) e)
+      (λ e. single led (spells.word span (spells.named old spells.row_end)) e)
       (λ e. unsigned (words_written source i span was old e))
 
   -- a word with `#{}`
-  pub mixed_in : {i j : ℕ} {parts : Parts} {tokens : List Tok} → (span : Span)
+  pub mixed_in : {i j : ℕ} {parts : Parts} {tokens : List Tok} → is_led source i ≡ false → (span : Span)
       (word : SpellsWord source i j parts tokens)
       → is_mixed word ≡ true → is_single_word source word ≡ not (word_plain source word) → WordHasValues word
       → IsValueWritten source i (expr_text (expression (exprs.Word parts) span)) tokens
-  mixed_in {i} {j} {parts} {tokens} span word mixed same_test values =
+  mixed_in {i} {j} {parts} {tokens} led span word mixed same_test values =
       by_test (IsValueWritten source _ _ _) (word_plain source word)
       (λ e. unsigned (same (sym (unrolled.word_is parts)) refl
       (λ before spaced calm.
@@ -92,4 +92,4 @@ module _ (source : Source) (was : WasRead source) (known : SinglesAreWritten sou
         segment = it.segment;
         told = λ mode free. passing.word (it.told mode false false);
       })))
-      (λ e. single (spells.word span word) (same_test ∙ ap not e))
+      (λ e. single led (spells.word span word) (same_test ∙ ap not e))

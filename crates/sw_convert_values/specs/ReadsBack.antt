@@ -1,5 +1,5 @@
 -- The text that is written of an expression that was read reads to an expression alike.
-use Rattle.std.specs.Prelude.{◌≡◌, ℕ, List, [], ◌∷◌, length, Ok}
+use Rattle.std.specs.Prelude.{◌≡◌, ℕ, List, [], ◌∷◌, length, false, Ok}
 use Rattle.sw_text.specs.Places.{mark_length}
 use Rattle.sw_tree.specs.declared.expr.Expr.{Expr}
 use Rattle.sw_tokens.specs.Ends.{tokens_of}
@@ -13,7 +13,7 @@ use Rattle.sw_convert_alike.specs.Expressions.{Like}
 use Rattle.sw_convert_written.specs.Expressions.{expr_text}
 use Rattle.sw_convert_again.specs.Again.{Reads}
 use Rattle.sw_convert_tokens.specs.Values.{WasRead}
-use Rattle.sw_convert_values.specs.Values.{SinglesAreWritten}
+use Rattle.sw_convert_values.specs.Values.{is_led, SinglesAreWritten}
 
 -- what is read of a text as an expression: its tokens, and what the grammar sees of them
 pub record IsText (source : Source) (text : List ℕ) : Type 0 where
@@ -31,5 +31,5 @@ pub record ReadsAlike (source : Source) (levels : ℕ) (value : Expr) : Type 0 w
 abbrev pub ExpressionsReadBack : Type 0
 ExpressionsReadBack =
     (source written : Source) (levels i j : ℕ) (value : Expr) → WasRead source → SinglesAreWritten source
-    → Reads source levels (expr source) i j (Values value ∷ []) → IsText written (expr_text value)
+    → is_led source i ≡ false → Reads source levels (expr source) i j (Values value ∷ []) → IsText written (expr_text value)
     → ReadsAlike written levels value

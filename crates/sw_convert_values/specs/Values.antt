@@ -1,14 +1,17 @@
 -- What is written of each value that was read is its tokens, where that of some kinds in it is.
-use Rattle.std.specs.Prelude.{◌≡◌, ◌==◌, ℕ, Bool, true, false, if◌then◌else◌, not, ◌&&◌, ◌||◌, List, [], ◌∷◌}
+use Rattle.std.specs.Prelude.{◌≡◌, ◌==◌, ℕ, zero, suc, Bool, true, false, if◌then◌else◌, not, ◌&&◌, ◌||◌, List, [], ◌∷◌, Option, Some, None}
 use Rattle.sw_text_scan.specs.Bytes.{sign}
 use Rattle.sw_tree.specs.declared.expr.Argument.{Argument}
 use Rattle.sw_tree.specs.declared.expr.Expr.{Expr}
 use Rattle.sw_tree.specs.declared.text.Parts.{Parts}
 use Rattle.sw_tree.specs.declared.text.Piece.{Piece}
+use Rattle.sw_parse_terminals.specs.declared.terminal.Terminal.{Terminal}
+use Rattle.sw_parse_terminals.specs.declared.terminal.Terminal.TheVariants as terminals
+use Rattle.sw_parse_terminals.specs.declared.lexeme.Lexeme.{Lexeme}
 use Rattle.sw_parse_lexemes.specs.Classes.{is_reserved}
 use Rattle.sw_parse_lexemes.specs.Words.{word_sort}
 use Rattle.sw_parse_table.specs.declared.source.Source.{Source}
-use Rattle.sw_parse_table.specs.Sources.{bytes_at, decoded_at}
+use Rattle.sw_parse_table.specs.Sources.{lexeme_at, bytes_at, decoded_at}
 use Rattle.sw_convert_written.specs.Expressions.{is_url, ends_in_url, expr_text}
 use Rattle.sw_convert_again.specs.Tokens.{Tok}
 use Rattle.sw_convert_again.specs.Spells.{Spells, SpellsPlain, SpellsWord, SpellsArgument, SpellsMore, SpellsArguments, SpellsPieces, is_named}
@@ -18,6 +21,26 @@ use Rattle.sw_convert_tokens.specs.Values.{WasRead}
 use Rattle.sw_convert_tokens.specs.Calls.{is_free_name}
 use Rattle.sw_convert_texts.specs.Names.{joined, is_mixed, word_plain}
 use Rattle.sw_convert_texts.specs.Urls.{is_unbroken}
+
+-- ---- where a value stands
+
+-- the `.` of a namespace, and a `!`: what stands behind them is no value by itself
+abbrev pub leads : Terminal → Bool
+leads terminals.OwnerDot = true
+leads terminals.Bang = true
+leads terminals.Ending = true
+leads _ = false
+
+abbrev pub leads_in : Option Lexeme → Bool
+leads_in None = false
+leads_in (Some lexeme) = leads lexeme.terminal
+
+-- such a token stands before a place
+abbrev pub is_led : Source → ℕ → Bool
+is_led source zero = false
+is_led source (suc at) = leads_in (lexeme_at source at)
+
+-- ---- single values
 
 -- words by whose names a constant or an operator is meant elsewhere, and those with `#{}` in which a number isn't plain
 abbrev pub is_single_word : (source : Source) {i j : ℕ} {parts : Parts} {tokens : List Tok}
@@ -86,20 +109,21 @@ is_single {source = source} (spells.owned_call span name_span owner dot name ope
     not (is_called source true name)
 is_single _ = false
 
--- what is written of each of these that stood in a sheet is its tokens
+-- what is written of each of these that stood in a sheet, whole, is its tokens
 abbrev pub SinglesAreWritten : Source → Type 0
 SinglesAreWritten source =
-    (i j : ℕ) (value : Expr) (tokens : List Tok) (spelt : Spells source i j value tokens) → is_single spelt ≡ true
-    → WrittenAs (AsValue false) (expr_text value) tokens
+    (i j : ℕ) (value : Expr) (tokens : List Tok) (spelt : Spells source i j value tokens) → is_led source i ≡ false
+    → is_single spelt ≡ true → WrittenAs (AsValue false) (expr_text value) tokens
 
 -- what is written of any value is its tokens
 abbrev pub ValuesAreWritten : Type 0
 ValuesAreWritten =
     (source : Source) → WasRead source → SinglesAreWritten source → (i j : ℕ) (value : Expr) (tokens : List Tok)
-    → Spells source i j value tokens → WrittenAs AsRow (expr_text value) tokens
+    → is_led source i ≡ false → Spells source i j value tokens → WrittenAs AsRow (expr_text value) tokens
 
 -- of one that is no list with commas and without brackets, as those of one value
 abbrev pub PlainsAreWritten : Type 0
 PlainsAreWritten =
     (source : Source) → WasRead source → SinglesAreWritten source → (i j : ℕ) (value : Expr) (tokens : List Tok)
-    → SpellsPlain source i j value tokens → (signed : Bool) × WrittenAs (AsValue signed) (expr_text value) tokens
+    → is_led source i ≡ false → SpellsPlain source i j value tokens
+    → (signed : Bool) × WrittenAs (AsValue signed) (expr_text value) tokens
