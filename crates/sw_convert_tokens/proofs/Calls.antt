@@ -2,7 +2,7 @@
 use Rattle.std.proofs.Common.{◌≡◌, ℕ, suc, Bool, true, false, not, ◌&&◌, ◌||◌, List, [], ◌∷◌, ◌++◌, length, map, Option, if◌then◌else◌, refl, sym, ◌∙◌, ap, subst, append_assoc, lit<}
 use Rattle.std.specs.Prelude.{◌==◌, codes}
 use Rattle.sw_text_scan.specs.Bytes.{sign, byte, is_digit}
-use Rattle.sw_text_scan.proofs.Bounds.{and_left, and_right, not_true}
+use Rattle.sw_text_scan.proofs.Bounds.{and_left, and_right}
 use Rattle.sw_text_locality.proofs.Written.{byte_before}
 use Rattle.sw_tokens.specs.declared.pieces.Before.{Before}
 use Rattle.sw_tokens.specs.declared.pieces.Before.TheVariants as befores
@@ -42,13 +42,13 @@ use Rattle.sw_convert_again.proofs.Tokens.{one_byte}
 use Rattle.sw_convert_tokens.specs.Joints.{Segment}
 use Rattle.sw_convert_tokens.specs.Written.{is_calm, gap_of, is_bounded, AsValue, WrittenAs}
 use Rattle.sw_convert_tokens.specs.Values.{WasRead}
-use Rattle.sw_convert_tokens.specs.Calls.{is_free_name}
+use Rattle.sw_convert_tokens.specs.Calls.{is_unspecial}
 use Rattle.sw_convert_tokens.proofs.Joins.{join, as_text, as_behind}
 use Rattle.sw_convert_tokens.proofs.Signs.{Anything, Fits, lone_segment, sign_segment, sign_token}
 use Rattle.sw_convert_tokens.proofs.Stops.{Behind, paren_behind, nothing_parts}
 use Rattle.sw_convert_tokens.proofs.NamePieces.{name_in}
 use Rattle.sw_convert_tokens.proofs.Names.{Start, name_start}
-use Rattle.sw_convert_tokens.proofs.Olds.{old_token}
+use Rattle.sw_convert_tokens.proofs.Olds.{OldToken, old_token}
 use Rattle.sw_convert_tokens.proofs.OriginChoices.{fits}
 use Rattle.sw_convert_tokens.proofs.Words.{kind_of_name, name_opens, parts_are, unbounded, only_word, said_is, copied_behind, copied_name, copied_bytes}
 use Rattle.sw_convert_tokens.proofs.Arguments.{IsItems}
@@ -137,34 +137,19 @@ owned_call_written source i was owner {text} {args} {tokens} name dotted args_wr
 
 -- ---- names that were read
 
--- no sort of such a name has a meaning of its own
-free_sort : (owned : Bool) (kind : TokenKind) (text : List ℕ) → names.is_name kind ≡ true → is_free_name owned text ≡ true
-    → (is_reserved (sort_of kind text) ≡ false) × ((owned || not (is_special_name (sort_of kind text))) ≡ true)
-free_sort owned kinds.Word text n free = (
-  not_true (is_reserved (word_sort text)) (and_left (not (is_reserved (word_sort text))) _ free),
-  first owned (and_right (not (is_reserved (word_sort text))) _ free),
-)
+-- the sort of such a name is that of no special function
+special_sort : (owned : Bool) (kind : TokenKind) (text : List ℕ) → names.is_name kind ≡ true
+    → is_unspecial owned text ≡ true → (owned || not (is_special_name (sort_of kind text))) ≡ true
+special_sort true kind text n free = refl
+special_sort false kinds.Word text n free = and_left (not (is_special_name (word_sort text))) _ free
+special_sort false kinds.Name text n free =
+    go (is_prefixed_calc text) (and_right (not (is_special_name (word_sort text))) _ free)
   where
-    first : (t : Bool) → (t || (not (is_special_name (word_sort text)) && not (is_prefixed_calc text))) ≡ true
-        → (t || not (is_special_name (word_sort text))) ≡ true
-    first true e = refl
-    first false e = and_left (not (is_special_name (word_sort text))) _ e
-free_sort owned kinds.Name text n free =
-    go owned (is_prefixed_calc text) (and_right (not (is_reserved (word_sort text))) _ free)
-  where
-    go : (t u : Bool) → (t || (not (is_special_name (word_sort text)) && not u)) ≡ true
-        → (is_reserved (if u then sorts.Special else sorts.Name) ≡ false)
-        × ((t || not (is_special_name (if u then sorts.Special else sorts.Name))) ≡ true)
-    go true true e = (refl, refl)
-    go true false e = (refl, refl)
-    go false true e = absurd (let wrong : false ≡ true = and_right (not (is_special_name (word_sort text))) false e in cc)
-    go false false e = (refl, refl)
-free_sort owned kinds.DashedName text n free = (refl, either owned)
-  where
-    either : (t : Bool) → (t || true) ≡ true
-    either true = refl
-    either false = refl
-free_sort owned _ text n free = absurd (cc)
+    go : (t : Bool) → not t ≡ true → not (is_special_name (if t then sorts.Special else sorts.Name)) ≡ true
+    go true e = absurd (cc)
+    go false e = refl
+special_sort false kinds.DashedName text n free = refl
+special_sort false _ text n free = absurd (cc)
 
 -- no name begins with a digit or a `.`
 dot_fits : (bs : List ℕ) → Start (byte bs 0) → Fits kinds.Dot bs
@@ -173,17 +158,18 @@ dot_fits bs start =
     ap (λ (x : Bool). not (x || false) && true)
     (names.neither (is_digit (byte bs 0)) _ start.digit (names.left_no (byte bs 0 == sign ".") _ start.dot))
 
-pub name_called : (source : Source) (i : ℕ) → WasRead source → Old source i (just terminals.Word)
-    → (owned : Bool) → is_free_name owned (bytes_at source i) ≡ true → is_url (bytes_at source i) ≡ false
+-- a name whose sort is neither a constant nor an operator
+pub name_called : (source : Source) (i : ℕ) (old : Old source i (just terminals.Word))
+    (it : OldToken source i old.lexeme) (owned : Bool) → is_reserved (sort_of it.kind it.text) ≡ false
+    → is_unspecial owned (bytes_at source i) ≡ true → is_url (bytes_at source i) ≡ false
     → Callee owned (bytes_at source i) (tok terminals.Word (from_start source i [] 1) ∷ [])
-name_called source i was old owned free no_url before spaced calm =
-    let it = old_token source was i old.lexeme old.there in
+name_called source i old it owned reserved free no_url before spaced calm =
     let sort = sort_of it.kind it.text in
     let n : is_name sort ≡ true =
     ap (λ (t : Terminal). fits t sort) (sym (only_word old.lexeme.terminal old.kind)) ∙ it.fit in
     let k = kind_of_name it.kind it.text n in
     let bytes_are = copied_bytes source i old.lexeme it n in
-    let plain = free_sort owned it.kind it.text k (ap (is_free_name owned) (sym bytes_are) ∙ free) in
+    let unspecial = special_sort owned it.kind it.text k (ap (is_unspecial owned) (sym bytes_are) ∙ free) in
     let url = ap is_url (sym bytes_are) ∙ no_url in record {
       passed = _;
       segment = as_text (ap (λ (t : List ℕ). gap_of spaced ++ t) (sym bytes_are))
@@ -192,9 +178,9 @@ name_called source i was old owned free no_url before spaced calm =
           (λ after b. subst (Behind it.text) (sym b.1) (paren_behind it.text b.0 url))
           (λ new at same. said_is new at ∙ ap (λ (t : List ℕ). record { first = t; rest = [] }) same ∙ sym (said_is source i)));
       told = λ mode b. named sort n
-          (names.both (not (is_reserved sort)) _ (ap not plain.0)
+          (names.both (not (is_reserved sort)) _ (ap not reserved)
           (names.both (not (ends_bound mode sort)) _ (ap not (unbounded mode sort b))
-          plain.1)) no_part;
+          unspecial)) no_part;
     }
 
 pub name_dotted : (source : Source) (i : ℕ) → WasRead source → Old source i (just terminals.Word)

@@ -248,6 +248,7 @@ pub record IsOwn (source : Source) (k : ℕ) (kind : TokenKind) (text : List ℕ
 pub record OldToken (source : Source) (k : ℕ) (lexeme : Lexeme) : Type 0 where
   pub kind : TokenKind
   pub text : List ℕ
+  pub sort : sort_at (plains_of (bytes source) source.tokens.now.list) lexeme.token ≡ sort_of kind text
   pub fit : fits lexeme.terminal (sort_of kind text) ≡ true
   pub own : opens kind ≡ false → IsOwn source k kind text
 
@@ -324,7 +325,7 @@ lexeme_plain source was k lexeme there =
 -- each lexeme of a sheet that was read
 pub old_token : (source : Source) → WasRead source → (k : ℕ) (lexeme : Lexeme) → lexeme_at source k ≡ Some lexeme
     → OldToken source k lexeme
-unfolding from_at to_at
+unfolding from_at to_at sort_at
 old_token source was k lexeme there =
     let bs = bytes source in
     let plains = plains_of bs source.tokens.now.list in
@@ -334,6 +335,7 @@ old_token source was k lexeme there =
     let t = it.token in record {
       kind = t.kind;
       text = slice_range bs t.from t.to;
+      sort = ap sort_in has.got ∙ it.sort;
       fit = ap (fits lexeme.terminal) (sym it.sort) ∙ has.fit;
       own = λ o. record {
         bytes_are =

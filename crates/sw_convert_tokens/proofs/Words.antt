@@ -2,6 +2,7 @@
 use Rattle.std.proofs.Common.{◌≡◌, ℕ, suc, ◌+◌, ◌-◌, Bool, true, false, not, ◌||◌, if◌then◌else◌, List, [], ◌∷◌, ◌++◌, length, Option, Some, refl, sym, ◌∙◌, ap, subst, arith}
 use Rattle.std.specs.Prelude.{◌==◌, slice_range, bytes_eq, codes}
 use Rattle.sw_text_scan.proofs.Bounds.{or_left, or_right}
+use Rattle.sw_text.specs.declared.place.Span.{Span}
 use Rattle.sw_tree.specs.declared.expr.ExprKind.TheVariants as exprs
 use Rattle.sw_tree.specs.declared.text.Parts.{Parts}
 use Rattle.sw_tree.specs.declared.text.Parts.TheVariants as parts
@@ -37,10 +38,10 @@ use Rattle.sw_convert_written.proofs.Unrolled as unrolled
 use Rattle.sw_convert_passing.specs.Kinds.{ends_bound, is_plus_or_minus}
 use Rattle.sw_convert_passing.specs.Written.{written}
 use Rattle.sw_convert_passing.specs.Values.{Value, word, named, no_part}
-use Rattle.sw_convert_again.specs.Tokens.{Said, Says, tok, text_to_end}
+use Rattle.sw_convert_again.specs.Tokens.{Said, Says, tok, Old, text_to_end}
 use Rattle.sw_convert_again.specs.Spells.{from_start}
 use Rattle.sw_convert_tokens.specs.Joints.{Seen, Segment, Sits}
-use Rattle.sw_convert_tokens.specs.Written.{Follows, is_calm, gap_of, is_bounded}
+use Rattle.sw_convert_tokens.specs.Written.{Follows, is_calm, gap_of, is_bounded, AsValue, WrittenAs}
 use Rattle.sw_convert_tokens.specs.Words.{WordsAreWritten}
 use Rattle.sw_convert_tokens.proofs.Joins.{as_text, as_behind}
 use Rattle.sw_convert_tokens.proofs.Signs.{token_segment}
@@ -281,14 +282,16 @@ pub copied_bytes : (source : Source) (i : ℕ) (lexeme : Lexeme) (it : OldToken 
     → is_name (sort_of it.kind it.text) ≡ true → bytes_at source i ≡ it.text
 copied_bytes source i lexeme it n = (it.own (name_opens it.kind (kind_of_name it.kind it.text n))).bytes_are
 
-pub words_written : WordsAreWritten
-words_written source i span was old free before spaced calm =
-    let it = old_token source was i old.lexeme old.there in
+-- a word whose sort is neither a constant nor an operator
+pub word_written : (source : Source) (i : ℕ) (span : Span) (old : Old source i (just terminals.Word))
+    (it : OldToken source i old.lexeme) → is_reserved (sort_of it.kind it.text) ≡ false
+    → WrittenAs (AsValue false) (expr_text (expression (exprs.Word (parts_between source i (suc i) [])) span))
+    (tok terminals.Word (from_start source i [] 1) ∷ [])
+word_written source i span old it reserved before spaced calm =
     let sort = sort_of it.kind it.text in
     let n : is_name sort ≡ true =
     ap (λ (t : Terminal). fits t sort) (sym (only_word old.lexeme.terminal old.kind)) ∙ it.fit in
     let bytes_are = copied_bytes source i old.lexeme it n in
-    let reserved = name_reserved it.kind it.text (kind_of_name it.kind it.text n) (ap (λ (t : List ℕ). is_reserved (word_sort t)) (sym bytes_are) ∙ free) in
     let shown : it.text ≡ expr_text (expression (exprs.Word (parts_between source i (suc i) [])) span) =
     sym bytes_are
     ∙ ap (pieces_text manners.Joined) (sym (unrolled.plain_is (bytes_at source i)))
@@ -302,3 +305,12 @@ words_written source i span was old free before spaced calm =
           (λ new at same. said_is new at ∙ ap (λ (t : List ℕ). record { first = t; rest = [] }) same ∙ sym (said_is source i))));
       told = λ mode b. word_told mode (is_spaced (behind_gap before (gap_of spaced))) sort n reserved b;
     }
+
+pub words_written : WordsAreWritten
+words_written source i span was old free =
+    let it = old_token source was i old.lexeme old.there in
+    let n : is_name (sort_of it.kind it.text) ≡ true =
+    ap (λ (t : Terminal). fits t (sort_of it.kind it.text)) (sym (only_word old.lexeme.terminal old.kind)) ∙ it.fit in
+    word_written source i span old it
+    (name_reserved it.kind it.text (kind_of_name it.kind it.text n)
+    (ap (λ (t : List ℕ). is_reserved (word_sort t)) (sym (copied_bytes source i old.lexeme it n)) ∙ free))

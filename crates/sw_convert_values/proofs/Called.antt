@@ -9,6 +9,8 @@ use Rattle.sw_tree.specs.declared.expr.Argument.{Argument}
 use Rattle.sw_tree.specs.declared.expr.ExprKind.TheVariants as exprs
 use Rattle.sw_parse_terminals.specs.declared.terminal.Terminal.TheVariants as terminals
 use Rattle.sw_parse_terminals.specs.Numbers.{just}
+use Rattle.sw_parse_lexemes.specs.Classes.{is_reserved}
+use Rattle.sw_parse_lexemes.specs.Words.{word_sort}
 use Rattle.sw_parse_table.specs.declared.source.Source.{Source}
 use Rattle.sw_parse_table.specs.Sources.{bytes_at}
 use Rattle.sw_parse_table.specs.Values.{expression, callee_of, namespaced}
@@ -19,8 +21,8 @@ use Rattle.sw_convert_again.specs.Spells.{from_start, is_named, without_named, u
 use Rattle.sw_convert_again.specs.Spells as spells
 use Rattle.sw_convert_tokens.specs.Written.{AsValue, WrittenAs}
 use Rattle.sw_convert_tokens.specs.Values.{WasRead}
-use Rattle.sw_convert_values.specs.Values.{is_called, is_name_called}
-use Rattle.sw_convert_tokens.specs.Calls.{is_free_name}
+use Rattle.sw_convert_values.specs.Values.{is_led, is_called, is_name_called}
+use Rattle.sw_convert_tokens.specs.Calls.{is_unspecial}
 use Rattle.sw_convert_tokens.proofs.Calls.{call_written, owned_call_written, name_called, name_dotted, call_shown, named_call_text}
 use Rattle.sw_convert_tokens.proofs.Arguments.{IsItems, ArgumentsBehind}
 use Rattle.sw_convert_texts.specs.Inserted.{WordHasValues}
@@ -28,6 +30,8 @@ use Rattle.sw_convert_texts.specs.Names.{joined, is_mixed, word_plain}
 use Rattle.sw_convert_texts.proofs.Dotted.{mixed_dotted}
 use Rattle.sw_convert_texts.proofs.WordsWithValues.{called_words_written as mixed_called_written}
 use Rattle.sw_convert_tokens.proofs.Joins.{as_behind}
+use Rattle.sw_convert_tokens.proofs.Olds.{old_token}
+use Rattle.sw_convert_values.proofs.Reserved.{called_unreserved, free_sort}
 use Rattle.sw_convert_values.proofs.Shapes.{same, no_url_at, opens_paren}
 
 -- ---- arguments
@@ -46,17 +50,21 @@ named_text name value =
 module _ (source : Source) (was : WasRead source) where
   -- calls by one name, and by a word with `#{}`
   one_called : {i k : ℕ} {parts : Parts} {tokens others : List Tok} (args : List Argument) (span name_span : Span)
+      → is_led source i ≡ false → Old source k (just terminals.CallParen)
       → (name : SpellsWord source i k parts tokens) → is_name_called source false name ≡ true
       → IsItems (with_commas true (map argument_text args)) others
       → WrittenAs (AsValue false)
       (expr_text (expression (exprs.Call (callee_of None (record { parts = parts; span = name_span })) args) span))
       (tokens ++ call_tokens others)
-  one_called args span name_span (spells.named {i} old spells.row_end) e it =
-      let url = not_true (ends_in_url (bytes_at source i)) (and_right (is_free_name false (bytes_at source i)) _ e) in
+  one_called args span name_span led opens (spells.named {i} old spells.row_end) e it =
+      let name = bytes_at source i in
+      let url = not_true (ends_in_url name) (and_right (is_unspecial false name) _ e) in
+      let token = old_token source was i old.lexeme old.there in
       same (sym (named_call_text source i None args span name_span url)) refl
       (call_written
-      (name_called source i was old false (and_left (is_free_name false (bytes_at source i)) _ e) (no_url_at (bytes_at source i) url)) it)
-  one_called args span name_span _ e it = absurd (cc)
+      (name_called source i old token false (called_unreserved source was i led old token opens)
+      (and_left (is_unspecial false name) _ e) (no_url_at name url)) it)
+  one_called args span name_span led opens _ e it = absurd (cc)
 
   mixed_called : {i k : ℕ} {parts : Parts} {tokens others : List Tok} (args : List Argument) (span name_span : Span)
       → (name : SpellsWord source i k parts tokens) → is_mixed name ≡ true → word_plain source name ≡ true
@@ -76,12 +84,13 @@ module _ (source : Source) (was : WasRead source) where
       }) it)
 
   pub called_in : {i k : ℕ} {parts : Parts} {tokens others : List Tok} (args : List Argument) (span name_span : Span)
+      → is_led source i ≡ false → Old source k (just terminals.CallParen)
       → (name : SpellsWord source i k parts tokens) → is_called source false name ≡ true → WordHasValues name
       → IsItems (with_commas true (map argument_text args)) others
       → WrittenAs (AsValue false)
       (expr_text (expression (exprs.Call (callee_of None (record { parts = parts; span = name_span })) args) span))
       (tokens ++ call_tokens others)
-  called_in {parts = parts} {tokens = tokens} {others = others} args span name_span name e values it = go (is_mixed name) refl e
+  called_in {parts = parts} {tokens = tokens} {others = others} args span name_span led opens name e values it = go (is_mixed name) refl e
     where
       go : (t : Bool) → is_mixed name ≡ t
           → (if t then word_plain source name && not (ends_in_url (joined parts)) else is_name_called source false name) ≡ true
@@ -91,7 +100,7 @@ module _ (source : Source) (was : WasRead source) where
       go true mixed f =
           mixed_called args span name_span name mixed (and_left (word_plain source name) _ f)
           (not_true (ends_in_url (joined parts)) (and_right (word_plain source name) _ f)) values it
-      go false mixed f = one_called args span name_span name f it
+      go false mixed f = one_called args span name_span led opens name f it
 
   -- the same behind a namespace
   one_owned : {i k : ℕ} {parts : Parts} {tokens others : List Tok} (args : List Argument) (span name_span : Span)
@@ -105,10 +114,14 @@ module _ (source : Source) (was : WasRead source) where
       (tok terminals.Owner (again.Bytes 1 (bytes_at source at)) ∷ again.sign terminals.OwnerDot
       ∷ (tokens ++ call_tokens others))
   one_owned args span name_span {at} owner (spells.named {i} old spells.row_end) e it =
-      let url = not_true (ends_in_url (bytes_at source i)) (and_right (is_free_name true (bytes_at source i)) _ e) in
+      let name = bytes_at source i in
+      let url = not_true (ends_in_url name) (and_right (not (is_reserved (word_sort name))) _ e) in
+      let token = old_token source was i old.lexeme old.there in
+      let free = not_true (is_reserved (word_sort name)) (and_left (not (is_reserved (word_sort name))) _ e) in
       same (sym (named_call_text source i (Some (namespaced source at)) args span name_span url)) refl
       (owned_call_written source at was owner
-      (name_called source i was old true (and_left (is_free_name true (bytes_at source i)) _ e) (no_url_at (bytes_at source i) url)) (name_dotted source i was old) it)
+      (name_called source i old token true (free_sort source i old token free) refl (no_url_at name url))
+      (name_dotted source i was old) it)
   one_owned args span name_span owner _ e it = absurd (cc)
 
   mixed_owned : {i k : ℕ} {parts : Parts} {tokens others : List Tok} (args : List Argument) (span name_span : Span)

@@ -4,6 +4,8 @@ mod Firsts
 mod UrlNames
 mod UrlCalls
 pub mod Starts
+mod ReservedWords
+mod Reserved
 mod Called
 mod Single
 mod Strings

@@ -7,6 +7,7 @@ use Rattle.sw_tree.specs.declared.expr.ExprKind.TheVariants as exprs
 use Rattle.sw_parse_terminals.specs.declared.terminal.Terminal.TheVariants as terminals
 use Rattle.sw_parse_terminals.specs.Numbers.{just}
 use Rattle.sw_parse_lexemes.specs.Classes.{is_reserved}
+use Rattle.sw_parse_lexemes.specs.Sorts.{sort_of}
 use Rattle.sw_parse_lexemes.specs.Words.{word_sort}
 use Rattle.sw_parse_table.specs.declared.source.Source.{Source}
 use Rattle.sw_parse_table.specs.Operators.{constant_of, constant_in, constant_at}
@@ -24,12 +25,14 @@ use Rattle.sw_convert_again.specs.Spells as spells
 use Rattle.sw_convert_tokens.specs.Written.{AsValue, AsRow, WrittenAs}
 use Rattle.sw_convert_tokens.specs.Values.{WasRead, IsValueWritten}
 use Rattle.sw_convert_values.specs.Values.{is_led, is_single_word, is_single, SinglesAreWritten}
-use Rattle.sw_convert_spelling.proofs.Choices.{by_test}
+use Rattle.sw_convert_spelling.proofs.Choices.{by_test, both}
 use Rattle.sw_convert_texts.specs.Inserted.{WordHasValues}
 use Rattle.sw_convert_texts.specs.Names.{is_mixed, word_plain}
 use Rattle.sw_convert_texts.proofs.WordsWithValues.{words_written as mixed_words_written}
 use Rattle.sw_convert_tokens.proofs.Rows.{row_of}
-use Rattle.sw_convert_tokens.proofs.Words.{words_written}
+use Rattle.sw_convert_tokens.proofs.Words.{word_written}
+use Rattle.sw_convert_tokens.proofs.Olds.{old_token}
+use Rattle.sw_convert_values.proofs.Reserved.{reserved_goes_on, reserved_bytes}
 use Rattle.sw_convert_values.proofs.Shapes.{same}
 
 pub unsigned : {source : Source} {i : ℕ} {text : List ℕ} {tokens : List Tok} → WrittenAs (AsValue false) text tokens
@@ -69,14 +72,17 @@ module _ (source : Source) (was : WasRead source) (known : SinglesAreWritten sou
       → (spelt : Spells source i j value tokens) → is_single spelt ≡ true → IsValueWritten source i (expr_text value) tokens
   single {i} {j} {value} {tokens} led spelt e = unsigned (known i j value tokens spelt led e)
 
-  -- a name by itself that is no constant and no operator
+  -- a name by itself
   pub name_in : {i : ℕ} → is_led source i ≡ false → (span : Span) (old : Old source i (just terminals.Word))
       → IsValueWritten source i (expr_text (expression (exprs.Word (parts_between source i (suc i) [])) span))
       (tok terminals.Word (from_start source i [] 1) ∷ [])
   name_in {i} led span old =
-      by_test (IsValueWritten source _ _ _) (is_reserved (word_sort (bytes_at source i)))
-      (λ e. single led (spells.word span (spells.named old spells.row_end)) e)
-      (λ e. unsigned (words_written source i span was old e))
+      let it = old_token source was i old.lexeme old.there in
+      by_test (IsValueWritten source _ _ _) (is_reserved (sort_of it.kind it.text))
+      (λ e. single led (spells.word span (spells.named old spells.row_end))
+      (both (is_reserved (word_sort (bytes_at source i))) _ (reserved_bytes source i old it e)
+      (reserved_goes_on source was i led old it e)))
+      (λ e. unsigned (word_written source i span old it e))
 
   -- a word with `#{}`
   pub mixed_in : {i j : ℕ} {parts : Parts} {tokens : List Tok} → is_led source i ≡ false → (span : Span)

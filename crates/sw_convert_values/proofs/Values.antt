@@ -134,7 +134,7 @@ module _ (source : Source) (was : WasRead source) (known : SinglesAreWritten sou
         (row_in value (either (behind_old opens refl) inner), row_values refl more))
     either led (spells.call {args = args} span name_span name opens inner close) =
         inl (by_test (IsWritten _ _ _) (is_called source false name)
-        (λ e. unsigned (called_in source was args span name_span name e (word_values name) (arguments_in (behind_old opens refl) inner)))
+        (λ e. unsigned (called_in source was args span name_span led opens name e (word_values name) (arguments_in (behind_old opens refl) inner)))
         (λ e. by_test (IsWritten _ _ _) (is_url_called source args name)
         (λ f. unsigned (url_called_in source args span name_span name f
         (url_arguments_in (behind_old opens refl) inner (has_by source args name f))))

@@ -18,7 +18,7 @@ use Rattle.sw_convert_again.specs.Spells.{Spells, SpellsPlain, SpellsWord, Spell
 use Rattle.sw_convert_again.specs.Spells as spells
 use Rattle.sw_convert_tokens.specs.Written.{AsValue, AsRow, WrittenAs}
 use Rattle.sw_convert_tokens.specs.Values.{WasRead}
-use Rattle.sw_convert_tokens.specs.Calls.{is_free_name}
+use Rattle.sw_convert_tokens.specs.Calls.{is_unspecial}
 use Rattle.sw_convert_texts.specs.Names.{joined, is_mixed, word_plain}
 use Rattle.sw_convert_texts.specs.Urls.{is_unbroken}
 
@@ -40,20 +40,35 @@ abbrev pub is_led : Source → ℕ → Bool
 is_led source zero = false
 is_led source (suc at) = leads_in (lexeme_at source at)
 
+-- a `#{}` goes on with a word
+abbrev pub is_part_insert : Terminal → Bool
+is_part_insert terminals.PartInsert = true
+is_part_insert _ = false
+
+abbrev pub part_in : Option Lexeme → Bool
+part_in None = false
+part_in (Some lexeme) = is_part_insert lexeme.terminal
+
+abbrev pub goes_on : Source → ℕ → Bool
+goes_on source at = part_in (lexeme_at source at)
+
 -- ---- single values
 
--- words by whose names a constant or an operator is meant elsewhere, and those with `#{}` in which a number isn't plain
+-- the first token of a word with `#{}`, by whose name a constant or an operator is meant elsewhere, and words with `#{}` in
+-- which a number isn't plain
 abbrev pub is_single_word : (source : Source) {i j : ℕ} {parts : Parts} {tokens : List Tok}
     → SpellsWord source i j parts tokens → Bool
-is_single_word source (spells.named {i} old spells.row_end) = is_reserved (word_sort (bytes_at source i))
+is_single_word source (spells.named {i} old spells.row_end) =
+    is_reserved (word_sort (bytes_at source i)) && goes_on source (suc i)
 is_single_word source word = not (word_plain source word)
 
--- one name by which no constant, operator or special function is meant elsewhere, and no url; a special function is meant
--- by none behind a namespace
+-- one name that is no url: by itself that of no special function, and behind a namespace that of no constant or operator,
+-- which the text of a special function has there
 abbrev pub is_name_called : (source : Source) (owned : Bool) {i j : ℕ} {parts : Parts} {tokens : List Tok}
     → SpellsWord source i j parts tokens → Bool
 is_name_called source owned (spells.named {i} old spells.row_end) =
-    is_free_name owned (bytes_at source i) && not (ends_in_url (bytes_at source i))
+    not (owned && is_reserved (word_sort (bytes_at source i)))
+    && (is_unspecial owned (bytes_at source i) && not (ends_in_url (bytes_at source i)))
 is_name_called source owned _ = false
 
 -- such a name, or a word with `#{}`, behind a namespace or not
