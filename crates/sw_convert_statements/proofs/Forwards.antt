@@ -1,6 +1,7 @@
 -- `@forward` with a prefix, with members that are shown or hidden, and with a configuration.
 use Rattle.std.proofs.Common.{◌≡◌, ℕ, suc, true, false, List, [], ◌∷◌, ◌++◌, map, Option, append-nil, inl, refl, sym, ◌∙◌, ap, subst, append_assoc, lit<}
-use Rattle.std.specs.Prelude.{codes}
+use Rattle.std.specs.Prelude.{◌-◌, ◌==◌, length, codes}
+use Rattle.sw_text_scan.specs.declared.signs.TheConstants.{CARRIAGE_RETURN}
 use Rattle.sw_text_scan.specs.Bytes.{sign, byte}
 use Rattle.sw_text_scan.proofs.Bounds.{and_left, and_right}
 use Rattle.sw_tree.specs.declared.load.Filter.{Filter}
@@ -70,8 +71,11 @@ record IsPrefix (text : List ℕ) (tokens : List Tok) : Type 0 where
 before_star : (name rest : List ℕ) → Behind name (codes "*" ++ rest)
 unfolding byte
 before_star name rest = record {
-  dim = record { name = refl; slash = refl; feed = refl; sign_before = refl; equals = refl };
+  name = refl;
+  slash = refl;
+  feed = right_no (byte name (length name - 1) == CARRIAGE_RETURN) _ refl;
   closed = refl;
+  range = λ e. absurd (let wrong : false ≡ true = e in cc);
   url = λ e. absurd (let wrong : false ≡ true = e in cc);
 }
 

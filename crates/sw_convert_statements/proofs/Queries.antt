@@ -1,7 +1,8 @@
 -- `@media` with its queries.
 use Rattle.std.proofs.Common.{◌≡◌, ℕ, suc, ◌-◌, Bool, true, false, not, ◌||◌, if◌then◌else◌, List, [], ◌∷◌, ◌++◌, append-nil, inl, refl, sym, ◌∙◌, ap, subst, append_assoc, arith, lit<}
-use Rattle.std.specs.Prelude.{bytes_eq, codes}
+use Rattle.std.specs.Prelude.{◌==◌, length, bytes_eq, codes}
 use Rattle.std.proofs.lemmas.Slice.Eq.{bytes_eq-Decides}
+use Rattle.sw_text_scan.specs.declared.signs.TheConstants.{CARRIAGE_RETURN}
 use Rattle.sw_text_scan.specs.Bytes.{byte}
 use Rattle.sw_text_scan.specs.Runs.{run_end, escape_end, begins_name}
 use Rattle.sw_text_scan.proofs.Bounds.{if_true, and_left, and_right, not_true}
@@ -74,8 +75,11 @@ stops_behind name closed after s =
 insert_behind : (name rest : List ℕ) → Behind name (codes "#{" ++ rest)
 unfolding byte
 insert_behind name rest = record {
-  dim = record { name = refl; slash = refl; feed = refl; sign_before = refl; equals = refl };
+  name = refl;
+  slash = refl;
+  feed = right_no (byte name (length name - 1) == CARRIAGE_RETURN) _ refl;
   closed = refl;
+  range = λ e. absurd (let wrong : false ≡ true = e in cc);
   url = λ e. absurd (let wrong : false ≡ true = e in cc);
 }
 

@@ -124,8 +124,17 @@ at_open v old e =
     ∙ sym (ap takes_white (states_text (sign "@" ∷ []) v old None))
 
 at_start : Start (sign "@")
-at_start =
-    record { white = refl; quote = refl; hash = refl; brace = refl; slash = refl; digit = refl; dot = refl; opening = refl }
+at_start = record {
+  white = refl;
+  quote = refl;
+  hash = refl;
+  brace = refl;
+  slash = refl;
+  digit = refl;
+  dot = refl;
+  opening = refl;
+  equal = refl;
+}
 
 module _ (v old after : List ℕ) (change : Change)
     (is : name_piece ((sign "@" ∷ v) ++ old) 0 ≡ made kinds.AtName (length (sign "@" ∷ v)) change)

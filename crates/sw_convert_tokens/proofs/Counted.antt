@@ -188,10 +188,10 @@ some_byte [] e = absurd (cc)
 some_byte (x ∷ xs) e = omega arith
 
 module _ (w : List ℕ) (counts : is_counted w ≡ true) where
-  abbrev kind : TokenKind
+  abbrev pub kind : TokenKind
   kind = number_kind w (run_end classes.Digit w 0) (unit_start w 0)
 
-  numeric : is_numeric kind ≡ true
+  pub numeric : is_numeric kind ≡ true
   numeric = go ((run_end classes.Digit w 0 == unit_start w 0) && not (byte w (unit_start w 0) == sign "%"))
     where
       go : (t : Bool) → is_numeric (if t then kinds.Digits else kinds.Number) ≡ true
@@ -201,10 +201,10 @@ module _ (w : List ℕ) (counts : is_counted w ≡ true) where
   first : (is_digit (byte w 0) || (byte w 0 == sign ".")) ≡ true
   first = loosen (is_digit (byte w 0)) (byte w 0 == sign ".") _ (and_left (begins_number w 0) _ counts)
 
-  some : 0 < length w
+  pub some : 0 < length w
   some = some_byte w first
 
-  black : is_white (byte w 0) ≡ false
+  pub black : is_white (byte w 0) ≡ false
   black = (number_first (byte w 0) first).0
 
   -- its unit, which ends with it
@@ -313,6 +313,10 @@ module _ (w : List ℕ) (counts : is_counted w ≡ true) where
 
   unit_closed : (after : List ℕ) → Follows w after → (begins_white after && ends_unclosed unit_of.unit) ≡ false
   unit_closed after f = ap (λ (t : Bool). begins_white after && t) (sym unclosed_same) ∙ f.closed
+
+  pub number_at : (after : List ℕ) → Follows w after → (inside : Inside) (before : Before) → is_sheet_code inside ≡ true
+      → after_hash before ≡ false → piece (w ++ after) inside before 0 ≡ made kind (length w) changes.Keep
+  number_at after f inside before code hash = counted_token after f.stop (unit_closed after f) inside before code hash
 
   number_fits : (after : List ℕ) → Fits kinds.Minus (w ++ after)
   unfolding byte

@@ -33,7 +33,7 @@ use Rattle.sw_convert_again.specs.Tokens as again
 use Rattle.sw_convert_tokens.specs.Joints.{Segment}
 use Rattle.sw_convert_tokens.specs.Written.{Follows, gap_of, AsValue, WrittenAs}
 use Rattle.sw_convert_tokens.proofs.Signs.{Fits, sign_token}
-use Rattle.sw_convert_tokens.proofs.Stops.{Dark, stopped, no_more_name, follows_parts, nothing_parts}
+use Rattle.sw_convert_tokens.proofs.Stops.{stopped, name_ends, follows_parts, nothing_parts}
 use Rattle.sw_convert_tokens.proofs.HexForms.{is_form}
 use Rattle.sw_convert_tokens.proofs.NamePieces.{name_keep}
 use Rattle.sw_convert_tokens.proofs.Names.{name_hash, name_start}
@@ -80,7 +80,7 @@ digits_run (d ∷ ds) rest all dark =
     ∙ (let e : 1 + length ds ≡ length (d ∷ ds) = omega arith in e)
 
 module _ (ds after : List ℕ) (all : list_all is_hex_digit ds ≡ true) (long : has_hex_length (length ds) ≡ true)
-    (dark : Dark (byte after 0)) where
+    (name : is_name_byte (byte after 0) ≡ false) (slash : (byte after 0 == sign "\\") ≡ false) where
   abbrev bs : List ℕ
   bs = ds ++ after
 
@@ -99,7 +99,7 @@ module _ (ds after : List ℕ) (all : list_all is_hex_digit ds ≡ true) (long :
       go (x ∷ xs) l e = ap is_hex_digit (moved.first_byte x (xs ++ after)) ∙ and_left (is_hex_digit x) _ e
 
   run : run_end classes.HexDigit (ds ++ after) 0 ≡ length ds
-  run = digits_run ds after all (no_hex (byte after 0) dark.name)
+  run = digits_run ds after all (no_hex (byte after 0) name)
 
   form : is_hex_form (ds ++ after) 0 ≡ true
   unfolding is_hex_form
@@ -107,7 +107,7 @@ module _ (ds after : List ℕ) (all : list_all is_hex_digit ds ≡ true) (long :
       let place : length ds ≡ length ds + 0 = omega arith in
       let none : next classes.Name bs (length ds) ≡ length ds =
       ap (next classes.Name bs) place ∙ moved.next_moved ds after classes.Name 0
-      ∙ ap (λ (n : ℕ). length ds + n) (no_more_name after dark) ∙ sym place in
+      ∙ ap (λ (n : ℕ). length ds + n) (name_ends after name slash) ∙ sym place in
       both (has_hex_length (run_end classes.HexDigit bs 0 - 0)) _
       (ap (λ (n : ℕ). has_hex_length (n - 0)) run ∙ ap has_hex_length (let z : length ds - 0 ≡ length ds = omega arith in z) ∙ long)
       (ap (λ (n : ℕ). not (nat_lt n (next classes.Name bs n))) run
@@ -127,7 +127,7 @@ module _ (ds after : List ℕ) (all : list_all is_hex_digit ds ≡ true) (long :
       ∙ if_true (is_hex_form bs 0) _ _ form
       ∙ ap (λ (n : ℕ). made kinds.Hex n changes.Keep) run
 
-  hex_token : (inside : Inside) → is_sheet_code inside ≡ true
+  pub hex_token : (inside : Inside) → is_sheet_code inside ≡ true
       → piece (ds ++ after) inside befores.Hash 0 ≡ made kinds.Hex (length ds) changes.Keep
   hex_token insides.Sheet code = hex_code insides.Sheet
   hex_token insides.Interpolation code = hex_code insides.Interpolation
@@ -163,12 +163,12 @@ colour_written (b ∷ ds) e = by_hash b (is_hash b (and_left (b == sign "#") _ e
       passed = _;
       segment = pair_segment kinds.Hash kinds.Hex (codes "#") ds (terminals.Hash ∷ []) (terminals.HashName ∷ [])
           (Bytes 2 (codes "#" ++ ds)) before spaced (Follows (codes "#" ++ ds)) refl refl refl refl refl (lit< tt)
-          (some ds [] all long (stopped [] refl))
+          (some ds [] all long (stopped [] refl).name (stopped [] refl).slash)
           (λ new at same. ap (bytes_between new at) (let z : at + 2 ≡ suc (suc at) = omega arith in z) ∙ same)
           (λ inside after code f.
           sign_token kinds.Hash (ds ++ after) inside (behind_gap before (gap_of spaced)) refl code calm
-          (hash_fits ds after all long (stopped after f.stop)))
-          (λ inside after code f. hex_token ds after all long (stopped after f.stop) inside code);
+          (hash_fits ds after all long (stopped after f.stop).name (stopped after f.stop).slash))
+          (λ inside after code f. hex_token ds after all long (stopped after f.stop).name (stopped after f.stop).slash inside code);
       told = λ mode free. hash sorts.Hex refl;
     }
 

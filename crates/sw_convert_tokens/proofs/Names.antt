@@ -32,7 +32,7 @@ use Rattle.sw_text_locality.proofs.Characters.Character.{plain, escaped, closed,
 use Rattle.sw_text_locality.proofs.Written.{byte_before}
 use Rattle.sw_convert_tokens.proofs.HexForms.{is_form, no_form}
 use Rattle.sw_convert_tokens.proofs.OpenEscapes.{name_open}
-use Rattle.sw_convert_tokens.proofs.Stops.{Dim, Parted, Behind, parted_behind, white_same, no_escape, name_ends}
+use Rattle.sw_convert_tokens.proofs.Stops.{Parted, Behind, parted_behind, white_same, no_escape, name_ends}
 use Rattle.sw_convert_tokens.proofs.NamePieces.{name_run}
 
 -- word characters are name characters
@@ -70,6 +70,7 @@ pub record Start (b : ℕ) : Type 0 where
   pub digit : is_digit b ≡ false
   pub dot : (b == sign ".") ≡ false
   pub opening : (b == sign "{") ≡ false
+  pub equal : ((b == sign "=") || ((b == sign "!") || ((b == sign "<") || (b == sign ">")))) ≡ false
 
 pub start_by : (b : ℕ) → (starts_plainly b || ((b == sign "\\") || (b == sign "-"))) ≡ true → Start b
 start_by b e = record {
@@ -81,6 +82,7 @@ start_by b e = record {
   digit = grind (arith, nat_tests);
   dot = grind (arith, nat_tests);
   opening = grind (arith, nat_tests);
+  equal = grind (arith, nat_tests);
 }
 
 module _ (cs : List ℕ) where
@@ -140,7 +142,8 @@ module _ (cs : List ℕ) where
       run_stop cs classes.Name i (omega (arith, on))
 
   -- a name before what goes on with none begins no range and no url
-  module _ (n : ℕ) (run : run_end classes.Name cs 0 ≡ n) (dark : Dim (byte cs n))
+  module _ (n : ℕ) (run : run_end classes.Name cs 0 ≡ n)
+      (range : (byte cs n == sign "+") ≡ true → n ≡ 1 → is_u (byte cs 0) ≡ false)
       (other : (byte cs n == sign "(") ≡ true → n ≡ 3 → (is_u (byte cs 0) && (is_r (byte cs 1) && is_l (byte cs 2))) ≡ false) where
     u_name : (b : ℕ) → is_u b ≡ true → is_name_byte b ≡ true
     u_name b e = grind (arith, nat_tests)
@@ -167,9 +170,8 @@ module _ (cs : List ℕ) where
             let plus = and_left (byte cs 1 == sign "+") _ (and_right (is_u (byte cs 0)) _ t) in
             let p = plus_dark (byte cs 1) plus in
             let end : 1 ≡ n = sym (ends 1 p.0 p.1) ∙ sym (goes 0 (u_name (byte cs 0) u)) ∙ run in
-            let d = dark.sign_before in
-            let x = ap (λ (k : ℕ). is_plus_or_minus (byte cs k)) end in
-            let y = p.2 in (let no : true ≡ false = sym y ∙ x ∙ d in cc)
+            let none = range (ap (λ (k : ℕ). byte cs k == sign "+") (sym end) ∙ plus) (sym end) in
+            (let no : true ≡ false = sym u ∙ none in cc)
 
     no_url : begins_url cs 0 ≡ false
     no_url = by_test (begins_url cs 0 ≡ false) (begins_url cs 0) (λ t. absurd (wrong t)) (λ t. t)
@@ -198,14 +200,15 @@ module _ (cs : List ℕ) where
 
 -- ---- one sign alone
 
-joins_no : (b : ℕ) (after : List ℕ) → Dim (byte after 0) → Start b → (b == sign "\\") ≡ false → joins_sign b after ≡ false
+joins_no : (b : ℕ) (after : List ℕ) → is_name_byte (byte after 0) ≡ false → (byte after 0 == sign "\\") ≡ false → Start b
+    → (b == sign "\\") ≡ false → joins_sign b after ≡ false
 unfolding begins_name
-joins_no b after dark start slash =
+joins_no b after name bars start slash =
     neither _ _ (left_no (b == sign "#") _ start.hash)
     (neither _ _ (left_no (b == sign "/") _ start.slash)
     (neither _ _ (left_no (b == sign ".") _ start.dot)
-    (neither _ _ (right_no ((b == sign "=") || ((b == sign "!") || ((b == sign "<") || (b == sign ">")))) _ dark.equals)
-    (neither _ _ (right_no (b == sign "-") _ (neither (starts_at after 0) _ no_start (no_dash (byte after 0) dark.name)))
+    (neither _ _ (left_no ((b == sign "=") || ((b == sign "!") || ((b == sign "<") || (b == sign ">")))) _ start.equal)
+    (neither _ _ (right_no (b == sign "-") _ (neither (starts_at after 0) _ no_start (no_dash (byte after 0) name)))
     (neither _ _ (right_no (b == sign "@") _ no_name) (left_no (b == sign "\\") _ slash))))))
   where
     no_dash : (c : ℕ) → is_name_byte c ≡ false → (c == sign "-") ≡ false
@@ -215,10 +218,10 @@ joins_no b after dark start slash =
     plain_no c e = grind (arith, nat_tests)
 
     no_start : starts_at after 0 ≡ false
-    no_start = neither (starts_plainly (byte after 0)) _ (plain_no (byte after 0) dark.name) (ap (nat_lt 0) (no_escape after dark.slash))
+    no_start = neither (starts_plainly (byte after 0)) _ (plain_no (byte after 0) name) (ap (nat_lt 0) (no_escape after bars))
 
     no_name : begins_name after 0 ≡ false
-    no_name = neither (starts_at after 0) _ no_start (left_no (byte after 0 == sign "-") _ (no_dash (byte after 0) dark.name))
+    no_name = neither (starts_at after 0) _ no_start (left_no (byte after 0 == sign "-") _ (no_dash (byte after 0) name))
 
 -- an escape is longer than one byte
 pub slash_long : (bs : List ℕ) → (byte bs 0 == sign "\\") ≡ true → run_end classes.Name bs 0 ≡ 1 → ⊥
@@ -278,8 +281,9 @@ module _ (w old after : List ℕ) (kind : TokenKind) (change : Change) (k : is_n
   behind_is : byte cs (length w) ≡ byte after 0
   behind_is = texts.behind_first w old after
 
-  dark : Dim (byte after 0)
-  dark = p.dim
+  -- a range begins with a `u` and a `+`
+  range_here : (byte cs (length w) == sign "+") ≡ true → length w ≡ 1 → is_u (byte cs 0) ≡ false
+  range_here e one = ap is_u (byte_before w after 0 some) ∙ p.range (ap (λ (b : ℕ). b == sign "+") (sym behind_is) ∙ e) one
 
   no_url_here : (byte cs (length w) == sign "(") ≡ true → length w ≡ 3
       → (is_u (byte cs 0) && (is_r (byte cs 1) && is_l (byte cs 2))) ≡ false
@@ -293,15 +297,15 @@ module _ (w old after : List ℕ) (kind : TokenKind) (change : Change) (k : is_n
       let place : length w ≡ length w + 0 = omega arith in
       let there : next classes.Name cs (length w) ≡ length w + 0 =
       ap (next classes.Name cs) place ∙ moved.next_moved w after classes.Name 0
-      ∙ ap (λ (n : ℕ). length w + n) (name_ends after dark.name dark.slash) in record {
+      ∙ ap (λ (n : ℕ). length w + n) (name_ends after p.name p.slash) in record {
         stops = omega (arith, there);
         white =
             ap (λ (t : Bool). t && is_white (byte cs (length w))) open_same
             ∙ ap (λ (b : ℕ). ends_unclosed w && is_white b) behind_is
             ∙ ap (λ (t : Bool). ends_unclosed w && t) (white_same after)
             ∙ turned (begins_white after) (ends_unclosed w) p.closed;
-        feed = right_no (byte cs (length w - 1) == CARRIAGE_RETURN) _
-            (ap (λ (b : ℕ). b == LINE_FEED) behind_is ∙ dark.feed);
+        feed = ap (λ (b : ℕ). (b == CARRIAGE_RETURN) && (byte cs (length w) == LINE_FEED)) (byte_before w after (length w - 1) (omega (arith, some)))
+            ∙ ap (λ (b : ℕ). (byte w (length w - 1) == CARRIAGE_RETURN) && (b == LINE_FEED)) behind_is ∙ p.feed;
       }
     where
       turned : (a b : Bool) → (a && b) ≡ false → (b && a) ≡ false
@@ -312,7 +316,7 @@ module _ (w old after : List ℕ) (kind : TokenKind) (change : Change) (k : is_n
 
   parted : parts_sign w after ≡ true
   parted =
-      signed w refl (λ b e. joins_no b after dark
+      signed w refl (λ b e. joins_no b after p.name p.slash
       (subst Start (ap (λ (xs : List ℕ). byte (xs ++ old) 0) e ∙ moved.first_byte b old) (start_of (w ++ old) is))
       (by_test ((b == sign "\\") ≡ false) (b == sign "\\")
       (λ t. absurd (slash_long (w ++ old)
@@ -342,7 +346,7 @@ module _ (w old after : List ℕ) (kind : TokenKind) (change : Change) (k : is_n
       → code_piece cs top before 0 ≡ made kind (length w) change
   name_code top before calm =
       code_name cs top before (start_of cs name_here)
-      (calm_other cs (length w) (run_at cs name_here) (subst Dim (sym behind_is) dark) no_url_here before calm)
+      (calm_other cs (length w) (run_at cs name_here) range_here no_url_here before calm)
       ∙ name_here
 
   pub token_at : (inside : Inside) (before : Before) → is_sheet_code inside ≡ true → is_calm before ≡ true
@@ -355,10 +359,10 @@ module _ (w old after : List ℕ) (kind : TokenKind) (change : Change) (k : is_n
   dollar_code : (top : Inside) → code_piece cs top befores.Dollar 0 ≡ made kind (length w) change
   dollar_code top =
       code_name cs top befores.Dollar (start_of cs name_here)
-      (no_url cs (length w) (run_at cs name_here) (subst Dim (sym behind_is) dark) no_url_here)
+      (no_url cs (length w) (run_at cs name_here) range_here no_url_here)
       ∙ name_here
 
-  dollar_at : (inside : Inside) → is_sheet_code inside ≡ true
+  pub dollar_at : (inside : Inside) → is_sheet_code inside ≡ true
       → piece cs inside befores.Dollar 0 ≡ made kind (length w) change
   dollar_at insides.Sheet code = dollar_code insides.Sheet
   dollar_at insides.Interpolation code = dollar_code insides.Interpolation
@@ -370,11 +374,11 @@ module _ (w old after : List ℕ) (kind : TokenKind) (change : Change) (k : is_n
       code_name cs top befores.Hash (start_of cs name_here)
       (neither (is_hex_form cs 0) _ (no_form w after (run_at cs name_here) none)
       (neither (begins_range cs 0) (begins_url cs 0)
-      (no_range cs (length w) (run_at cs name_here) (subst Dim (sym behind_is) dark) no_url_here)
-      (no_url cs (length w) (run_at cs name_here) (subst Dim (sym behind_is) dark) no_url_here)))
+      (no_range cs (length w) (run_at cs name_here) range_here no_url_here)
+      (no_url cs (length w) (run_at cs name_here) range_here no_url_here)))
       ∙ name_here
 
-  hash_at : is_form w ≡ false → (inside : Inside) → is_sheet_code inside ≡ true
+  pub hash_at : is_form w ≡ false → (inside : Inside) → is_sheet_code inside ≡ true
       → piece cs inside befores.Hash 0 ≡ made kind (length w) change
   hash_at none insides.Sheet code = hash_code none insides.Sheet
   hash_at none insides.Interpolation code = hash_code none insides.Interpolation

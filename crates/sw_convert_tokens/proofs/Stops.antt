@@ -6,7 +6,7 @@ use Rattle.sw_text_scan.specs.declared.runs.Class.TheVariants as classes
 use Rattle.sw_text_scan.specs.declared.signs.TheConstants.{CARRIAGE_RETURN, LINE_FEED}
 use Rattle.sw_text_scan.specs.Bytes.{sign, byte, is_white, is_digit, is_name_byte, is_range_byte}
 use Rattle.sw_text_scan.specs.Runs.{next, escape_end}
-use Rattle.sw_text_scan.specs.Words.{is_plus_or_minus}
+use Rattle.sw_text_scan.specs.Words.{is_u, is_plus_or_minus}
 use Rattle.sw_text_scan.proofs.Bounds.{if_true, if_false}
 use Rattle.sw_text_locality.specs.Names as locality
 use Rattle.sw_convert_spelling.specs.Neighbours.{parts_name}
@@ -133,41 +133,37 @@ nothing_parts value = record { dark = stopped [] refl; closed = refl }
 
 -- ---- behind a name, where a `(` may stand too
 
--- what the first byte behind a name isn't
-pub record Dim (b : ℕ) : Type 0 where
-  pub name : is_name_byte b ≡ false
-  pub slash : (b == sign "\\") ≡ false
-  pub feed : (b == LINE_FEED) ≡ false
-  pub sign_before : is_plus_or_minus b ≡ false
-  pub equals : (b == sign "=") ≡ false
-
-pub dim_of : (b : ℕ) → Dark b → Dim b
-dim_of b dark = record {
-  name = dark.name;
-  slash = dark.slash;
-  feed = dark.feed;
-  sign_before = dark.sign_before;
-  equals = dark.equals;
-}
-
--- what stands behind a name goes on with none, takes no open escape for its own, and makes no url of it
+-- what stands behind a name goes on with none, takes no open escape for its own, and makes no range and no url of it
 pub record Behind (value after : List ℕ) : Type 0 where
-  pub dim : Dim (byte after 0)
+  pub name : is_name_byte (byte after 0) ≡ false
+  pub slash : (byte after 0 == sign "\\") ≡ false
+  pub feed : ((byte value (length value - 1) == CARRIAGE_RETURN) && (byte after 0 == LINE_FEED)) ≡ false
   pub closed : (begins_white after && ends_unclosed value) ≡ false
+  pub range : (byte after 0 == sign "+") ≡ true → length value ≡ 1 → is_u (byte value 0) ≡ false
   pub url : (byte after 0 == sign "(") ≡ true → is_url value ≡ false
 
 pub parted_behind : (value after : List ℕ) → Parted value after → Behind value after
 parted_behind value after p = record {
-  dim = dim_of (byte after 0) p.dark;
+  name = p.dark.name;
+  slash = p.dark.slash;
+  feed = right_no (byte value (length value - 1) == CARRIAGE_RETURN) _ p.dark.feed;
   closed = p.closed;
+  range = λ e one. absurd (let d = p.dark.sign_before in
+      let wrong : true ≡ false = sym (plus_sign (byte after 0) e) ∙ d in cc);
   url = λ e. absurd (let d = p.dark.paren in let wrong : true ≡ false = sym e ∙ d in cc);
 }
+  where
+    plus_sign : (b : ℕ) → (b == sign "+") ≡ true → is_plus_or_minus b ≡ true
+    plus_sign b e = grind (arith, nat_tests)
 
 -- the `(` of a call
 pub paren_behind : (value rest : List ℕ) → is_url value ≡ false → Behind value (sign "(" ∷ rest)
 unfolding byte
 paren_behind value rest no_url = record {
-  dim = record { name = refl; slash = refl; feed = refl; sign_before = refl; equals = refl };
+  name = refl;
+  slash = refl;
+  feed = right_no (byte value (length value - 1) == CARRIAGE_RETURN) _ refl;
   closed = refl;
+  range = λ e. absurd (let no : false ≡ true = e in cc);
   url = λ e. no_url;
 }
