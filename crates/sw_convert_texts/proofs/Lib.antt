@@ -36,6 +36,7 @@ pub mod Urls
 mod AroundTexts
 mod SeamedTexts
 mod RawOlds
+mod RawHeads
 mod RawNames
 mod RawSigns
 mod RawLiterals
@@ -45,3 +46,5 @@ mod RawRows
 mod RawBrackets
 mod RawJoined
 mod RawWritten
+mod RuleHeads
+mod RuleWritten

@@ -1,6 +1,11 @@
 -- Brackets in raw text, as they are written around other raw text.
-use Rattle.std.proofs.Common.{◌≡◌, ◌<◌, ℕ, suc, ◌+◌, ◌-◌, Bool, true, false, List, [], ◌∷◌, ◌++◌, length, Some, refl, sym, ◌∙◌, ap, subst, arith, append_assoc, append-nil, length-append, lit<}
+use Rattle.std.proofs.Common.{◌≡◌, ◌<◌, ℕ, suc, ◌+◌, ◌-◌, Bool, true, false, List, [], ◌∷◌, ◌++◌, length, Some, refl, sym, ◌∙◌, ap, subst, arith, append_assoc, append-nil, length-append, lit<, not, ◌&&◌}
 use Rattle.std.specs.List.{list_all}
+use Rattle.sw_parse_lexemes.specs.declared.state.Walk.TheVariants as walks
+use Rattle.sw_convert_heads_passing.specs.Rules.{walked}
+use Rattle.sw_convert_texts.specs.RuleTexts.{bracket_sort, row_bare}
+use Rattle.sw_convert_texts.proofs.RawHeads.{Walks}
+use Rattle.sw_text_scan.proofs.Bounds.{and_left, and_right}
 use Rattle.sw_text_scan.specs.Bytes.{sign, byte, is_white}
 use Rattle.sw_tokens.specs.declared.pieces.Before.{Before}
 use Rattle.sw_tokens.specs.declared.pieces.Before.TheVariants as befores
@@ -18,7 +23,7 @@ use Rattle.sw_parse_lexemes.specs.declared.sort.Sort.TheVariants as sorts
 use Rattle.sw_parse_lexemes.specs.declared.state.Mode.{Mode}
 use Rattle.sw_parse_lexemes.specs.declared.state.Mode.TheVariants as modes
 use Rattle.sw_parse_lexemes.specs.Brackets.{is_custom}
-use Rattle.sw_parse_lexemes.specs.Classes.{is_comment}
+use Rattle.sw_parse_lexemes.specs.Classes.{is_comment, same}
 use Rattle.sw_parse_lexemes.specs.Sorts.{sort_of}
 use Rattle.sw_parse_table.specs.declared.source.Source.{Source}
 use Rattle.sw_parse_table.specs.Parts.{Part}
@@ -40,7 +45,7 @@ use Rattle.sw_convert_texts.specs.RawKinds.{gap_before, row_text, opening_text, 
 use Rattle.sw_convert_texts.proofs.AroundTexts.{lones, around_texts, CutFrom, cut_token, first_token}
 use Rattle.sw_convert_texts.proofs.RawOlds.{row_cut, AreBrackets}
 use Rattle.sw_convert_texts.proofs.RawSits.{shifted_twice, ends_append, at_next, own_sits, step_sits, sit_right, sit_end, sit_first}
-use Rattle.sw_convert_texts.proofs.RawRows.{Placed, Begun, StandBefore, IsRaw, TellBefore, ItemIs, RowIs, white_gap, spelt_one}
+use Rattle.sw_convert_texts.proofs.RawRows.{Begun, IsRaw, ItemIs, Placed, RowIs, StandBefore, TellBefore, row_leaves, spelt_one, white_gap}
 
 -- a bracket, a token whatever stands behind it
 record Lone (own : List ℕ) (kind : TokenKind) : Type 0 where
@@ -140,13 +145,36 @@ enclosed_raw mode squares e own other around spaced blank inside rest all more =
 enclosed_raw mode braces e own other around spaced blank inside rest all more =
     custom_braces mode e around spaced blank terminals.RawBrace terminals.RawBraceEnd inside rest all more refl refl
 
+-- a bracket more is open within
+one_less : (count : ℕ) → (count + 1) - 1 ≡ count
+one_less count = omega arith
+
+enclosed_walks : {opening closing : Terminal} (kind : Brackets opening closing) → not (same (bracket_sort kind) sorts.OpenBrace) ≡ true
+    → (own other : List ℕ) (spaced blank : Bool) (first last : Terminal) (inside : List Written) → Walks inside
+    → (count : ℕ) (rest : List Written)
+    → walked walks.Sign count
+    (enclosed (written (sort_of (opening_kind kind) own) spaced first) inside
+    (written (sort_of (closing_kind kind) other) blank last) rest)
+    ≡ walked walks.Sign count rest
+enclosed_walks parens e own other spaced blank first last inside inner count rest =
+    inner (count + 1) (written sorts.CloseParen blank last ∷ rest) ∙ ap (λ (n : ℕ). walked walks.Sign n rest) (one_less count)
+enclosed_walks squares e own other spaced blank first last inside inner count rest =
+    inner (count + 1) (written sorts.CloseBracket blank last ∷ rest) ∙ ap (λ (n : ℕ). walked walks.Sign n rest) (one_less count)
+enclosed_walks braces e own other spaced blank first last inside inner count rest = absurd (cc)
+
+opening_sort : {opening closing : Terminal} (kind : Brackets opening closing) (own : List ℕ)
+    → sort_of (opening_kind kind) own ≡ bracket_sort kind
+opening_sort parens own = refl
+opening_sort squares own = refl
+opening_sort braces own = refl
+
 -- ---- brackets around items
 
 module _ (source : Source) (mode : Mode) {i c : ℕ} {opening closing : Terminal} {parts : List Part} {tokens : List Tok}
     {extents : List Extent} (kind : Brackets opening closing) (are : AreBrackets source mode i c kind)
     (row : SpellsRawText source (suc i) c parts tokens extents) (behind_text : List ℕ) (before : Before) (gap : List ℕ)
     (said : Said) (inner_white : list_all is_white (gap_before source c) ≡ true)
-    (inner : RowIs source mode row (gap_before source c ++ (bytes_at source c ++ behind_text))) where
+    (inner : RowIs source mode row befores.Other (gap_before source c ++ (bytes_at source c ++ behind_text))) where
   first : Lone (bytes_at source i) (opening_kind kind)
   first = subst (λ (own : List ℕ). Lone own (opening_kind kind)) (sym are.opening_is) (opening_lone kind)
 
@@ -164,19 +192,27 @@ module _ (source : Source) (mode : Mode) {i c : ℕ} {opening closing : Terminal
     said = said;
   }
 
+  -- what stands directly before the white space before it
+  abbrev inner_end : Before
+  inner_end = row_leaves befores.Other row
+
   abbrev closed : Seen
   closed = record {
     gap = gap_before source c;
     kind = closing_kind kind;
     bytes = bytes_at source c;
     change = changes.Keep;
-    spaced = is_spaced (behind_gap befores.Other (gap_before source c));
+    spaced = is_spaced (behind_gap inner_end (gap_before source c));
     may_be = closing ∷ [];
     said = Nothing;
   }
 
   abbrev list : List Joint
   list = inner.joints
+
+  -- no braces, and no value in it
+  abbrev item_bare_inside : Bool
+  item_bare_inside = not (same (bracket_sort kind) sorts.OpenBrace) && row_bare row
 
   abbrev rest_joints : List Joint
   rest_joints = list ++ Token closed ∷ []
@@ -226,6 +262,17 @@ module _ (source : Source) (mode : Mode) {i c : ℕ} {opening closing : Terminal
       ∙ append_assoc (writtens list) (two ∷ []) rest)))
       (enclosed_raw mode kind are.bracketed (bytes_at source i) (bytes_at source c) around opened.spaced closed.spaced (writtens list)
       rest inside_raw more)
+
+  -- a walk goes over them with what they hold
+  all_walks : item_bare_inside ≡ true → Walks (writtens all_joints)
+  all_walks bare count rest =
+      let one : Written = written (sort_of (opening_kind kind) (bytes_at source i)) opened.spaced opening in
+      let two : Written = written (sort_of (closing_kind kind) (bytes_at source c)) closed.spaced closing in
+      ap (λ (t : List Written). walked walks.Sign count (one ∷ (t ++ rest))) (writtens_append list (Token closed ∷ []))
+      ∙ ap (λ (t : List Written). walked walks.Sign count (one ∷ t)) (append_assoc (writtens list) (two ∷ []) rest)
+      ∙ enclosed_walks kind (and_left (not (same (bracket_sort kind) sorts.OpenBrace)) _ bare) (bytes_at source i) (bytes_at source c)
+      opened.spaced closed.spaced opening closing (writtens list)
+      (inner.walks (and_right (not (same (bracket_sort kind) sorts.OpenBrace)) _ bare)) count rest
 
   all_tells : TellBefore said all_joints
   all_tells others more says = (
@@ -290,13 +337,13 @@ module _ (source : Source) (mode : Mode) {i c : ℕ} {opening closing : Terminal
 
   -- ---- as tokens
 
-  close_stand : (after : List ℕ) → Stand [] befores.Other (Token closed ∷ []) [] (behind_text ++ after)
+  close_stand : (after : List ℕ) → Stand [] inner_end (Token closed ∷ []) [] (behind_text ++ after)
   close_stand after = (
     white_gap (gap_before source c) (bytes_at source c) inner_white last.black,
     last.some,
     (refl, last.seen),
     λ e. absurd (let no : true ≡ false = sym e ∙ last.closed in cc),
-    last.token (behind_gap befores.Other (gap_before source c)) (behind_text ++ after),
+    last.token (behind_gap inner_end (gap_before source c)) (behind_text ++ after),
     refl,
   )
 
@@ -335,6 +382,15 @@ module _ (source : Source) (mode : Mode) {i c : ℕ} {opening closing : Terminal
     ends = λ new commented at front after sit.
         ap (λ (n : ℕ). to_at new ((at + n) - 1)) (sym (ap length all_seen))
         ∙ sit_first new commented at front opened rest_joints after sit (ends_append false list (Token closed ∷ []));
+    head = record {
+      head = written (sort_of (opening_kind kind) (bytes_at source i)) opened.spaced opening;
+      tail = writtens rest_joints;
+      is = refl;
+      same = λ e. opening_sort kind (bytes_at source i);
+      spaced_is = refl;
+    };
+    one = λ e. absurd (cc);
+    walks = all_walks;
     placed = all_placed;
     first = all_first;
     stand = all_stand white;

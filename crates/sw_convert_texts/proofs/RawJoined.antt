@@ -1,6 +1,10 @@
 -- Raw text without comments is written as its tokens: items one behind the other, through any number of brackets.
-use Rattle.std.proofs.Common.{◌≡◌, ℕ, suc, ◌+◌, Bool, true, false, ◌&&◌, List, [], ◌∷◌, ◌++◌, length, refl, sym, ◌∙◌, ap, subst, arith, append_assoc, length-append}
+use Rattle.std.proofs.Common.{◌≡◌, ℕ, suc, ◌+◌, Bool, true, false, ◌&&◌, List, [], ◌++◌, length, refl, sym, ◌∙◌, ap, subst, arith, append_assoc, length-append}
 use Rattle.std.specs.List.{list_all}
+use Rattle.sw_tokens.specs.Tokens.{is_spaced}
+use Rattle.sw_parse_lexemes.specs.declared.sort.Sort.{Sort}
+use Rattle.sw_convert_texts.specs.RuleTexts.{item_sort}
+use Rattle.sw_convert_texts.proofs.RawHeads.{Head, Walks, walks_append}
 use Rattle.sw_text_scan.specs.Bytes.{is_white}
 use Rattle.sw_text_scan.proofs.Bounds.{and_left, and_right}
 use Rattle.sw_tokens.specs.declared.pieces.Before.{Before}
@@ -17,10 +21,9 @@ use Rattle.sw_convert_again.specs.Tokens.{Said, Nothing, Extent, shifted, Tok, s
 use Rattle.sw_convert_again.specs.RawTexts.{SpellsRawItem, SpellsRawText, raw_token, raw_insert, raw_brackets, raw_end, raw_more}
 use Rattle.sw_convert_tokens.specs.Joints.{Joint, text, toks, writtens, behind, Stand, Sit}
 use Rattle.sw_convert_tokens.specs.Values.{WasRead}
-use Rattle.sw_convert_tokens.specs.Written.{is_calm}
 use Rattle.sw_convert_tokens.proofs.Joins.{text_behind, toks_append, writtens_append, behind_append, stand_append, sit_left}
 use Rattle.sw_convert_texts.specs.Inserted.{RawItemHasValues, RawTextHasValues}
-use Rattle.sw_convert_texts.specs.RawKinds.{gap_before, row_text, is_bracketed, is_beside, item_known, row_known}
+use Rattle.sw_convert_texts.specs.RawKinds.{leaves, gap_before, row_text, is_bracketed, is_beside, item_known, row_known}
 use Rattle.sw_convert_texts.proofs.AroundTexts.{CutFrom}
 use Rattle.sw_convert_texts.proofs.Inserts.{inner_of}
 use Rattle.sw_convert_texts.proofs.RawOlds.{item_cut, row_cut, beside_told, brackets_told}
@@ -36,10 +39,10 @@ nothing_said (raw_insert opens inner close) = refl
 nothing_said (raw_brackets kind opens text close) = refl
 
 -- behind an item as it is written
-pub row_stand : (before : Before) (xs ys : List Joint) (behind_text whole : List ℕ) → StandBefore before xs whole
-    → behind before xs ≡ befores.Other → text ys ++ behind_text ≡ whole → StandBefore befores.Other ys behind_text
+pub row_stand : (before mid : Before) (xs ys : List Joint) (behind_text whole : List ℕ) → StandBefore before xs whole
+    → behind before xs ≡ mid → text ys ++ behind_text ≡ whole → StandBefore mid ys behind_text
     → StandBefore before (xs ++ ys) behind_text
-row_stand before xs ys behind_text whole one last same more after ends =
+row_stand before mid xs ys behind_text whole one last same more after ends =
     stand_append [] [] [] before xs ys (behind_text ++ after)
     (subst (Stand [] before xs [])
     (ap (λ (t : List ℕ). t ++ after) (sym same) ∙ append_assoc (text ys) behind_text after) (one after ends))
@@ -73,16 +76,29 @@ row_placed xs ys count others extents further cut then counted ended one more ne
     ∙ append_assoc (shifted (suc at) extents) (shifted (suc (at + count)) further) list))
     (one new at front (text ys ++ after) to end (shifted (suc (at + count)) further ++ list) (then cuts) here left behind_cut)
 
-calm_gap : (gap : List ℕ) → is_calm (behind_gap befores.Other gap) ≡ true
-calm_gap [] = refl
-calm_gap (b ∷ gap) = refl
+-- what the first item begins with
+abbrev row_first : (sort : Sort) (spaced : Bool) (xs ys : List Joint) → Head sort spaced (writtens xs) → Head sort spaced (writtens (xs ++ ys))
+row_first sort spaced xs ys one = record {
+  head = one.head;
+  tail = one.tail ++ writtens ys;
+  is = writtens_append xs ys ∙ ap (λ (t : List Written). t ++ writtens ys) one.is;
+  same = one.same;
+  spaced_is = one.spaced_is;
+}
+
+row_walks : {a b : Bool} (xs ys : List Joint) → (a ≡ true → Walks (writtens xs)) → (b ≡ true → Walks (writtens ys))
+    → (a && b) ≡ true → Walks (writtens (xs ++ ys))
+row_walks {a} {b} xs ys one more e =
+    subst Walks (sym (writtens_append xs ys))
+    (walks_append (writtens xs) (writtens ys) (one (and_left a b e)) (more (and_right a b e)))
 
 module _ (source : Source) (was : WasRead source) (mode : Mode) where
   more_is : {i k j : ℕ} {parts more : List Part} {tokens others : List Tok} {extents further : List Extent}
       (item : SpellsRawItem source i k parts tokens extents) (row : SpellsRawText source k j more others further)
-      (behind_text : List ℕ) → ItemIs source mode item (row_text source row behind_text) befores.Other (gap_before source i) Nothing
-      → RowIs source mode row behind_text → RowIs source mode (raw_more item row) behind_text
-  more_is {i} {tokens = tokens} {others = others} {extents = extents} {further = further} item row behind_text one rest =
+      (start : Before) (behind_text : List ℕ)
+      → ItemIs source mode item (row_text source row behind_text) start (gap_before source i) Nothing
+      → RowIs source mode row (leaves item) behind_text → RowIs source mode (raw_more item row) start behind_text
+  more_is {i} {tokens = tokens} {others = others} {extents = extents} {further = further} item row start behind_text one rest =
       let xs = one.joints in
       let ys = rest.joints in record {
         joints = xs ++ ys;
@@ -91,16 +107,24 @@ module _ (source : Source) (was : WasRead source) (mode : Mode) where
         seen = toks_append xs ys
             ∙ ap (λ (t : List Tok). t ++ toks ys) (one.seen ∙ nothing_said item)
             ∙ ap (λ (t : List Tok). tokens ++ t) rest.seen;
-        last = behind_append befores.Other xs ys ∙ ap (λ (b : Before). behind b ys) one.last ∙ rest.last;
+        last = behind_append start xs ys ∙ ap (λ (b : Before). behind b ys) one.last ∙ rest.last;
         ended = ends_append false xs ys ∙ ap (λ (b : Bool). ends_apart b ys) (one.ended false) ∙ rest.ended;
         raw = row_raw mode xs ys one.raw rest.raw;
         tells = one.tells ys rest.tells (λ new commented at front after sit. tt);
+        head = (
+          writtens ys,
+          row_first (item_sort item) (is_spaced (behind_gap start (gap_before source i))) xs ys one.head,
+          λ e. ap (λ (t : List Written). t ++ writtens ys) (one.one e),
+          λ e. row_walks xs ys one.walks rest.walks e,
+          rest.head,
+        );
+        walks = row_walks xs ys one.walks rest.walks;
         placed = λ new at front after to end list cuts here sit cut.
             row_placed xs ys (length tokens) (length others) extents further
             (λ cuts. begun (gap_before source i) (item_cut source item cuts)) (row_cut source row) one.counted (one.ended false)
             one.placed rest.placed new at front after to end list cuts here sit
             (subst (λ (n : ℕ). CutFrom new to end (at + n) list cuts) (length-append tokens others) cut);
-        stand = row_stand befores.Other xs ys behind_text (row_text source row behind_text) one.stand one.last
+        stand = row_stand start (leaves item) xs ys behind_text (row_text source row behind_text) one.stand one.last
             (rest.spelling behind_text) rest.stand;
       }
 
@@ -108,25 +132,25 @@ module _ (source : Source) (was : WasRead source) (mode : Mode) where
     -- an item behind white space, and its first token says this
     pub item_is : {i k : ℕ} {parts : List Part} {tokens : List Tok} {extents : List Extent}
         (item : SpellsRawItem source i k parts tokens extents) (behind_text : List ℕ) (before : Before) (gap : List ℕ) (said : Said)
-        → item_known source mode item behind_text ≡ true → list_all is_white gap ≡ true
-        → is_calm (behind_gap before gap) ≡ true → RawItemHasValues item
+        → item_known source mode item (behind_gap before gap) behind_text ≡ true → list_all is_white gap ≡ true
+        → RawItemHasValues item
         → ItemIs source mode item behind_text before gap said
-    item_is (raw_token old) behind_text before gap said known white calm has =
-        token_is source was mode old behind_text before gap said known white calm
-    item_is (raw_insert {value = value} {tokens = tokens} opens inner close) behind_text before gap said known white calm has =
+    item_is (raw_token old) behind_text before gap said known white has =
+        token_is source was mode old behind_text before gap said known white
+    item_is (raw_insert {value = value} {tokens = tokens} opens inner close) behind_text before gap said known white has =
         insert_is source was mode opens inner close (inner_of (expr_text value) tokens has) before gap said behind_text white
-    item_is (raw_brackets {i = i} {c = c} kind opens row close) behind_text before gap said known white calm has =
+    item_is (raw_brackets {i = i} {c = c} kind opens row close) behind_text before gap said known white has =
         let are = brackets_told source mode i c kind (and_left (is_bracketed mode kind && _) _ known) in
         let inner = and_right (is_bracketed mode kind && _) _ known in
         let beside = beside_told source c (and_left (is_beside source c) _ inner) in
         brackets_is source mode kind are row behind_text before gap said beside.white
-        (row_is row (gap_before source c ++ (bytes_at source c ++ behind_text)) (and_right (is_beside source c) _ inner) has)
+        (row_is row befores.Other (gap_before source c ++ (bytes_at source c ++ behind_text)) (and_right (is_beside source c) _ inner) has)
         opens close white
 
     pub row_is : {i j : ℕ} {parts : List Part} {tokens : List Tok} {extents : List Extent}
-        (row : SpellsRawText source i j parts tokens extents) (behind_text : List ℕ) → row_known source mode row behind_text ≡ true
-        → RawTextHasValues row → RowIs source mode row behind_text
-    row_is raw_end behind_text known has = record {
+        (row : SpellsRawText source i j parts tokens extents) (start : Before) (behind_text : List ℕ)
+        → row_known source mode row start behind_text ≡ true → RawTextHasValues row → RowIs source mode row start behind_text
+    row_is raw_end start behind_text known has = record {
       joints = [];
       spelling = λ rest. refl;
       seen = refl;
@@ -134,15 +158,18 @@ module _ (source : Source) (was : WasRead source) (mode : Mode) where
       ended = refl;
       raw = λ around rest more. more;
       tells = tt;
+      head = refl;
+      walks = λ e count rest. refl;
       placed = λ new at front after to end more cuts here sit rest.
           subst (λ (n : ℕ). CutFrom new to end n more cuts) (let z : at + 0 ≡ at = omega arith in z) rest;
       stand = λ after ends. refl;
     }
-    row_is (raw_more {i = i} item row) behind_text known (has, more) =
+    row_is (raw_more {i = i} item row) start behind_text known (has, more) =
         let rest = and_right (is_beside source i) _ known in
         let beside = beside_told source i (and_left (is_beside source i) _ known) in
-        more_is item row behind_text
-        (item_is item (row_text source row behind_text) befores.Other (gap_before source i) Nothing
-        (and_left (item_known source mode item (row_text source row behind_text)) _ rest) beside.white
-        (calm_gap (gap_before source i)) has)
-        (row_is row behind_text (and_right (item_known source mode item (row_text source row behind_text)) _ rest) more)
+        more_is item row start behind_text
+        (item_is item (row_text source row behind_text) start (gap_before source i) Nothing
+        (and_left (item_known source mode item (behind_gap start (gap_before source i)) (row_text source row behind_text)) _ rest)
+        beside.white has)
+        (row_is row (leaves item) behind_text
+        (and_right (item_known source mode item (behind_gap start (gap_before source i)) (row_text source row behind_text)) _ rest) more)

@@ -1,10 +1,14 @@
 -- Names of raw text are the tokens that they were, before what is written behind them.
-use Rattle.std.proofs.Common.{◌≡◌, ◌<◌, ℕ, Bool, true, false, not, ◌&&◌, ◌||◌, List, [], ◌∷◌, ◌++◌, length, Option, Some, None, refl, sym, ◌∙◌, ap, subst}
+use Rattle.std.proofs.Common.{◌≡◌, ◌<◌, ℕ, Bool, true, false, not, ◌&&◌, List, [], ◌∷◌, ◌++◌, length, Option, Some, None, refl, sym, ◌∙◌, ap, subst, ◌-◌, arith}
 use Rattle.std.specs.Prelude.{◌==◌}
 use Rattle.std.specs.List.{list_all}
-use Rattle.sw_text_scan.specs.declared.signs.TheConstants.{LINE_FEED}
+use Rattle.std.proofs.lemmas.Bool.Decides.{nat_tests}
+use Rattle.sw_parse_lexemes.specs.declared.sort.Sort.TheVariants as sorts
+use Rattle.sw_convert_texts.specs.RuleTexts.{is_begin}
+use Rattle.sw_convert_texts.proofs.RawHeads.{is_neutral, name_neutral}
+use Rattle.sw_text_scan.specs.declared.signs.TheConstants.{LINE_FEED, CARRIAGE_RETURN}
 use Rattle.sw_text_scan.specs.Bytes.{sign, byte, is_white, is_name_byte}
-use Rattle.sw_text_scan.specs.Words.{is_plus_or_minus}
+use Rattle.sw_text_scan.specs.Words.{is_u}
 use Rattle.sw_text_scan.proofs.Bounds.{if_true, if_false, and_left, and_right, or_left, or_right, not_true}
 use Rattle.sw_tokens.specs.declared.pieces.Before.{Before}
 use Rattle.sw_tokens.specs.declared.pieces.Before.TheVariants as befores
@@ -12,7 +16,7 @@ use Rattle.sw_tokens.specs.declared.pieces.Change.TheVariants as changes
 use Rattle.sw_tokens.specs.declared.skips.Inside.TheVariants as insides
 use Rattle.sw_tokens.specs.declared.token.TokenKind.{TokenKind}
 use Rattle.sw_tokens.specs.Ends.{opens}
-use Rattle.sw_tokens.specs.Pieces.{made, piece}
+use Rattle.sw_tokens.specs.Pieces.{made, piece, name_piece}
 use Rattle.sw_tokens.specs.Tokens.{before_of}
 use Rattle.sw_parse_terminals.specs.declared.lexeme.Lexeme.{Lexeme}
 use Rattle.sw_parse_terminals.specs.declared.terminal.Terminal.TheVariants as terminals
@@ -31,12 +35,12 @@ use Rattle.sw_convert_passing.specs.Written.{Written, written}
 use Rattle.sw_convert_heads_passing.specs.RawTexts.{Around, RawText}
 use Rattle.sw_convert_heads_passing.specs.RawTexts as told
 use Rattle.sw_convert_tokens.specs.Values.{WasRead}
-use Rattle.sw_convert_tokens.specs.Written.{is_calm, begins_white}
+use Rattle.sw_convert_tokens.specs.Written.{begins_white}
 use Rattle.sw_convert_tokens.proofs.NamePieces.{name_in, name_keep}
-use Rattle.sw_convert_tokens.proofs.Names.{token_at, name_black}
+use Rattle.sw_convert_tokens.proofs.Names.{token_at, dollar_at, hash_at, name_black}
 use Rattle.sw_convert_tokens.proofs.Stops.{Behind, nothing_parts}
 use Rattle.sw_convert_tokens.proofs.Words.{kind_of_name, name_opens, name_behind, name_comment}
-use Rattle.sw_convert_texts.specs.RawKinds.{is_some, is_unescaped, name_stays, told_by, token_stays}
+use Rattle.sw_convert_texts.specs.RawKinds.{goes_on, is_colour, is_hex, stands_behind, sort_behind, is_some, is_unescaped, name_stays, told_by, token_stays}
 use Rattle.sw_convert_texts.proofs.LexemePairs.{plains_in}
 use Rattle.sw_convert_texts.proofs.OldPieces.{old_piece, whole_bytes, Whole}
 
@@ -45,13 +49,15 @@ pub record RawToken (sort : Sort) (text : List ℕ) : Type 0 where
   pub kind : TokenKind
   pub closed : opens kind ≡ false
   pub seen : is_comment (sort_of kind text) ≡ false
-  pub other : before_of (Some kind) ≡ befores.Other
+  pub other : before_of (Some kind) ≡ sort_behind sort
   pub some : 0 < length text
   pub black : is_white (byte text 0) ≡ false
-  pub token : (after : List ℕ) → token_stays sort text (byte after 0) ≡ true → (before : Before) → is_calm before ≡ true
-      → piece (text ++ after) insides.Sheet before 0 ≡ made kind (length text) changes.Keep
+  pub token : (after : List ℕ) → token_stays sort text after ≡ true → (before : Before)
+      → stands_behind before sort text ≡ true → piece (text ++ after) insides.Sheet before 0 ≡ made kind (length text) changes.Keep
   pub raw : (mode : Mode) (around : Around) (spaced : Bool) (rest : List Written) → RawText mode around rest
       → RawText mode around (written (sort_of kind text) spaced terminals.Raw ∷ rest)
+  pub same : is_begin sort ≡ true → sort_of kind text ≡ sort
+  pub neutral : is_neutral (sort_of kind text) ≡ true
 
 -- ---- names
 
@@ -66,36 +72,47 @@ pub unescaped : (xs : List ℕ) → list_all is_unescaped xs ≡ true → ends_u
 unfolding ends_unclosed
 unescaped xs all = ap takes_white (state_none xs all)
 
+second : (a c : Bool) → a ≡ true → (a && c) ≡ false → c ≡ false
+second true c e f = f
+second false c e f = absurd (cc)
+
 -- what the byte behind a name isn't
 behind_name : (text after : List ℕ) → name_stays text (byte after 0) ≡ true → Behind text after
 behind_name text after e =
-    let rest = and_right (list_all is_unescaped text) _ e in
     let b = byte after 0 in
-    let none = not_true _ (and_left (not (is_name_byte b || ((b == sign "\\") || ((b == LINE_FEED) || (is_plus_or_minus b || (b == sign "=")))))) _ rest) in
-    let one = or_right (is_name_byte b) _ none in
-    let two = or_right (b == sign "\\") _ one in
-    let three = or_right (b == LINE_FEED) _ two in record {
-      dim = record {
-        name = or_left (is_name_byte b) _ none;
-        slash = or_left (b == sign "\\") _ one;
-        feed = or_left (b == LINE_FEED) _ two;
-        sign_before = or_left (is_plus_or_minus b) _ three;
-        equals = or_right (is_plus_or_minus b) _ three;
-      };
-      closed = right_no (begins_white after) (ends_unclosed text) (unescaped text (and_left (list_all is_unescaped text) _ e));
-      url = λ paren. second (b == sign "(") (is_url text) paren
-          (not_true _ (and_right (not (is_name_byte b || ((b == sign "\\") || ((b == LINE_FEED) || (is_plus_or_minus b || (b == sign "=")))))) _ rest));
+    let one = and_right (not (ends_unclosed text)) _ e in
+    let dark = not_true (goes_on b) (and_left (not (goes_on b)) _ one) in
+    let two = and_right (not (goes_on b)) _ one in
+    let feed = not_true _ (and_left (not ((byte text (length text - 1) == CARRIAGE_RETURN) && (b == LINE_FEED))) _ two) in
+    let three = and_right (not ((byte text (length text - 1) == CARRIAGE_RETURN) && (b == LINE_FEED))) _ two in
+    let range = not_true _ (and_left (not ((b == sign "+") && ((length text == 1) && is_u (byte text 0)))) _ three) in
+    let url = not_true _ (and_right (not ((b == sign "+") && ((length text == 1) && is_u (byte text 0)))) _ three) in record {
+      name = or_left (is_name_byte b) _ dark;
+      slash = or_right (is_name_byte b) _ dark;
+      feed = feed;
+      closed = right_no (begins_white after) (ends_unclosed text) (not_true (ends_unclosed text) (and_left (not (ends_unclosed text)) _ e));
+      range = λ plus one. second (length text == 1) (is_u (byte text 0)) (same (length text) one) (second (b == sign "+") _ plus range);
+      url = λ paren. second (b == sign "(") (is_url text) paren url;
     }
   where
-    second : (a c : Bool) → a ≡ true → (a && c) ≡ false → c ≡ false
-    second true c e f = f
-    second false c e f = absurd (cc)
+    same : (n : ℕ) → n ≡ 1 → (n == 1) ≡ true
+    same n e = grind (arith, nat_tests)
 
-name_there : (sort : Sort) (text : List ℕ) (b : ℕ) → is_name sort ≡ true → token_stays sort text b ≡ true
-    → name_stays text b ≡ true
-name_there sort text b n e =
-    sym (if_true (is_name sort) (name_stays text b) (told_by sort text b) n)
+name_there : (sort : Sort) (text after : List ℕ) → is_name sort ≡ true → token_stays sort text after ≡ true
+    → name_stays text (byte after 0) ≡ true
+name_there sort text after n e =
+    sym (if_true (is_name sort) (name_stays text (byte after 0)) (told_by sort text after) n)
     ∙ and_right (is_some text) _ e
+
+pub name_leaves : (sort : Sort) → is_name sort ≡ true → sort_behind sort ≡ befores.Other
+name_leaves sorts.Hash e = absurd (cc)
+name_leaves sorts.Dollar e = absurd (cc)
+name_leaves _ e = refl
+
+no_colour : (sort : Sort) (text : List ℕ) → is_name sort ≡ true → stands_behind befores.Hash sort text ≡ true
+    → is_colour text ≡ false
+no_colour sort text n e =
+    not_true (is_colour text) (sym (if_true (is_name sort) (not (is_colour text)) (is_hex sort) n) ∙ e)
 
 module _ (source : Source) (was : WasRead source) (k : ℕ) (lexeme : Lexeme) (there : lexeme_at source k ≡ Some lexeme) where
   abbrev sort_here : Sort
@@ -117,12 +134,22 @@ module _ (source : Source) (was : WasRead source) (k : ℕ) (lexeme : Lexeme) (t
             kind = kind;
             closed = name_opens kind k_is;
             seen = name_comment (sort_of kind text) (ap is_name (sym sort) ∙ n);
-            other = name_behind kind k_is;
+            other = name_behind kind k_is ∙ sym (name_leaves sort_here n);
             some = it.some;
             black = name_black text it.after [] kind it.change k_is it.some named (nothing_parts text);
-            token = λ after stays before calm.
-                token_at text it.after after kind it.change k_is it.some named
-                (behind_name text after (name_there sort_here text (byte after 0) n stays)) insides.Sheet before refl calm
+            token = λ after stays before stands.
+                by before stands after (behind_name text after (name_there sort_here text after n stays)) named
                 ∙ ap (made kind (length text)) keep;
             raw = λ mode around spaced rest more. told.raw_name (sort_of kind text) (ap is_name (sym sort) ∙ n) more;
+            same = λ e. sym sort;
+            neutral = name_neutral (sort_of kind text) (ap is_name (sym sort) ∙ n);
           }
+        where
+          by : (before : Before) → stands_behind before sort_here text ≡ true → (after : List ℕ) → Behind text after
+              → name_piece (text ++ it.after) 0 ≡ made kind (length text) it.change
+              → piece (text ++ after) insides.Sheet before 0 ≡ made kind (length text) it.change
+          by befores.White stands after beyond named = token_at text it.after after kind it.change k_is it.some named beyond insides.Sheet befores.White refl refl
+          by befores.Other stands after beyond named = token_at text it.after after kind it.change k_is it.some named beyond insides.Sheet befores.Other refl refl
+          by befores.Dollar stands after beyond named = dollar_at text it.after after kind it.change k_is it.some named beyond insides.Sheet refl
+          by befores.Hash stands after beyond named =
+              hash_at text it.after after kind it.change k_is it.some named beyond (no_colour sort_here text n stands) insides.Sheet refl

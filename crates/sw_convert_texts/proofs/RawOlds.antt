@@ -6,15 +6,20 @@ use Rattle.std.proofs.lemmas.Bool.Decides.{nat_tests}
 use Rattle.std.proofs.lemmas.Slice.Eq.{bytes_eq-Decides}
 use Rattle.sw_text_scan.specs.Bytes.{is_white}
 use Rattle.sw_text_scan.proofs.Bounds.{and_left, and_right, not_true}
+use Rattle.sw_tokens.specs.declared.pieces.Before.{Before}
+use Rattle.sw_tokens.specs.declared.pieces.Before.TheVariants as befores
 use Rattle.sw_parse_terminals.specs.declared.terminal.Terminal.{Terminal}
+use Rattle.sw_parse_terminals.specs.declared.terminal.Terminal.TheVariants as terminals
+use Rattle.sw_parse_terminals.specs.Numbers.{just}
 use Rattle.sw_parse_lexemes.specs.declared.state.Mode.{Mode}
 use Rattle.sw_parse_table.specs.declared.source.Source.{Source}
 use Rattle.sw_parse_table.specs.Parts.{Part, Inserts}
 use Rattle.sw_parse_table.specs.Sources.{Texts, begun, bytes, from_at, to_at, bytes_at, is_commented, pieces_from}
-use Rattle.sw_convert_again.specs.Tokens.{Tok, Extent, extent}
+use Rattle.sw_convert_spelling.specs.Spelt.{behind_gap}
+use Rattle.sw_convert_again.specs.Tokens.{Old, Tok, Extent, extent}
 use Rattle.sw_convert_again.specs.Spells.{extents_of}
 use Rattle.sw_convert_again.specs.RawTexts.{Brackets, parens, squares, braces, SpellsRawItem, SpellsRawText, raw_token, raw_insert, raw_brackets, raw_end, raw_more}
-use Rattle.sw_convert_texts.specs.RawKinds.{gap_before, item_text, row_text, is_some, opening_text, closing_text, is_bracketed, is_beside, item_known, row_known}
+use Rattle.sw_convert_texts.specs.RawKinds.{closing_text, gap_before, is_beside, is_bracketed, is_some, item_known, item_text, leaves, opening_text, row_known, row_text, sort_there, token_stays}
 use Rattle.sw_convert_texts.proofs.JoinedTexts.{slice_some}
 use Rattle.sw_convert_texts.proofs.AroundTexts.{lones, cut_before, around_texts, CutFrom, Step, Beside, cut_token, cut_insert, first_token, first_insert}
 use Rattle.sw_convert_texts.proofs.SeamedTexts.{in_insert, IsSeamed, SeamedFrom, seamed_token, seamed_value, seamed_first, value_first}
@@ -127,6 +132,11 @@ module _ (source : Source) (mode : Mode) where
 
   -- ---- item by item
 
+  some_token : {i : ℕ} (old : Old source i (just terminals.Raw)) (before : Before) (behind : List ℕ)
+      → item_known source mode (raw_token old) before behind ≡ true → is_some (bytes_at source i) ≡ true
+  some_token {i} old before behind e =
+      and_left (is_some (bytes_at source i)) _ (and_left (token_stays (sort_there old) (bytes_at source i) behind) _ e)
+
   module _ (to end : ℕ) where
     -- from the token at a place on
     pub record From (at : ℕ) (parts : List Part) (cuts : Texts) (text : List ℕ) : Type 0 where
@@ -146,14 +156,14 @@ module _ (source : Source) (mode : Mode) where
 
     mutual
       pub old_item : {i k : ℕ} {parts : List Part} {tokens : List Tok} {extents : List Extent}
-          (item : SpellsRawItem source i k parts tokens extents) (behind : List ℕ) → is_beside source i ≡ true
-          → item_known source mode item behind ≡ true → (more : List Part) (cuts : Texts) → From (k - 1) more cuts behind
+          (item : SpellsRawItem source i k parts tokens extents) (before : Before) (behind : List ℕ) → is_beside source i ≡ true
+          → item_known source mode item before behind ≡ true → (more : List Part) (cuts : Texts) → From (k - 1) more cuts behind
           → From (i - 1) (parts ++ more) (begun (gap_before source i) (item_cut source item cuts))
           (gap_before source i ++ item_text source item behind)
-      old_item (raw_token {i = i} old) behind b e more cuts rest =
-          token_from i (suc i - 1) more cuts behind (beside_told source i b) (and_left (is_some (bytes_at source i)) _ e)
+      old_item (raw_token {i = i} old) before behind b e more cuts rest =
+          token_from i (suc i - 1) more cuts behind (beside_told source i b) (some_token old before behind e)
           (let z : suc i - 1 ≡ i = omega arith in z) rest
-      old_item (raw_insert {i = i} {c = c} {value = value} opens inner close) behind b e more cuts rest =
+      old_item (raw_insert {i = i} {c = c} {value = value} opens inner close) before behind b e more cuts rest =
           let it = beside_told source i b in
           let here : From c more cuts behind =
           subst (λ (m : ℕ). From m more cuts behind) (let z : suc c - 1 ≡ c = omega arith in z) rest in record {
@@ -162,7 +172,7 @@ module _ (source : Source) (mode : Mode) where
             seamed = subst (λ (m : ℕ). SeamedFrom source to end (i - 1) (Inserts m (suc c) value ∷ more) (gap_before source i ++ in_insert value behind))
                 it.place (seamed_value source to end (i - 1) c (gap_before source i) value more behind it.beside here.seamed);
           }
-      old_item (raw_brackets {i = i} {c = c} {parts = parts} kind opens text close) behind b e more cuts rest =
+      old_item (raw_brackets {i = i} {c = c} {parts = parts} kind opens text close) before behind b e more cuts rest =
           let it = brackets_told i c kind (and_left (is_bracketed mode kind && _) _ e) in
           let inner = and_right (is_bracketed mode kind && _) _ e in
           let known = and_right (is_beside source c) _ inner in
@@ -172,22 +182,26 @@ module _ (source : Source) (mode : Mode) where
           (row_cut source text (begun (gap_before source c) (begun (bytes_at source c) cuts)))
           (row_text source text (gap_before source c ++ (bytes_at source c ++ behind)))
           (beside_told source i b) it.opening_some (let z : suc i - 1 ≡ i = omega arith in z)
-          (old_row text (gap_before source c ++ (bytes_at source c ++ behind)) known more
+          (old_row text befores.Other (gap_before source c ++ (bytes_at source c ++ behind)) known more
           (begun (gap_before source c) (begun (bytes_at source c) cuts)) last)
 
       pub old_row : {i j : ℕ} {parts : List Part} {tokens : List Tok} {extents : List Extent}
-          (row : SpellsRawText source i j parts tokens extents) (behind : List ℕ) → row_known source mode row behind ≡ true
+          (row : SpellsRawText source i j parts tokens extents) (start : Before) (behind : List ℕ)
+          → row_known source mode row start behind ≡ true
           → (more : List Part) (cuts : Texts) → From (j - 1) more cuts behind
           → From (i - 1) (parts ++ more) (row_cut source row cuts) (row_text source row behind)
-      old_row raw_end behind e more cuts rest = rest
-      old_row (raw_more {i = i} {parts = parts} {more = others} item text) behind e more cuts rest =
+      old_row raw_end start behind e more cuts rest = rest
+      old_row (raw_more {i = i} {parts = parts} {more = others} item text) start behind e more cuts rest =
           let known = and_right (is_beside source i) _ e in
           subst (λ (list : List Part). From (i - 1) list (begun (gap_before source i) (item_cut source item (row_cut source text cuts)))
           (gap_before source i ++ item_text source item (row_text source text behind)))
           (sym (append_assoc parts others more))
-          (old_item item (row_text source text behind) (and_left (is_beside source i) _ e)
-          (and_left (item_known source mode item (row_text source text behind)) _ known) (others ++ more) (row_cut source text cuts)
-          (old_row text behind (and_right (item_known source mode item (row_text source text behind)) _ known) more cuts rest))
+          (old_item item (behind_gap start (gap_before source i)) (row_text source text behind) (and_left (is_beside source i) _ e)
+          (and_left (item_known source mode item (behind_gap start (gap_before source i)) (row_text source text behind)) _ known)
+          (others ++ more) (row_cut source text cuts)
+          (old_row text (leaves item) behind
+          (and_right (item_known source mode item (behind_gap start (gap_before source i)) (row_text source text behind)) _ known)
+          more cuts rest))
 
     -- ---- from the first token on
 
@@ -206,19 +220,20 @@ module _ (source : Source) (mode : Mode) where
         }
 
     pub old_whole : {i k : ℕ} {parts : List Part} {tokens : List Tok} {extents : List Extent}
-        (item : SpellsRawItem source i k parts tokens extents) (behind : List ℕ) → item_known source mode item behind ≡ true
+        (item : SpellsRawItem source i k parts tokens extents) (before : Before) (behind : List ℕ)
+        → item_known source mode item before behind ≡ true
         → (more : List Part) (cuts : Texts) → From (k - 1) more cuts behind
         → Whole i (parts ++ more) (item_cut source item cuts) (item_text source item behind)
-    old_whole (raw_token {i = i} old) behind e more cuts rest =
-        token_whole i (suc i - 1) more cuts behind (and_left (is_some (bytes_at source i)) _ e)
+    old_whole (raw_token {i = i} old) before behind e more cuts rest =
+        token_whole i (suc i - 1) more cuts behind (some_token old before behind e)
         (let z : suc i - 1 ≡ i = omega arith in z) rest
-    old_whole (raw_insert {i = i} {c = c} {value = value} opens inner close) behind e more cuts rest =
+    old_whole (raw_insert {i = i} {c = c} {value = value} opens inner close) before behind e more cuts rest =
         let here : From c more cuts behind =
         subst (λ (m : ℕ). From m more cuts behind) (let z : suc c - 1 ≡ c = omega arith in z) rest in record {
           cut = first_insert source to end i c (extents_of more) cuts here.cut;
           seamed = value_first source to end i c value more behind here.seamed;
         }
-    old_whole (raw_brackets {i = i} {c = c} {parts = parts} kind opens text close) behind e more cuts rest =
+    old_whole (raw_brackets {i = i} {c = c} {parts = parts} kind opens text close) before behind e more cuts rest =
         let it = brackets_told i c kind (and_left (is_bracketed mode kind && _) _ e) in
         let inner = and_right (is_bracketed mode kind && _) _ e in
         let known = and_right (is_beside source c) _ inner in
@@ -228,5 +243,5 @@ module _ (source : Source) (mode : Mode) where
         (row_cut source text (begun (gap_before source c) (begun (bytes_at source c) cuts)))
         (row_text source text (gap_before source c ++ (bytes_at source c ++ behind)))
         it.opening_some (let z : suc i - 1 ≡ i = omega arith in z)
-        (old_row text (gap_before source c ++ (bytes_at source c ++ behind)) known more
+        (old_row text befores.Other (gap_before source c ++ (bytes_at source c ++ behind)) known more
         (begun (gap_before source c) (begun (bytes_at source c) cuts)) last)

@@ -2,6 +2,9 @@
 use Rattle.std.proofs.Common.{◌≡◌, ℕ, suc, ◌+◌, ◌-◌, Bool, true, false, not, List, [], ◌∷◌, ◌++◌, length, refl, sym, ◌∙◌, ap, subst, arith, append_assoc, append-nil, length-append}
 use Rattle.std.specs.Prelude.{codes}
 use Rattle.std.specs.List.{list_all}
+use Rattle.sw_convert_texts.specs.RuleTexts.{item_sort, item_bare, row_bare}
+use Rattle.sw_convert_texts.proofs.RawHeads.{Head, Walks, one_walks, is_one, RowHead}
+use Rattle.sw_text_scan.proofs.Bounds.{and_left, and_right}
 use Rattle.sw_text_scan.specs.Bytes.{sign, byte, is_white}
 use Rattle.sw_tree.specs.declared.expr.Expr.{Expr}
 use Rattle.sw_tokens.specs.declared.pieces.Before.{Before}
@@ -27,12 +30,11 @@ use Rattle.sw_convert_heads_passing.specs.RawTexts as told
 use Rattle.sw_convert_again.specs.Tokens.{Said, Nothing, Says, Extent, extent, shifted, Tok, tok, Old, saying}
 use Rattle.sw_convert_again.specs.Tokens as again
 use Rattle.sw_convert_again.specs.Spells.{Spells, within}
-use Rattle.sw_convert_again.specs.RawTexts.{SpellsRawItem, SpellsRawText, raw_token, raw_insert}
-use Rattle.sw_convert_tokens.specs.Joints.{Seen, Joint, Token, text, toks, writtens, behind, Stand, Sit, Tell}
+use Rattle.sw_convert_again.specs.RawTexts.{SpellsRawItem, SpellsRawText, raw_token, raw_insert, raw_end, raw_more}
+use Rattle.sw_convert_tokens.specs.Joints.{Seen, Joint, Token, text, toks, writtens, behind, Stand, Sit, Tell, written_of}
 use Rattle.sw_convert_tokens.specs.Values.{WasRead}
-use Rattle.sw_convert_tokens.specs.Written.{is_calm}
 use Rattle.sw_convert_tokens.proofs.Joins.{text_append, toks_append, writtens_append, behind_append, tell_append}
-use Rattle.sw_convert_texts.specs.RawKinds.{item_text, row_text, sort_there, item_known}
+use Rattle.sw_convert_texts.specs.RawKinds.{item_known, item_text, leaves, row_text, sort_there, token_stays}
 use Rattle.sw_convert_texts.proofs.AroundTexts.{lones, cut_before, around_texts, CutFrom, cut_token, cut_insert, first_token, first_insert}
 use Rattle.sw_convert_texts.proofs.Inserts.{Inner, inner_items, opening_behind, closing, value_stand}
 use Rattle.sw_convert_texts.proofs.RawOlds.{item_cut, row_cut}
@@ -89,27 +91,38 @@ pub record ItemIs (source : Source) (mode : Mode) {i k : ℕ} {parts : List Part
   pub spelling : (rest : List ℕ) → text joints ++ rest ≡ gap ++ item_text source item rest
   pub seen : toks joints ≡ saying said tokens
   pub counted : length (toks joints) ≡ length tokens
-  pub last : behind before joints ≡ befores.Other
+  pub last : behind before joints ≡ leaves item
   pub ended : (b : Bool) → ends_apart b joints ≡ false
   pub raw : IsRaw mode joints
   pub tells : TellBefore said joints
   pub ends : EndThere joints (length tokens)
+  pub head : Head (item_sort item) (is_spaced (behind_gap before gap)) (writtens joints)
+  pub one : is_one item ≡ true → head.tail ≡ []
+  pub walks : item_bare item ≡ true → Walks (writtens joints)
   pub placed : Placed joints (length tokens) extents (λ cuts. begun gap (item_cut source item cuts))
   pub first : Begun joints (length tokens) extents (item_cut source item)
   pub stand : StandBefore before joints behind_text
 
+-- what stands directly before the token behind items
+abbrev pub row_leaves : {source : Source} {i j : ℕ} {parts : List Part} {tokens : List Tok} {extents : List Extent}
+    → Before → SpellsRawText source i j parts tokens extents → Before
+row_leaves start raw_end = start
+row_leaves start (raw_more item row) = row_leaves (leaves item) row
+
 -- items
 pub record RowIs (source : Source) (mode : Mode) {i j : ℕ} {parts : List Part} {tokens : List Tok} {extents : List Extent}
-    (row : SpellsRawText source i j parts tokens extents) (behind_text : List ℕ) : Type 0 where
+    (row : SpellsRawText source i j parts tokens extents) (start : Before) (behind_text : List ℕ) : Type 0 where
   pub joints : List Joint
   pub spelling : (rest : List ℕ) → text joints ++ rest ≡ row_text source row rest
   pub seen : toks joints ≡ tokens
-  pub last : behind befores.Other joints ≡ befores.Other
+  pub last : behind start joints ≡ row_leaves start row
   pub ended : ends_apart false joints ≡ false
   pub raw : IsRaw mode joints
   pub tells : Tell joints
+  pub head : RowHead start row (writtens joints)
+  pub walks : row_bare row ≡ true → Walks (writtens joints)
   pub placed : Placed joints (length tokens) extents (row_cut source row)
-  pub stand : StandBefore befores.Other joints behind_text
+  pub stand : StandBefore start joints behind_text
 
 -- white space before what begins with none
 pub white_gap : (gap own : List ℕ) → list_all is_white gap ≡ true → is_white (byte own 0) ≡ false
@@ -136,10 +149,12 @@ module _ (source : Source) (was : WasRead source) (mode : Mode) where
   }
 
   pub token_is : {i : ℕ} (old : Old source i (just terminals.Raw)) (behind_text : List ℕ) (before : Before) (gap : List ℕ)
-      (said : Said) → item_known source mode (raw_token old) behind_text ≡ true → list_all is_white gap ≡ true
-      → is_calm (behind_gap before gap) ≡ true → ItemIs source mode (raw_token old) behind_text before gap said
-  token_is {i} old behind_text before gap said known white calm =
-      let token = raw_tokens.raw_token source was i old.lexeme old.there (byte behind_text 0) known in
+      (said : Said) → item_known source mode (raw_token old) (behind_gap before gap) behind_text ≡ true
+      → list_all is_white gap ≡ true → ItemIs source mode (raw_token old) behind_text before gap said
+  token_is {i} old behind_text before gap said known white =
+      let stays = and_left (token_stays (sort_there old) (bytes_at source i) behind_text) _ known in
+      let stands = and_right (token_stays (sort_there old) (bytes_at source i) behind_text) _ known in
+      let token = raw_tokens.raw_token source was i old.lexeme old.there behind_text stays in
       let seen = raw_seen token before gap said in record {
         joints = Token seen ∷ [];
         spelling = spelt_one gap (bytes_at source i);
@@ -150,6 +165,9 @@ module _ (source : Source) (was : WasRead source) (mode : Mode) where
         raw = λ around rest more. token.raw mode around seen.spaced rest more;
         tells = λ others more says. (says, more);
         ends = λ new commented at front after sit. sit_first new commented at front seen [] after sit refl;
+        head = record { head = written_of (Token seen); tail = []; is = refl; same = token.same; spaced_is = refl };
+        one = λ e. refl;
+        walks = λ e. one_walks (written_of (Token seen)) token.neutral;
         placed = λ new at front after to end more cuts here sit rest.
             cut_token new to end at gap (bytes_at source i) more cuts (step_sits new at front seen after here sit.0)
             (subst (λ (n : ℕ). CutFrom new to end n more cuts) (let z : at + 1 ≡ suc at = omega arith in z) rest);
@@ -163,8 +181,8 @@ module _ (source : Source) (was : WasRead source) (mode : Mode) where
           token.some,
           (refl, token.seen),
           λ e. absurd (let no : true ≡ false = sym e ∙ token.closed in cc),
-          token.token (behind_text ++ after) (stays_behind (sort_there old) (bytes_at source i) behind_text after ends known)
-              (behind_gap before gap) calm,
+          token.token (behind_text ++ after) (stays_behind (sort_there old) (bytes_at source i) behind_text after ends stays)
+              (behind_gap before gap) stands,
           refl,
         );
       }
@@ -258,6 +276,15 @@ module _ (source : Source) (was : WasRead source) (mode : Mode) where
       ends = λ new commented at front after sit.
           ap (λ (n : ℕ). to_at new ((at + n) - 1)) (sym (ap length insert_seen))
           ∙ sit_first new commented at front opened (list ++ closed ∷ []) after sit (ends_append false list (closed ∷ []));
+      head = record {
+        head = written_of (Token opened);
+        tail = writtens (list ++ closed ∷ []);
+        is = refl;
+        same = λ e. refl;
+        spaced_is = refl;
+      };
+      one = λ e. absurd (cc);
+      walks = λ e. absurd (cc);
       placed = insert_placed;
       first = insert_first;
       stand = λ after ends.

@@ -1,42 +1,45 @@
 -- Raw text without comments that was read is written as its tokens.
-use Rattle.std.proofs.Common.{◌≡◌, ◌⊎◌, ◌<◌, ℕ, suc, ◌+◌, ◌-◌, Bool, true, false, inl, inr, List, [], ◌∷◌, ◌++◌, map, length, refl, sym, ◌∙◌, ap, subst, arith, append-nil, length-append}
+use Rattle.std.proofs.Common.{◌≡◌, ◌⊎◌, ◌<◌, ℕ, suc, ◌+◌, ◌-◌, Bool, true, false, inl, inr, List, [], ◌∷◌, ◌++◌, map, length, refl, sym, ◌∙◌, ap, subst, arith, append-nil, length-append, ◌&&◌}
 use Rattle.std.specs.Prelude.{◌==◌, ◌||◌, codes}
 use Rattle.std.specs.List.{list_all}
+use Rattle.sw_convert_spelling.specs.Spelt.{behind_gap}
+use Rattle.sw_convert_written.specs.Rules.{has_more, is_cut, rule_pieces}
+use Rattle.sw_convert_passing.specs.Written.{Written}
 use Rattle.sw_text_scan.specs.Bytes.{sign, byte, is_white}
-use Rattle.sw_text_scan.proofs.Bounds.{and_left, and_right}
+use Rattle.sw_text_scan.proofs.Bounds.{and_left, and_right, if_false, not_true}
 use Rattle.sw_tokens.specs.declared.pieces.Before.{Before}
 use Rattle.sw_tokens.specs.declared.pieces.Before.TheVariants as befores
 use Rattle.sw_parse_lexemes.specs.declared.state.Mode.{Mode}
 use Rattle.sw_parse_table.specs.declared.source.Source.{Source}
 use Rattle.sw_parse_table.specs.Parts.{Part}
 use Rattle.sw_parse_table.specs.declared.gap.Stretch.{Stretch}
-use Rattle.sw_parse_table.specs.Sources.{Texts, to_at, text_pieces, texts, plain_parts, stretch_between, pieces_from, text_between, behind as behind_value}
+use Rattle.sw_parse_table.specs.Sources.{Texts, to_at, text_pieces, texts, plain_parts, stretch_between, pieces_from, text_between, behind as behind_value, parts_between}
 use Rattle.sw_convert_spelling.proofs.MovedRuns.{first_byte}
 use Rattle.sw_convert_written.specs.declared.manner.Manner.TheVariants as manners
 use Rattle.sw_convert_written.specs.Escapes.{ends_unclosed}
 use Rattle.sw_convert_written.specs.Heads.{raw_text}
-use Rattle.sw_convert_written.specs.Pieces.{pieces_text}
+use Rattle.sw_convert_written.specs.Pieces.{pieces_text, Written as Piece}
 use Rattle.sw_convert_written.specs.Expressions.{parts_written}
 use Rattle.sw_convert_written.proofs.Unrolled as unrolled
-use Rattle.sw_convert_heads_passing.specs.RawTexts.{RawText, Outside}
+use Rattle.sw_convert_heads_passing.specs.RawTexts.{RawText, Outside, Around}
 use Rattle.sw_convert_heads_passing.specs.RawTexts as told
 use Rattle.sw_convert_again.specs.Tokens.{Said, Says, Extent, shifted, Tok, saying}
 use Rattle.sw_convert_again.specs.Spells.{extents_of, text_said}
-use Rattle.sw_convert_again.specs.RawTexts.{SpellsRawItem, SpellsRawText, raw_token, raw_insert, raw_brackets, raw_end, raw_more}
+use Rattle.sw_convert_again.specs.RawTexts.{SpellsRawItem, SpellsRawText, raw_token, raw_insert, raw_brackets, raw_end, raw_more, raw_tokens}
 use Rattle.sw_convert_tokens.specs.Joints.{Joint, text, toks, writtens, behind, Sit}
 use Rattle.sw_convert_tokens.specs.Values.{WasRead}
-use Rattle.sw_convert_tokens.specs.Written.{gap_of}
+use Rattle.sw_convert_tokens.specs.Written.{gap_of, is_calm}
 use Rattle.sw_convert_tokens.proofs.Joins.{text_behind, toks_append, behind_append, sit_left}
 use Rattle.sw_convert_texts.specs.Inserted.{RawItemHasValues, RawTextHasValues}
-use Rattle.sw_convert_texts.specs.RawKinds.{item_text, row_text, item_known, row_known, RawTextsAreWritten}
-use Rattle.sw_convert_texts.specs.RawTexts.{ends_statement, EndsText, IsText}
+use Rattle.sw_convert_texts.specs.RawKinds.{is_uncut, SelectorsAreWritten, leaves, item_text, row_text, item_known, row_known, RawTextsAreWritten}
+use Rattle.sw_convert_texts.specs.RawTexts.{ends_statement, EndsText, IsText, RawWritten, SheetSegment}
 use Rattle.sw_convert_texts.proofs.JoinedTexts.{lone}
 use Rattle.sw_convert_texts.proofs.AroundTexts.{lones, around_texts, around_is, CutFrom, cut_end}
 use Rattle.sw_convert_texts.proofs.SeamedTexts.{seamed, seamed_last, seamed_end}
 use Rattle.sw_convert_texts.proofs.RawOlds.{item_cut, row_cut, From, Whole, old_row, old_whole}
 use Rattle.sw_convert_texts.proofs.RawSits.{shifted_append, shifted_twice, ends_apart, sit_right}
 use Rattle.sw_convert_texts.proofs.RawTokens.{is_end}
-use Rattle.sw_convert_texts.proofs.RawRows.{Begun, EndThere, FirstSays, Placed, ItemIs, RowIs}
+use Rattle.sw_convert_texts.proofs.RawRows.{row_leaves, Begun, EndThere, FirstSays, Placed, ItemIs, RowIs}
 use Rattle.sw_convert_texts.proofs.RawJoined.{row_stand, row_raw, item_is, row_is}
 
 -- ---- what was read
@@ -161,6 +164,17 @@ ends_first own after f = go f.ends
 
 -- ---- a whole text
 
+-- what is told of an item behind a sign is told of it behind white space
+calm_item : (mode : Mode) {source : Source} {i k : ℕ} {parts : List Part} {tokens : List Tok} {extents : List Extent}
+    (item : SpellsRawItem source i k parts tokens extents) (b : Before) → is_calm b ≡ true → (behind_text : List ℕ)
+    → item_known source mode item befores.Other behind_text ≡ true → item_known source mode item b behind_text ≡ true
+calm_item mode item befores.Other calm behind_text e = e
+calm_item mode (raw_token old) befores.White calm behind_text e = e
+calm_item mode (raw_insert opens inner close) befores.White calm behind_text e = e
+calm_item mode (raw_brackets kind opens inner close) befores.White calm behind_text e = e
+calm_item mode item befores.Hash calm behind_text e = absurd (cc)
+calm_item mode item befores.Dollar calm behind_text e = absurd (cc)
+
 module _ (source : Source) (was : WasRead source) (mode : Mode) {i k j : ℕ} {parts more : List Part} {tokens others : List Tok}
     {extents further : List Extent} (item : SpellsRawItem source i k parts tokens extents)
     (row : SpellsRawText source k j more others further) where
@@ -171,7 +185,7 @@ module _ (source : Source) (was : WasRead source) (mode : Mode) {i k j : ℕ} {p
   abbrev One : Before → Bool → Type 0
   One before spaced = ItemIs source mode item (row_text source row []) before (gap_of spaced) said
 
-  old_is : item_known source mode item (row_text source row []) ≡ true → row_known source mode row [] ≡ true
+  old_is : item_known source mode item befores.Other (row_text source row []) ≡ true → row_known source mode row (leaves item) [] ≡ true
       → Whole source mode (to_at source (j - 1)) (j - 1) i (parts ++ more) (item_cut source item (row_cut source row (lone [])))
       (item_text source item (row_text source row []))
   old_is first then =
@@ -183,10 +197,10 @@ module _ (source : Source) (was : WasRead source) (mode : Mode) {i k j : ℕ} {p
       subst (λ (list : List Part). Whole source mode to (j - 1) i (parts ++ list) (item_cut source item (row_cut source row (lone [])))
       (item_text source item (row_text source row [])))
       (append-nil more)
-      (old_whole source mode to (j - 1) item (row_text source row []) first (more ++ []) (row_cut source row (lone []))
-      (old_row source mode to (j - 1) row [] then [] (lone []) last))
+      (old_whole source mode to (j - 1) item befores.Other (row_text source row []) first (more ++ []) (row_cut source row (lone []))
+      (old_row source mode to (j - 1) row (leaves item) [] then [] (lone []) last))
 
-  says : (before : Before) (spaced : Bool) (one : One before spaced) (rest : RowIs source mode row [])
+  says : (before : Before) (spaced : Bool) (one : One before spaced) (rest : RowIs source mode row (leaves item) [])
       → around_texts source (stretch_between source i j) (extents_of (parts ++ more)) ≡ lones (item_cut source item (row_cut source row (lone [])))
       → FirstSays said (one.joints ++ rest.joints)
   says before spaced one rest old new commented at front after sit =
@@ -197,18 +211,37 @@ module _ (source : Source) (was : WasRead source) (mode : Mode) {i k j : ℕ} {p
       ∙ cut_there new one.joints rest.joints (length tokens) (length others) extents further (item_cut source item)
       (row_cut source row) (some_tokens item) one.counted one.ended one.ends one.first rest.placed commented at front after sit)
 
-  whole_written : item_known source mode item (row_text source row []) ≡ true → row_known source mode row [] ≡ true
-      → RawItemHasValues item → RawTextHasValues row
-      → IsText source mode i j (parts ++ more) (extents ++ shifted (length tokens) further) (tokens ++ others)
-  whole_written first then has values before spaced calm =
+  -- what is written of it
+  abbrev pub own_text : List ℕ
+  own_text = raw_text (text_between source i j (parts ++ more))
+
+  abbrev pub own_tokens : List Tok
+  own_tokens = raw_tokens source i j (parts ++ more) (extents ++ shifted (length tokens) further) (tokens ++ others)
+
+  -- the whole text as it is written
+  pub record WholeText (before : Before) (spaced : Bool) : Type 0 where
+    pub one : One before spaced
+    pub rest : RowIs source mode row (leaves item) []
+    pub segment : SheetSegment before (gap_of spaced ++ own_text) own_tokens (writtens (one.joints ++ rest.joints))
+        (row_leaves (leaves item) row) (EndsText own_text)
+
+  white_gap_of : (spaced : Bool) → list_all is_white (gap_of spaced) ≡ true
+  white_gap_of true = refl
+  white_gap_of false = refl
+
+  pub whole_text : item_known source mode item befores.Other (row_text source row []) ≡ true
+      → row_known source mode row (leaves item) [] ≡ true → RawItemHasValues item → RawTextHasValues row
+      → (before : Before) (spaced : Bool) → is_calm (behind_gap before (gap_of spaced)) ≡ true → WholeText before spaced
+  whole_text first then has values before spaced calm =
       let old = old_is first then in
       let one : One before spaced =
-      item_is source was mode item (row_text source row []) before (gap_of spaced) said first (white_gap_of spaced) calm has in
-      let rest = row_is source was mode row [] then values in
+      item_is source was mode item (row_text source row []) before (gap_of spaced) said
+      (calm_item mode item (behind_gap before (gap_of spaced)) calm (row_text source row []) first) (white_gap_of spaced) has in
+      let rest = row_is source was mode row (leaves item) [] then values in
       let xs = one.joints in
       let ys = rest.joints in record {
-        end = befores.Other;
-        passed = writtens (xs ++ ys);
+        one = one;
+        rest = rest;
         segment = record {
           joints = xs ++ ys;
           spelling = sym (append-nil (text (xs ++ ys))) ∙ text_behind xs ys []
@@ -221,18 +254,43 @@ module _ (source : Source) (was : WasRead source) (mode : Mode) {i k j : ℕ} {p
           last = behind_append before xs ys ∙ ap (λ (b : Before). behind b ys) one.last ∙ rest.last;
           tells = one.tells ys rest.tells (says before spaced one rest old.cut);
           stand = λ after ok.
-              row_stand before xs ys [] (row_text source row []) one.stand one.last (rest.spelling []) rest.stand after
+              row_stand before (leaves item) xs ys [] (row_text source row []) one.stand one.last (rest.spelling []) rest.stand after
               (ends_first _ after ok);
         };
-        told = subst (RawText mode Outside) (append-nil (writtens (xs ++ ys))) (row_raw mode xs ys one.raw rest.raw Outside [] told.raw_end);
       }
-    where
-      white_gap_of : (spaced : Bool) → list_all is_white (gap_of spaced) ≡ true
-      white_gap_of true = refl
-      white_gap_of false = refl
+
+  -- it is raw text before any other
+  pub whole_raw : {before : Before} {spaced : Bool} (it : WholeText before spaced) (around : Around) (others : List Written)
+      → RawText mode around others → RawText mode around (writtens (it.one.joints ++ it.rest.joints) ++ others)
+  whole_raw it around others told = row_raw mode it.one.joints it.rest.joints it.one.raw it.rest.raw around others told
+
+  whole_written : item_known source mode item befores.Other (row_text source row []) ≡ true
+      → row_known source mode row (leaves item) [] ≡ true → RawItemHasValues item → RawTextHasValues row
+      → IsText source mode i j (parts ++ more) (extents ++ shifted (length tokens) further) (tokens ++ others)
+  whole_written first then has values before spaced calm =
+      let it = whole_text first then has values before spaced calm in record {
+        end = row_leaves (leaves item) row;
+        passed = writtens (it.one.joints ++ it.rest.joints);
+        segment = it.segment;
+        told = subst (RawText mode Outside) (append-nil (writtens (it.one.joints ++ it.rest.joints)))
+            (whole_raw it Outside [] told.raw_end);
+      }
 
 pub raw_texts_written : RawTextsAreWritten
 raw_texts_written source mode i j values tokens extents was raw_end known has = absurd (cc)
 raw_texts_written source mode i j values tokens extents was (raw_more item row) known (has, more) =
-    whole_written source was mode item row (and_left (item_known source mode item (row_text source row [])) _ known)
-    (and_right (item_known source mode item (row_text source row [])) _ known) has more
+    whole_written source was mode item row (and_left (item_known source mode item befores.Other (row_text source row [])) _ known)
+    (and_right (item_known source mode item befores.Other (row_text source row [])) _ known) has more
+
+-- ---- before the block of a rule
+
+pub uncut_same : (pieces : List Piece) → is_uncut pieces ≡ true → rule_pieces pieces ≡ pieces_text manners.Seamed pieces
+uncut_same [] e = refl
+uncut_same (piece ∷ pieces) e =
+    if_false (has_more pieces && is_cut piece (piece ∷ pieces)) _ _ (not_true (has_more pieces && is_cut piece (piece ∷ pieces)) e)
+
+pub selectors_written : SelectorsAreWritten
+selectors_written source mode i j values tokens extents was spelt known uncut has =
+    subst (λ (own : List ℕ). RawWritten mode own (raw_tokens source i j values extents tokens))
+    (sym (uncut_same (parts_written (parts_between source i j values)) uncut))
+    (raw_texts_written source mode i j values tokens extents was spelt known has)

@@ -3,4 +3,5 @@ pub mod Inserted
 pub mod Names
 pub mod RawTexts
 pub mod RawKinds
+pub mod RuleTexts
 pub mod Urls

@@ -2,10 +2,13 @@
 use Rattle.std.specs.Prelude.{◌≡◌, ℕ, ◌+◌, ◌-◌, Bool, true, false, not, ◌&&◌, ◌||◌, ◌==◌, nat_le, nat_lt, if◌then◌else◌, List, [], ◌∷◌, ◌++◌, length, codes, bytes_eq}
 use Rattle.std.specs.List.{list_all}
 use Rattle.sw_text_scan.specs.declared.runs.Class.TheVariants as classes
-use Rattle.sw_text_scan.specs.declared.signs.TheConstants.{LINE_FEED}
-use Rattle.sw_text_scan.specs.Bytes.{sign, byte, is_white, is_digit, is_quote, is_name_byte}
+use Rattle.sw_text_scan.specs.declared.signs.TheConstants.{END, CARRIAGE_RETURN, LINE_FEED}
+use Rattle.sw_text_scan.specs.Bytes.{sign, byte, is_white, is_digit, is_hex_digit, is_quote, is_name_byte, starts_plainly}
 use Rattle.sw_text_scan.specs.Runs.{run_end}
-use Rattle.sw_text_scan.specs.Words.{is_plus_or_minus}
+use Rattle.sw_text_scan.specs.Words.{is_u, begins_number, unit_start, unit_end}
+use Rattle.sw_tokens.specs.declared.pieces.Before.{Before}
+use Rattle.sw_tokens.specs.declared.pieces.Before.TheVariants as befores
+use Rattle.sw_tokens.specs.Pieces.{has_hex_length}
 use Rattle.sw_parse_terminals.specs.declared.terminal.Terminal.{Terminal}
 use Rattle.sw_parse_lexemes.specs.declared.sort.Sort.{Sort}
 use Rattle.sw_parse_lexemes.specs.declared.sort.Sort.TheVariants as sorts
@@ -16,14 +19,19 @@ use Rattle.sw_parse_lexemes.specs.Classes.{is_name}
 use Rattle.sw_parse_lexemes.specs.Plains.{plains_of}
 use Rattle.sw_parse_table.specs.declared.source.Source.{Source}
 use Rattle.sw_parse_table.specs.Parts.{Part}
-use Rattle.sw_parse_table.specs.Sources.{bytes, from_at, to_at, bytes_from, bytes_at, is_commented}
-use Rattle.sw_convert_written.specs.Expressions.{is_url, expr_text}
+use Rattle.sw_parse_table.specs.Sources.{bytes, from_at, to_at, bytes_from, bytes_at, is_commented, parts_between}
+use Rattle.sw_convert_spelling.specs.Spelt.{behind_gap}
+use Rattle.sw_convert_written.specs.Escapes.{ends_unclosed}
+use Rattle.sw_convert_written.specs.Expressions.{is_url, expr_text, parts_written}
+use Rattle.sw_convert_written.specs.Pieces.{Written}
+use Rattle.sw_convert_written.specs.Rules.{has_more, is_cut}
 use Rattle.sw_convert_again.specs.Tokens.{Tok, Extent, Old}
+use Rattle.sw_convert_tokens.specs.Written.{is_stop}
 use Rattle.sw_convert_tokens.specs.Values.{WasRead}
 use Rattle.sw_convert_again.specs.RawTexts.{Brackets, parens, squares, braces, SpellsRawItem, SpellsRawText, raw_token, raw_insert, raw_brackets, raw_end, raw_more}
 use Rattle.sw_convert_texts.specs.Inserted.{RawTextHasValues}
 use Rattle.sw_convert_texts.specs.Names.{digits_and_unit}
-use Rattle.sw_convert_texts.specs.RawTexts.{IsText}
+use Rattle.sw_convert_texts.specs.RawTexts.{IsText, IsSelector}
 
 -- ---- what is written of it
 
@@ -58,45 +66,65 @@ abbrev pub sign_text : Sort → List ℕ
 sign_text sorts.Colon = codes ":"
 sign_text sorts.Comma = codes ","
 sign_text sorts.Dot = codes "."
+sign_text sorts.Ellipsis = codes "..."
+sign_text sorts.Hash = codes "#"
+sign_text sorts.Dollar = codes "$"
 sign_text sorts.Ampersand = codes "&"
 sign_text sorts.Plus = codes "+"
 sign_text sorts.Minus = codes "-"
 sign_text sorts.Star = codes "*"
+sign_text sorts.Slash = codes "/"
 sign_text sorts.Percent = codes "%"
 sign_text sorts.Exclamation = codes "!"
 sign_text sorts.Equals = codes "="
+sign_text sorts.EqualsEquals = codes "=="
+sign_text sorts.NotEquals = codes "!="
 sign_text sorts.Less = codes "<"
+sign_text sorts.LessEquals = codes "<="
 sign_text sorts.Greater = codes ">"
+sign_text sorts.GreaterEquals = codes ">="
 sign_text _ = []
-
--- where the text in a string ends
-abbrev pub string_end : List ℕ → ℕ
-string_end text = run_end (classes.SheetText (byte text 0)) text 1
 
 abbrev pub is_some : List ℕ → Bool
 is_some [] = false
 is_some (b ∷ text) = true
 
--- a sign doesn't join the byte behind it
+-- a sign doesn't join the byte behind it; no `/` is the last, since a comment may stand behind a text
 abbrev pub sign_stays : Sort → ℕ → Bool
 sign_stays sorts.Dot b = not (is_digit b || (b == sign "."))
-sign_stays sorts.Minus b = not (is_name_byte b || (b == sign "\\"))
+sign_stays sorts.Hash b = not (b == sign "{")
+sign_stays sorts.Minus b = not (starts_plainly b || ((b == sign "-") || (b == sign "\\")))
+sign_stays sorts.Slash b = not ((b == sign "/") || ((b == sign "*") || (b == END)))
 sign_stays sorts.Exclamation b = not (b == sign "=")
 sign_stays sorts.Equals b = not (b == sign "=")
 sign_stays sorts.Less b = not (b == sign "=")
 sign_stays sorts.Greater b = not (b == sign "=")
 sign_stays _ b = true
 
--- no escape begins there
-abbrev pub is_unescaped : ℕ → Bool
-is_unescaped b = not (b == sign "\\")
+-- signs that are no other token
+abbrev pub is_other : List ℕ → Bool
+is_other text = bytes_eq text (codes "~") || (bytes_eq text (codes "|") || bytes_eq text (codes "^"))
 
--- a name without escapes doesn't go on with the byte behind it, and begins no range and no url with it
+-- what goes on with a name
+abbrev pub goes_on : ℕ → Bool
+goes_on b = is_name_byte b || (b == sign "\\")
+
+-- a name at whose end no escape is open doesn't go on with the byte behind it, and begins no range and no url with it
 abbrev pub name_stays : List ℕ → ℕ → Bool
 name_stays text b =
-    list_all is_unescaped text
-    && (not (is_name_byte b || ((b == sign "\\") || ((b == LINE_FEED) || (is_plus_or_minus b || (b == sign "=")))))
-    && not ((b == sign "(") && is_url text))
+    not (ends_unclosed text)
+    && (not (goes_on b)
+    && (not ((byte text (length text - 1) == CARRIAGE_RETURN) && (b == LINE_FEED))
+    && (not ((b == sign "+") && ((length text == 1) && is_u (byte text 0)))
+    && not ((b == sign "(") && is_url text))))
+
+-- a colour
+abbrev pub is_colour : List ℕ → Bool
+is_colour text = list_all is_hex_digit text && has_hex_length (length text)
+
+-- where the text in a string ends
+abbrev pub string_end : List ℕ → ℕ
+string_end text = run_end (classes.SheetText (byte text 0)) text 1
 
 -- a whole string
 abbrev pub is_string : List ℕ → Bool
@@ -104,26 +132,55 @@ is_string text =
     is_quote (byte text 0)
     && ((byte text (string_end text) == byte text 0) && (string_end text + 1 == length text))
 
--- digits, with a unit or without, don't go on with the byte behind them
-abbrev pub number_stays : List ℕ → ℕ → Bool
-number_stays text b =
-    (is_digit (byte text 0) && digits_and_unit text)
-    && not (is_name_byte b || ((b == sign "\\") || ((b == sign "%") || (b == sign "."))))
+-- digits, with a unit or without; and any number without escapes
+abbrev pub is_digits : List ℕ → Bool
+is_digits text = is_digit (byte text 0) && digits_and_unit text
 
--- signs that are no other token
-abbrev pub is_other : List ℕ → Bool
-is_other text = bytes_eq text (codes "~") || (bytes_eq text (codes "|") || bytes_eq text (codes "^"))
+abbrev pub is_unescaped : ℕ → Bool
+is_unescaped b = not (b == sign "\\")
 
-abbrev pub told_by : Sort → List ℕ → ℕ → Bool
-told_by sorts.Quoted text b = is_string text
-told_by sorts.Unnamed text b = is_string text
-told_by sorts.Digits text b = number_stays text b
-told_by sorts.Other text b = is_other text
-told_by sort text b = bytes_eq text (sign_text sort) && sign_stays sort b
+abbrev pub is_number_text : List ℕ → Bool
+is_number_text text =
+    begins_number text 0 && ((unit_end text (unit_start text 0) == length text) && list_all is_unescaped text)
 
--- a token stays what it is before the byte behind it
-abbrev pub token_stays : Sort → List ℕ → ℕ → Bool
-token_stays sort text b = is_some text && (if is_name sort then name_stays text b else told_by sort text b)
+abbrev pub ends_number : List ℕ → Bool
+ends_number [] = true
+ends_number (b ∷ behind) = is_stop b
+
+-- a number doesn't go on with what stands behind it
+abbrev pub number_stays : List ℕ → List ℕ → Bool
+number_stays text behind =
+    if is_digits text then not (goes_on (byte behind 0) || ((byte behind 0 == sign "%") || (byte behind 0 == sign ".")))
+    else (is_number_text text && ends_number behind)
+
+abbrev pub told_by : Sort → List ℕ → List ℕ → Bool
+told_by sorts.Quoted text behind = is_string text
+told_by sorts.Unnamed text behind = is_string text
+told_by sorts.Digits text behind = number_stays text behind
+told_by sorts.Number text behind = number_stays text behind
+told_by sorts.Hex text behind = is_colour text && not (goes_on (byte behind 0))
+told_by sorts.Other text behind = is_other text
+told_by sort text behind = bytes_eq text (sign_text sort) && sign_stays sort (byte behind 0)
+
+-- a token stays what it is before this text
+abbrev pub token_stays : Sort → List ℕ → List ℕ → Bool
+token_stays sort text behind =
+    is_some text && (if is_name sort then name_stays text (byte behind 0) else told_by sort text behind)
+
+abbrev pub is_hex : Sort → Bool
+is_hex sorts.Hex = true
+is_hex _ = false
+
+-- behind a `#` stand names and colours alone, and no colour elsewhere; behind a `$` names
+abbrev pub stands_behind : Before → Sort → List ℕ → Bool
+stands_behind befores.Hash sort text = if is_name sort then not (is_colour text) else is_hex sort
+stands_behind befores.Dollar sort text = is_name sort
+stands_behind _ sort text = not (is_hex sort)
+
+abbrev pub sort_behind : Sort → Before
+sort_behind sorts.Hash = befores.Hash
+sort_behind sorts.Dollar = befores.Dollar
+sort_behind _ = befores.Other
 
 -- ---- texts
 
@@ -149,31 +206,40 @@ is_beside source i =
     && (not (is_commented source i)
     && (nat_le (to_at source (i - 1)) (from_at source i) && list_all is_white (gap_before source i)))
 
--- an item, and items, behind which this is written: without comments, names and signs that stay what they are there,
--- values in `#{}`, and brackets
+-- what stands directly before the token behind an item
+abbrev pub leaves : {source : Source} {i k : ℕ} {parts : List Part} {tokens : List Tok} {extents : List Extent}
+    → SpellsRawItem source i k parts tokens extents → Before
+leaves (raw_token old) = sort_behind (sort_there old)
+leaves _ = befores.Other
+
+-- an item, and items, behind what stands before them, and behind which this is written: without comments, names, numbers,
+-- strings and signs that stay what they are there, values in `#{}`, and brackets
 abbrev mutual
   pub item_known : (source : Source) → Mode → {i k : ℕ} {parts : List Part} {tokens : List Tok} {extents : List Extent}
-      → SpellsRawItem source i k parts tokens extents → List ℕ → Bool
-  item_known source mode (raw_token {i = i} old) behind = token_stays (sort_there old) (bytes_at source i) (byte behind 0)
-  item_known source mode (raw_insert opens inner close) behind = true
-  item_known source mode (raw_brackets {i = i} {c = c} kind opens text close) behind =
+      → SpellsRawItem source i k parts tokens extents → Before → List ℕ → Bool
+  item_known source mode (raw_token {i = i} old) before behind =
+      token_stays (sort_there old) (bytes_at source i) behind && stands_behind before (sort_there old) (bytes_at source i)
+  item_known source mode (raw_insert opens inner close) before behind = true
+  item_known source mode (raw_brackets {i = i} {c = c} kind opens text close) before behind =
       (is_bracketed mode kind
       && (bytes_eq (bytes_at source i) (opening_text kind) && bytes_eq (bytes_at source c) (closing_text kind)))
-      && (is_beside source c && row_known source mode text (gap_before source c ++ (bytes_at source c ++ behind)))
+      && (is_beside source c
+      && row_known source mode text befores.Other (gap_before source c ++ (bytes_at source c ++ behind)))
 
   pub row_known : (source : Source) → Mode → {i j : ℕ} {parts : List Part} {tokens : List Tok} {extents : List Extent}
-      → SpellsRawText source i j parts tokens extents → List ℕ → Bool
-  row_known source mode raw_end behind = true
-  row_known source mode (raw_more {i = i} item text) behind =
+      → SpellsRawText source i j parts tokens extents → Before → List ℕ → Bool
+  row_known source mode raw_end start behind = true
+  row_known source mode (raw_more {i = i} item text) start behind =
       is_beside source i
-      && (item_known source mode item (row_text source text behind) && row_known source mode text behind)
+      && (item_known source mode item (behind_gap start (gap_before source i)) (row_text source text behind)
+      && row_known source mode text (leaves item) behind)
 
--- a whole text isn't empty; before its first token anything may stand
+-- a whole text isn't empty; before its first token anything may stand but a `#` or a `$`
 abbrev pub raw_known : (source : Source) → Mode → {i j : ℕ} {parts : List Part} {tokens : List Tok} {extents : List Extent}
     → SpellsRawText source i j parts tokens extents → Bool
 raw_known source mode raw_end = false
 raw_known source mode (raw_more item text) =
-    item_known source mode item (row_text source text []) && row_known source mode text []
+    item_known source mode item befores.Other (row_text source text []) && row_known source mode text (leaves item) []
 
 -- what is written of such a text is its tokens, where this is so of the values in it
 abbrev pub RawTextsAreWritten : Type 0
@@ -181,3 +247,16 @@ RawTextsAreWritten =
     (source : Source) (mode : Mode) (i j : ℕ) (values : List Part) (tokens : List Tok) (extents : List Extent) → WasRead source
     → (spelt : SpellsRawText source i j values tokens extents) → raw_known source mode spelt ≡ true → RawTextHasValues spelt
     → IsText source mode i j values extents tokens
+
+-- no empty comment is needed behind the first piece of what stands before the block of a rule
+abbrev pub is_uncut : List Written → Bool
+is_uncut [] = true
+is_uncut (piece ∷ pieces) = not (has_more pieces && is_cut piece (piece ∷ pieces))
+
+-- the same of what stands before the block of a rule
+abbrev pub SelectorsAreWritten : Type 0
+SelectorsAreWritten =
+    (source : Source) (mode : Mode) (i j : ℕ) (values : List Part) (tokens : List Tok) (extents : List Extent) → WasRead source
+    → (spelt : SpellsRawText source i j values tokens extents) → raw_known source mode spelt ≡ true
+    → is_uncut (parts_written (parts_between source i j values)) ≡ true → RawTextHasValues spelt
+    → IsSelector source mode i j values extents tokens

@@ -1,7 +1,8 @@
 // What is written of a text in which values stand is its tokens.
 ghost use Rattle.sw_convert_texts.specs.Adjoining.{PartsAdjoin};
 ghost use Rattle.sw_convert_texts.specs.Names.{AtNamesAreWritten, CalledWordsAreWritten, CustomNamesAreWritten, WordsWithValuesAreWritten};
-ghost use Rattle.sw_convert_texts.specs.RawKinds.{RawTextsAreWritten};
+ghost use Rattle.sw_convert_texts.specs.RawKinds.{RawTextsAreWritten, SelectorsAreWritten};
+ghost use Rattle.sw_convert_texts.specs.RuleTexts.{RuleTextsAreWritten};
 ghost use Rattle.sw_convert_texts.specs.Urls.{UrlsAreWritten};
 
 /// A law: what is written of a word with `#{}` in it is its tokens, where this is so of the values in it.
@@ -40,4 +41,15 @@ pub fn parts_adjoin()
 /// brackets, where this is so of the values in it.
 pub fn raw_texts_are_written()
     ensures { RawTextsAreWritten }
+{}
+
+/// A law: and so what is written before the block of a rule, where it needs no empty comment.
+pub fn selectors_are_written()
+    ensures { SelectorsAreWritten }
+{}
+
+/// A law: and to the pass over tokens these begin a rule, where the text begins with a sign of selectors or with a name
+/// behind which none of a declaration stands.
+pub fn rule_texts_are_written()
+    ensures { RuleTextsAreWritten }
 {}
