@@ -40,4 +40,5 @@ mod Walked
 mod LaidBehind
 mod KeywordLengths
 pub mod ReadsBack
+mod KnownTexts
 pub mod Told

@@ -56,7 +56,7 @@ end_closes : (b : ℕ) → is_end b ≡ true → Ends b
 unfolding is_end
 end_closes b e = record { slash = grind (arith, nat_tests); digit = grind (arith, nat_tests) }
 
-loose_in : (x : Joint) (joints : List Joint) (stack : List Inside) (before : Before) (after front : List ℕ)
+pub loose_in : (x : Joint) (joints : List Joint) (stack : List Inside) (before : Before) (after front : List ℕ)
     → Stand stack before (x ∷ joints) [] after → ends_unclosed (front ++ text (x ∷ joints)) ≡ true
     → behind before (x ∷ joints) ≡ befores.Other
 loose_in x [] stack before after front (gap, some, told, opening, token, rest) open_end =

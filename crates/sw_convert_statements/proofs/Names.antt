@@ -13,6 +13,7 @@ use Rattle.sw_convert_written.specs.Escapes.{ends_unclosed}
 use Rattle.sw_convert_written.specs.Heads.{raw_text, spaced_raw, prelude_behind}
 use Rattle.sw_convert_passing.specs.Written.{Written}
 use Rattle.sw_convert_passing.specs.Values.{seam}
+use Rattle.sw_convert_passing.proofs.Facts.{and_left, and_right}
 use Rattle.sw_convert_again.specs.Tokens.{Tok}
 use Rattle.sw_convert_again.specs.Tokens as again
 use Rattle.sw_convert_again.specs.Statements.{SpellsStatement, SpellsOptionalRaw, no_raw, some_raw}
@@ -27,7 +28,7 @@ use Rattle.sw_convert_heads_passing.specs.Statements.{begins_else, Front, declar
 use Rattle.sw_convert_texts.specs.RawTexts.{SheetSegment, EndsText}
 use Rattle.sw_convert_statements.specs.Segments.{Anything, seams, FrontWritten}
 use Rattle.sw_convert_statements.specs.Texts.{TextsAreKnown}
-use Rattle.sw_convert_statements.specs.Names.{NamedAs, NamedFrontsAreWritten}
+use Rattle.sw_convert_statements.specs.Names.{NamedAs, is_custom, is_at_rule, optional_known, NamedFrontsAreWritten}
 use Rattle.sw_convert_statements.proofs.KnownNames.{AsProperty, AsCustom, properties_written, customs_written, at_rules_written}
 use Rattle.sw_convert_statements.proofs.Loose.{text_of_raw}
 use Rattle.sw_convert_statements.proofs.Segments.{sheet, join, as_text, as_toks, as_passed, as_behind, text_follows, value_pads, padded}
@@ -78,9 +79,10 @@ module _ {name : List ℕ} {ks : List Tok} (is : NamedAs AsProperty name ks) whe
 
 -- a custom property
 custom_written : {source : Source} {c k : ℕ} {value : Option Text} {name : List ℕ} {ks others : List Tok}
-    → NamedAs AsCustom name ks → TextsAreKnown modes.Custom source → SpellsOptionalRaw source c k value others
+    → NamedAs AsCustom name ks → TextsAreKnown modes.Custom source
+    → (raw : SpellsOptionalRaw source c k value others) → optional_known source modes.Custom raw ≡ true
     → FrontWritten modes.Custom (name ++ (codes ":" ++ spaced_raw value)) (ks ++ again.sign terminals.Colon ∷ others)
-custom_written {name = name} {ks = ks} is known no_raw before calm =
+custom_written {name = name} {ks = ks} is known no_raw told before calm =
     let one = is before calm in record {
       passed = (one.passed ++ colon ∷ []) ++ [];
       front = customised one.head raw_end;
@@ -89,9 +91,9 @@ custom_written {name = name} {ks = ks} is known no_raw before calm =
       loose = λ u. refl;
       segment = as_behind (λ after e. tt) (as_passed (sym (append-nil (one.passed ++ colon ∷ []))) (with_colon one.segment));
     }
-custom_written {name = name} {ks = ks} is known (some_raw {i} {j} {values} {tokens} {extents} spelt) before calm =
+custom_written {name = name} {ks = ks} is known (some_raw {i} {j} {values} {tokens} {extents} spelt) told before calm =
     let one = is before calm in
-    let two = text_of_raw (known i j values tokens extents spelt) befores.Other in
+    let two = text_of_raw (known i j values tokens extents spelt told) befores.Other in
     let value = raw_text (text_between _ i j values) in record {
       passed = (one.passed ++ colon ∷ []) ++ two.passed;
       front = customised one.head two.raw;
@@ -111,9 +113,10 @@ custom_written {name = name} {ks = ks} is known (some_raw {i} {j} {values} {toke
 
 -- an at-rule of CSS
 rule_written : {source : Source} {c k : ℕ} {prelude : Option Text} {name : List ℕ} {ks others : List Tok}
-    → NamedAs TextHead name ks → TextsAreKnown modes.Raw source → SpellsOptionalRaw source c k prelude others
+    → NamedAs TextHead name ks → TextsAreKnown modes.Raw source
+    → (raw : SpellsOptionalRaw source c k prelude others) → optional_known source modes.Raw raw ≡ true
     → FrontWritten modes.Raw (name ++ prelude_behind prelude name) (ks ++ others)
-rule_written {name = name} {ks = ks} is known no_raw before calm =
+rule_written {name = name} {ks = ks} is known no_raw told before calm =
     let one = is before calm in record {
       passed = one.passed;
       front = named one.head;
@@ -125,11 +128,11 @@ rule_written {name = name} {ks = ks} is known no_raw before calm =
           (as_behind (λ after e. text_follows name after (subst (λ (t : List ℕ). EndsText t after) (append-nil name) e))
           one.segment));
     }
-rule_written {name = name} {ks = ks} is known (some_raw {i} {j} {values} {tokens} {extents} spelt) before calm =
+rule_written {name = name} {ks = ks} is known (some_raw {i} {j} {values} {tokens} {extents} spelt) told before calm =
     let one = is before calm in
     let unclosed = ends_unclosed name in
     let pads = padded unclosed refl (λ u. refl) (value_pads name) one.segment in
-    let two = text_of_raw (known i j values tokens extents spelt) pads.end in
+    let two = text_of_raw (known i j values tokens extents spelt told) pads.end in
     let value = raw_text (text_between _ i j values) in
     let b = begins_spaced two.segment in record {
       passed = (one.passed ++ seams unclosed) ++ two.passed;
@@ -161,13 +164,16 @@ named_fronts_written source was values raws customs selectors i j statement toke
     property_written (properties_written source was values word t) (values.rows _ _ _ _ (behind_old mark refl) inner)
 named_fronts_written source was values raws customs selectors i j statement tokens
     (spells.custom_line span text_span name mark inner end) t =
-    custom_written (customs_written source was values name t) customs inner
+    custom_written (customs_written source was values name (and_left (is_custom source name) _ t)) customs inner
+    (and_right (is_custom source name) _ t)
 named_fronts_written source was values raws customs selectors i j statement tokens
     (spells.at_rule_line span text_span name raw end) t =
-    rule_written (at_rules_written source was values name t) raws raw
+    rule_written (at_rules_written source was values name (and_left (is_at_rule source name) _ t)) raws raw
+    (and_right (is_at_rule source name) _ t)
 named_fronts_written source was values raws customs selectors i j statement tokens
     (spells.at_rule_block span text_span name raw block) t =
-    rule_written (at_rules_written source was values name t) raws raw
+    rule_written (at_rules_written source was values name (and_left (is_at_rule source name) _ t)) raws raw
+    (and_right (is_at_rule source name) _ t)
 named_fronts_written source was values raws customs selectors i j statement tokens
     (spells.properties_block span text_span word mark block) t =
     lone_property (properties_written source was values word t)
@@ -175,5 +181,5 @@ named_fronts_written source was values raws customs selectors i j statement toke
     (spells.properties_value_block span text_span word mark inner block) t =
     property_written (properties_written source was values word t) (values.rows _ _ _ _ (behind_old mark refl) inner)
 named_fronts_written source was values raws customs selectors i j statement tokens (spells.rule_block span raw block) t =
-    selectors _ _ _ _ _ raw
+    selectors _ _ _ _ _ raw t
 named_fronts_written source was values raws customs selectors i j statement tokens _ t = absurd (cc)

@@ -105,11 +105,11 @@ rule_with_text {word} {value} sort takes no_else key it before calm =
 
 pub text_fronts_written : TextFrontsAreWritten
 text_fronts_written source known i j statement tokens (spells.import_line span old inner end) t =
-    rule_with_text sorts.AtImport refl refl (keyword terminals.AtImport sorts.AtImport refl) (text_of_raw (known _ _ _ _ _ inner))
+    rule_with_text sorts.AtImport refl refl (keyword terminals.AtImport sorts.AtImport refl) (text_of_raw (known _ _ _ _ _ inner t))
 text_fronts_written source known i j statement tokens (spells.extend_line span old inner end) t =
-    rule_with_text sorts.AtExtend refl refl (keyword terminals.AtExtend sorts.AtExtend refl) (text_of_raw (known _ _ _ _ _ inner))
+    rule_with_text sorts.AtExtend refl refl (keyword terminals.AtExtend sorts.AtExtend refl) (text_of_raw (known _ _ _ _ _ inner t))
 text_fronts_written source known i j statement tokens (spells.supports_block span old raw block) t =
-    rule_with_text sorts.AtSupports refl refl (keyword terminals.AtSupports sorts.AtSupports refl) (text_of_raw (known _ _ _ _ _ raw))
+    rule_with_text sorts.AtSupports refl refl (keyword terminals.AtSupports sorts.AtSupports refl) (text_of_raw (known _ _ _ _ _ raw t))
 text_fronts_written source known i j statement tokens (spells.at_root_text_block span old raw block) t =
-    rule_with_text sorts.AtRoot refl refl (keyword terminals.AtRoot sorts.AtRoot refl) (text_of_raw (known _ _ _ _ _ raw))
+    rule_with_text sorts.AtRoot refl refl (keyword terminals.AtRoot sorts.AtRoot refl) (text_of_raw (known _ _ _ _ _ raw t))
 text_fronts_written source known i j statement tokens _ t = absurd (cc)

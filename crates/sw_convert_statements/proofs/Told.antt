@@ -20,6 +20,7 @@ use Rattle.sw_convert_statements.proofs.ReadsBack.{sheets_read_back}
 use Rattle.sw_convert_statements.proofs.Fronts.{fronts_written, branches_written}
 use Rattle.sw_convert_statements.specs.Names.{SelectorsAreKnown, has_name}
 use Rattle.sw_convert_statements.proofs.Names.{named_fronts_written}
+use Rattle.sw_convert_statements.proofs.KnownTexts.{texts_known, rules_known}
 use Rattle.sw_convert_statements.proofs.Texts.{text_fronts_written}
 use Rattle.sw_convert_values.specs.Values.{is_led}
 use Rattle.sw_convert_values.proofs.Starts.{behind_old}
@@ -68,12 +69,16 @@ module _ (source : Source) (was : WasRead source) (values : ValuesAreKnown sourc
         (front (spells.while_block span old inner block) refl, block_fronts block k)
     fronts (spells.each_block span one two three names in_word inner block) k =
         (front (spells.each_block span one two three names in_word inner block) refl, block_fronts block k)
-    fronts (spells.supports_block span old raw block) k =
-        (front (spells.supports_block span old raw block) refl, block_fronts block k)
+    fronts (spells.supports_block span old raw block) k = (
+      front (spells.supports_block span old raw block) (and_left (is_known (spells.supports_block span old raw block)) _ k),
+      block_fronts block (and_right (is_known (spells.supports_block span old raw block)) _ k),
+    )
     fronts (spells.at_root_block span old block) k =
         (front (spells.at_root_block span old block) refl, block_fronts block k)
-    fronts (spells.at_root_text_block span old raw block) k =
-        (front (spells.at_root_text_block span old raw block) refl, block_fronts block k)
+    fronts (spells.at_root_text_block span old raw block) k = (
+      front (spells.at_root_text_block span old raw block) (and_left (is_known (spells.at_root_text_block span old raw block)) _ k),
+      block_fronts block (and_right (is_known (spells.at_root_text_block span old raw block)) _ k),
+    )
     fronts (spells.at_rule_block span text_span name raw block) k = (
       front (spells.at_rule_block span text_span name raw block) (and_left (is_known (spells.at_rule_block span text_span name raw block)) _ k),
       block_fronts block (and_right (is_known (spells.at_rule_block span text_span name raw block)) _ k),
@@ -86,7 +91,10 @@ module _ (source : Source) (was : WasRead source) (values : ValuesAreKnown sourc
       front (spells.properties_value_block span text_span word mark inner block) (and_left (is_known (spells.properties_value_block span text_span word mark inner block)) _ k),
       block_fronts block (and_right (is_known (spells.properties_value_block span text_span word mark inner block)) _ k),
     )
-    fronts (spells.rule_block span raw block) k = (front (spells.rule_block span raw block) refl, block_fronts block k)
+    fronts (spells.rule_block span raw block) k = (
+      front (spells.rule_block span raw block) (and_left (is_known (spells.rule_block span raw block)) _ k),
+      block_fronts block (and_right (is_known (spells.rule_block span raw block)) _ k),
+    )
     fronts (spells.media_block span text_span old queries block) k = (
       front (spells.media_block span text_span old queries block)
           (and_left (is_known (spells.media_block span text_span old queries block)) _ k),
@@ -155,7 +163,7 @@ known_sheets_have_fronts source was values raws customs selectors i j list token
 
 -- what is written of such a sheet reads back
 pub scss_read_back : ScssIsReadBack
-scss_read_back source written levels parts derived was singles raws customs selectors =
+scss_read_back source written levels parts derived was singles =
     let again = all_sheets_again source written levels parts derived in
     let values : ValuesAreKnown source = record {
       rows = values_written source was singles;
@@ -164,5 +172,6 @@ scss_read_back source written levels parts derived was singles raws customs sele
       again = again;
       back = λ known text.
           sheets_read_back source written levels parts again
-          (list_fronts source was values raws customs selectors again.spells known) text;
+          (list_fronts source was values (texts_known source was values modes.Raw) (texts_known source was values modes.Custom)
+          (rules_known source was values) again.spells known) text;
     }

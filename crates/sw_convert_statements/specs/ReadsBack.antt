@@ -3,7 +3,6 @@ use Rattle.std.specs.Prelude.{◌≡◌, ℕ, suc, true, List, map, length, Ok}
 use Rattle.sw_tree.specs.declared.statement.Statement.{Statement}
 use Rattle.sw_tokens.specs.Ends.{tokens_of}
 use Rattle.sw_parse_grammar.specs.Grammar.{Derives, Got}
-use Rattle.sw_parse_lexemes.specs.declared.state.Mode.TheVariants as modes
 use Rattle.sw_parse_lexemes.specs.Lexemes.{lexemes_of}
 use Rattle.sw_parse_table.specs.declared.source.Source.{Source}
 use Rattle.sw_parse_table.specs.Parts.{Part, States, Whole}
@@ -16,8 +15,6 @@ use Rattle.sw_convert_again.specs.Claims.{IsSheetAgain}
 use Rattle.sw_convert_tokens.specs.Values.{WasRead}
 use Rattle.sw_convert_statements.specs.Statements.{ListHasFronts}
 use Rattle.sw_convert_values.specs.Values.{SinglesAreWritten}
-use Rattle.sw_convert_statements.specs.Texts.{TextsAreKnown}
-use Rattle.sw_convert_statements.specs.Names.{SelectorsAreKnown}
 use Rattle.sw_convert_statements.specs.Told.{list_known}
 
 -- what is read of a text as a sheet that isn't written in lines: its tokens, and what the grammar sees of them
@@ -47,10 +44,9 @@ pub record IsReadBack (source written : Source) (levels : ℕ) (parts : List Par
       × (reader written levels (forms written Whole) 0 ≡ Got (map States found) (length written.lexemes.now))
       × LikeBlock again.list found
 
--- that is so of every sheet whose raw texts, selectors and these single values are written as their tokens
+-- that is so of every sheet of which these single values are written as their tokens
 abbrev pub ScssIsReadBack : Type 0
 ScssIsReadBack =
     (source written : Source) (levels : ℕ) (parts : List Part)
     → Derives (forms source) (text_of source) (suc levels) Whole 0 (length source.lexemes.now) parts
-    → WasRead source → SinglesAreWritten source → TextsAreKnown modes.Raw source
-    → TextsAreKnown modes.Custom source → SelectorsAreKnown source → IsReadBack source written levels parts
+    → WasRead source → SinglesAreWritten source → IsReadBack source written levels parts

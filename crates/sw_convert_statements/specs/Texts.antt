@@ -10,22 +10,24 @@ use Rattle.sw_convert_again.specs.Tokens.{Tok, Extent}
 use Rattle.sw_convert_again.specs.RawTexts.{SpellsRawText}
 use Rattle.sw_convert_again.specs.Statements.{SpellsStatement}
 use Rattle.sw_convert_again.specs.Statements as spells
+use Rattle.sw_convert_texts.specs.RawKinds.{raw_known}
 use Rattle.sw_convert_texts.specs.RawTexts.{IsText}
 use Rattle.sw_convert_statements.specs.Statements.{FrontIs}
 
--- what is written of each raw text of a sheet is its tokens
+-- what is written of each such raw text of a sheet is its tokens
 abbrev pub TextsAreKnown : Mode → Source → Type 0
 TextsAreKnown mode source =
     (i j : ℕ) (values : List Part) (tokens : List Tok) (extents : List Extent)
-    → SpellsRawText source i j values tokens extents → IsText source mode i j values extents tokens
+    → (spelt : SpellsRawText source i j values tokens extents) → raw_known source mode spelt ≡ true
+    → IsText source mode i j values extents tokens
 
--- `@import`, `@extend`, `@supports`, and `@at-root` with a selector
+-- `@import`, `@extend`, `@supports`, and `@at-root` with a selector, whose text is such
 abbrev pub has_text : {source : Source} {i j : ℕ} {statement : Statement} {tokens : List Tok}
     → SpellsStatement source i j statement tokens → Bool
-has_text (spells.import_line span old inner end) = true
-has_text (spells.extend_line span old inner end) = true
-has_text (spells.supports_block span old raw block) = true
-has_text (spells.at_root_text_block span old raw block) = true
+has_text {source} (spells.import_line span old inner end) = raw_known source modes.Raw inner
+has_text {source} (spells.extend_line span old inner end) = raw_known source modes.Raw inner
+has_text {source} (spells.supports_block span old raw block) = raw_known source modes.Raw raw
+has_text {source} (spells.at_root_text_block span old raw block) = raw_known source modes.Raw raw
 has_text _ = false
 
 abbrev pub TextFrontsAreWritten : Type 0

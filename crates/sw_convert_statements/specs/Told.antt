@@ -32,16 +32,18 @@ abbrev mutual
       is_known (spells.for_block span one two three four low old high block) && block_known block
   are_known (spells.while_block span old inner block) = block_known block
   are_known (spells.each_block span one two three names in_word inner block) = block_known block
-  are_known (spells.supports_block span old raw block) = block_known block
+  are_known (spells.supports_block span old raw block) =
+      is_known (spells.supports_block span old raw block) && block_known block
   are_known (spells.at_root_block span old block) = block_known block
-  are_known (spells.at_root_text_block span old raw block) = block_known block
+  are_known (spells.at_root_text_block span old raw block) =
+      is_known (spells.at_root_text_block span old raw block) && block_known block
   are_known (spells.at_rule_block span text_span name raw block) =
       is_known (spells.at_rule_block span text_span name raw block) && block_known block
   are_known (spells.properties_block span text_span word mark block) =
       is_known (spells.properties_block span text_span word mark block) && block_known block
   are_known (spells.properties_value_block span text_span word mark inner block) =
       is_known (spells.properties_value_block span text_span word mark inner block) && block_known block
-  are_known (spells.rule_block span raw block) = block_known block
+  are_known (spells.rule_block span raw block) = is_known (spells.rule_block span raw block) && block_known block
   are_known (spells.media_block span text_span old queries block) =
       is_known (spells.media_block span text_span old queries block) && block_known block
   are_known (spells.if_block span old inner block further otherwise) =

@@ -14,7 +14,7 @@ pub fn fronts_are_written()
     ensures branches { BranchesAreWritten }
 {}
 
-/// A law: the same of at-rules with raw text, where what is written of the text is its tokens.
+/// A law: the same of at-rules with raw text that is known, where what is written of such text is its tokens.
 pub fn text_fronts_are_written()
     ensures { TextFrontsAreWritten }
 {}
@@ -48,9 +48,8 @@ pub fn sheets_read_back()
     ensures { SheetsReadBack }
 {}
 
-/// A law: where a sheet was read whose raw texts, selectors and those single values that `SinglesAreWritten` names are
-/// written as their tokens, and all its statements are of the kinds that are, the text that is written of it is read to a
-/// sheet alike.
+/// A law: where a sheet was read of which those single values that `SinglesAreWritten` names are written as their tokens,
+/// and all its statements are of the kinds that are, the text that is written of it is read to a sheet alike.
 pub fn scss_is_read_back()
     ensures { ScssIsReadBack }
 {}

@@ -45,6 +45,6 @@ mod RawSits
 mod RawRows
 mod RawBrackets
 mod RawJoined
-mod RawWritten
+pub mod RawWritten
 mod RuleHeads
-mod RuleWritten
+pub mod RuleWritten
