@@ -303,13 +303,13 @@ module _ (plains : List Plain) where
       subst (λ (t : Terminal). ((after state t).word ≡ true) × ((after state t).start ≡ false) × ((after state t).ignored ≡ 0))
       (sym (word_only terminal w)) (refl, refl, refl)
 
-  begins : (others done : List Plain) (state : State) (at : ℕ) (terminal : Terminal) → Reached done others at
-      → is_word terminal ≡ true → is_direct plains at sorts.OpenInsert ≡ true
-      → begins_part (lexemes_from plains (after state terminal) at others) ≡ true
-  begins [] done state at terminal r w d = absurd (past done at r d)
-  begins (plain ∷ others) done state at terminal r w d =
-      let it = word_behind state terminal w in
-      insert_read (after state terminal) at plain it.0 it.1 it.2 d (λ later. lexemes_from plains later (at + 1) others)
+  begins : (others done : List Plain) (state : State) (at : ℕ) (one : Terminal) → Reached done others at
+      → is_word one ≡ true → is_direct plains at sorts.OpenInsert ≡ true
+      → begins_part (lexemes_from plains (after state one) at others) ≡ true
+  begins [] done state at one r w d = absurd (past done at r d)
+  begins (plain ∷ others) done state at one r w d =
+      let it = word_behind state one w in
+      insert_read (after state one) at plain it.0 it.1 it.2 d (λ later. lexemes_from plains later (at + 1) others)
 
   all_go_on : (others done : List Plain) (state : State) (at : ℕ) → Reached done others at
       → AllGoOn (lexemes_from plains state at others)

@@ -22,15 +22,19 @@ use Rattle.sw_tree.specs.declared.expr.ExprKind.{ExprKind, out-ExprKind, roll-Ex
 use Rattle.sw_tree.specs.declared.expr.ExprKind.TheOpen.{ExprKind-F}
 use Rattle.sw_tree.specs.declared.expr.ExprKind.TheVariants as exprs
 use Rattle.sw_tree.specs.declared.expr.Link.{Link}
+use Rattle.sw_tree.specs.declared.expr.Namespaced.{Namespaced}
 use Rattle.sw_tree.specs.declared.expr.Pair.{Pair}
+use Rattle.sw_parse_terminals.specs.declared.terminal.Terminal.{Terminal}
 use Rattle.sw_parse_terminals.specs.declared.terminal.Terminal.TheVariants as terminals
+use Rattle.sw_parse_terminals.specs.Numbers.{just}
 use Rattle.sw_parse_lexemes.specs.declared.sort.Sort.TheVariants as sorts
 use Rattle.sw_parse_lexemes.specs.declared.state.Mode.{Mode}
-use Rattle.sw_parse_lexemes.specs.Classes.{is_comment}
+use Rattle.sw_parse_lexemes.specs.Classes.{is_comment, is_name}
+use Rattle.sw_parse_lexemes.specs.Sorts.{sort_of}
 use Rattle.sw_parse_lexemes.specs.Words.{word_sort}
 use Rattle.sw_parse_table.specs.declared.source.Source.{Source}
 use Rattle.sw_parse_table.specs.Sources.{bytes_at, parts_between}
-use Rattle.sw_parse_table.specs.Values.{expression, callee_of}
+use Rattle.sw_parse_table.specs.Values.{expression, callee_of, namespaced}
 use Rattle.sw_convert_spelling.specs.Spelt.{behind_gap}
 use Rattle.sw_convert_spelling.proofs.Choices.{both}
 use Rattle.sw_convert_written.specs.declared.manner.Manner.TheVariants as manners
@@ -38,19 +42,26 @@ use Rattle.sw_convert_written.specs.declared.sort.Sort.TheVariants as shown
 use Rattle.sw_convert_written.specs.declared.sort.Sort.{Sort}
 use Rattle.sw_convert_written.specs.Names.{name_text}
 use Rattle.sw_convert_written.specs.Pieces.{pieces_text}
-use Rattle.sw_convert_written.specs.Expressions.{is_opaque, is_url, ends_in_url_from, ends_in_url, guard, arguments_text, with_commas, call_text, label, dots, kind_shown, parts_written, expr_shown, expr_text, of_argument, argument_text}
+use Rattle.sw_convert_written.specs.Expressions.{is_opaque, is_url, ends_in_url_from, ends_in_url, space_text, guard, arguments_text, with_commas, call_text, label, dots, kind_shown, parts_written, expr_shown, expr_text, of_argument, argument_text}
 use Rattle.sw_convert_written.proofs.Unrolled as unrolled
 use Rattle.sw_convert_passing.specs.Kinds.{ends_bound}
-use Rattle.sw_convert_passing.specs.Written.{written}
-use Rattle.sw_convert_passing.specs.Values.{Word, call, named, no_part}
-use Rattle.sw_convert_again.specs.Tokens.{Tok, tok}
+use Rattle.sw_convert_passing.specs.Written.{written, direct}
+use Rattle.sw_convert_passing.specs.Values.{Word, call, owned_call, named, no_part}
+use Rattle.sw_convert_again.specs.Tokens.{Tok, tok, Old}
+use Rattle.sw_convert_again.specs.Tokens as again
+use Rattle.sw_convert_again.proofs.Tokens.{one_byte}
 use Rattle.sw_convert_again.specs.Spells.{from_start, call_tokens, SpellsWord}
 use Rattle.sw_convert_again.specs.Spells as spells
 use Rattle.sw_convert_tokens.specs.Joints.{Segment}
 use Rattle.sw_convert_tokens.specs.Written.{is_calm, gap_of, is_bounded, AsValue, WrittenAs}
+use Rattle.sw_convert_tokens.specs.Values.{WasRead}
 use Rattle.sw_convert_tokens.proofs.Joins.{join, as_text, as_behind}
-use Rattle.sw_convert_tokens.proofs.Signs.{lone_segment, token_segment}
-use Rattle.sw_convert_tokens.proofs.Words.{bytes_sit, parts_are, said_is, unbounded}
+use Rattle.sw_convert_tokens.proofs.Signs.{Anything, Fits, lone_segment, token_segment, sign_segment, sign_token}
+use Rattle.sw_convert_tokens.proofs.Words.{bytes_sit, parts_are, said_is, unbounded, copied_name, copied_bytes}
+use Rattle.sw_convert_tokens.proofs.Olds.{old_token}
+use Rattle.sw_convert_tokens.proofs.OriginChoices.{fits}
+use Rattle.sw_convert_tokens.proofs.Variables.{only_owner, Begins, dot_parts}
+use Rattle.sw_convert_tokens.proofs.Calls.{name_dotted}
 use Rattle.sw_convert_tokens.proofs.Arguments.{IsItems}
 use Rattle.sw_convert_values.specs.Values.{has_arguments, is_url_called}
 use Rattle.sw_convert_values.proofs.Shapes.{same}
@@ -220,27 +231,36 @@ module _ (source : Source) (i : ℕ) (before : Before) (spaced : Bool)
   url_segment : is_url (bytes_at source i) ≡ true → Named (bytes_at source i)
   url_segment is = url_by (bytes_at source i) is refl
 
-url_told : (mode : Mode) (spaced : Bool) → is_bounded mode ≡ false
-    → Word mode spaced false true (written sorts.Name spaced terminals.Word ∷ [])
-url_told mode spaced free =
-    named sorts.Name refl (both (not (ends_bound mode sorts.Name)) _ (ap not (unbounded mode sorts.Name free)) refl) no_part
+url_told : (owned : Bool) (mode : Mode) (spaced : Bool) → is_bounded mode ≡ false
+    → Word mode spaced owned true (written sorts.Name spaced terminals.Word ∷ [])
+url_told owned mode spaced free =
+    named sorts.Name refl
+    (both (not (ends_bound mode sorts.Name)) _ (ap not (unbounded mode sorts.Name free)) (either owned)) no_part
+  where
+    either : (t : Bool) → (t || true) ≡ true
+    either true = refl
+    either false = refl
 
 -- ---- the call
 
-url_text : (source : Source) (i : ℕ) (args : List Argument) (span name_span : Span) → is_url (bytes_at source i) ≡ true
-    → expr_text (expression (exprs.Call (callee_of None (record { parts = parts_between source i (suc i) []; span = name_span })) args) span)
-    ≡ bytes_at source i ++ (codes "(" ++ (given args ++ codes ")"))
-url_text source i args span name_span is =
+url_text : (source : Source) (i : ℕ) (namespace : Option Namespaced) (args : List Argument) (span name_span : Span)
+    → is_url (bytes_at source i) ≡ true
+    → expr_text
+    (expression
+    (exprs.Call (callee_of namespace (record { parts = parts_between source i (suc i) []; span = name_span })) args) span)
+    ≡ (space_text namespace ++ bytes_at source i) ++ (codes "(" ++ (given args ++ codes ")"))
+url_text source i namespace args span name_span is =
     let text = bytes_at source i in
+    let whole = space_text namespace ++ text in
     let guards = guard (map of_argument args) in
-    unrolled.call_is (callee_of None (record { parts = parts_between source i (suc i) []; span = name_span })) args
-    ∙ ap (λ (t : List ℕ). call_text (record { text = t; url = ends_in_url t }) (map of_argument args))
+    unrolled.call_is (callee_of namespace (record { parts = parts_between source i (suc i) []; span = name_span })) args
+    ∙ ap (λ (t : List ℕ). call_text (record { text = space_text namespace ++ t; url = ends_in_url t }) (map of_argument args))
     (ap (λ (p : Parts). pieces_text manners.Joined (parts_written p)) (parts_are source i)
     ∙ ap (pieces_text manners.Joined) (unrolled.plain_is text))
-    ∙ ap (λ (t : Bool). text ++ ((codes "(" ++ (if t then guards else [])) ++ (arguments_text (map of_argument args) ++ codes ")")))
+    ∙ ap (λ (t : Bool). whole ++ ((codes "(" ++ (if t then guards else [])) ++ (arguments_text (map of_argument args) ++ codes ")")))
     (url_ends text is)
-    ∙ ap (λ (t : List ℕ). text ++ ((codes "(" ++ guards) ++ (t ++ codes ")"))) (unrolled.arguments_are args)
-    ∙ ap (λ (t : List ℕ). text ++ (codes "(" ++ t)) (sym (append_assoc guards (with_commas true (map argument_text args)) (codes ")")))
+    ∙ ap (λ (t : List ℕ). whole ++ ((codes "(" ++ guards) ++ (t ++ codes ")"))) (unrolled.arguments_are args)
+    ∙ ap (λ (t : List ℕ). whole ++ (codes "(" ++ t)) (sym (append_assoc guards (with_commas true (map argument_text args)) (codes ")")))
   where
     url_ends : (text : List ℕ) → is_url text ≡ true → ends_in_url text ≡ true
     url_ends [] e = absurd (cc)
@@ -251,30 +271,95 @@ pub has_by : (source : Source) {i k : ℕ} {parts : Parts} {tokens : List Tok} (
 has_by source args (spells.named {i} old spells.row_end) e = and_right (is_url (bytes_at source i)) _ e
 has_by source args _ e = absurd (cc)
 
-pub url_called_in : (source : Source) {i k : ℕ} {parts : Parts} {tokens others : List Tok} (args : List Argument)
-    (span name_span : Span) → (name : SpellsWord source i k parts tokens) → is_url_called source args name ≡ true
-    → UrlArguments args others
-    → WrittenAs (AsValue false)
-    (expr_text (expression (exprs.Call (callee_of None (record { parts = parts; span = name_span })) args) span))
-    (tokens ++ call_tokens others)
-url_called_in source args span name_span (spells.named {i} old spells.row_end) e it =
-    let is = and_left (is_url (bytes_at source i)) _ e in
-    let text = given args in
-    same (sym (url_text source i args span name_span is)) refl
-    (λ before spaced calm. record {
-      passed = _;
-      segment = as_behind (λ after f. tt)
-          (as_text (append_assoc (gap_of spaced) (bytes_at source i) (codes "(" ++ (text ++ codes ")")))
-          (join (url_segment source i before spaced calm is)
-          (join (lone_segment (sign "(") (terminals.CallParen ∷ []) befores.Other false refl refl refl (λ inside code. refl))
-          (join it.items.segment
-          (lone_segment (sign ")") (terminals.ParenEnd ∷ []) befores.Other false refl refl refl (λ inside code. refl))
-          (λ after f. (after, refl))) (λ after f. tt))
-          (λ after f. (
-            (text ++ codes ")") ++ after,
-            refl,
-            subst NoText (sym (append_assoc text (codes ")") after)) (it.no_text (codes ")" ++ after)),
-          ))));
-      told = λ mode free. call (url_told mode (is_spaced (behind_gap before (gap_of spaced))) free) it.items.told;
-    })
-url_called_in source args span name_span _ e it = absurd (cc)
+module _ (source : Source) (args : List Argument) {others : List Tok} (it : UrlArguments args others) where
+  -- the name and its arguments
+  url_whole : (i : ℕ) → is_url (bytes_at source i) ≡ true → (before : Before) (spaced : Bool)
+      → is_calm (behind_gap before (gap_of spaced)) ≡ true
+      → Segment before (gap_of spaced ++ (bytes_at source i ++ (codes "(" ++ (given args ++ codes ")"))))
+      (tok terminals.Word (from_start source i [] 1) ∷ call_tokens others)
+      (written sorts.Name (is_spaced (behind_gap before (gap_of spaced))) terminals.Word
+      ∷ direct sorts.OpenParen terminals.CallParen
+      ∷ (it.items.passed ++ direct sorts.CloseParen terminals.ParenEnd ∷ [])) befores.Other Anything
+  url_whole i is before spaced calm =
+      let text = given args in
+      as_text (append_assoc (gap_of spaced) (bytes_at source i) (codes "(" ++ (text ++ codes ")")))
+      (join (url_segment source i before spaced calm is)
+      (join (lone_segment (sign "(") (terminals.CallParen ∷ []) befores.Other false refl refl refl (λ inside code. refl))
+      (join it.items.segment
+      (lone_segment (sign ")") (terminals.ParenEnd ∷ []) befores.Other false refl refl refl (λ inside code. refl))
+      (λ after f. (after, refl))) (λ after f. tt))
+      (λ after f. (
+        (text ++ codes ")") ++ after,
+        refl,
+        subst NoText (sym (append_assoc text (codes ")") after)) (it.no_text (codes ")" ++ after)),
+      )))
+
+  pub url_called_in : {i k : ℕ} {parts : Parts} {tokens : List Tok} (span name_span : Span)
+      → (name : SpellsWord source i k parts tokens) → is_url_called source args name ≡ true
+      → WrittenAs (AsValue false)
+      (expr_text (expression (exprs.Call (callee_of None (record { parts = parts; span = name_span })) args) span))
+      (tokens ++ call_tokens others)
+  url_called_in span name_span (spells.named {i} old spells.row_end) e =
+      let is = and_left (is_url (bytes_at source i)) _ e in
+      same (sym (url_text source i None args span name_span is)) refl
+      (λ before spaced calm. record {
+        passed = _;
+        segment = as_behind (λ after f. tt) (url_whole i is before spaced calm);
+        told = λ mode free. call (url_told false mode (is_spaced (behind_gap before (gap_of spaced))) free) it.items.told;
+      })
+  url_called_in span name_span _ e = absurd (cc)
+
+  -- behind a namespace
+  owned_written : (at i : ℕ) → WasRead source → Old source at (just terminals.Owner)
+      → Old source i (just terminals.Word) → is_url (bytes_at source i) ≡ true
+      → WrittenAs (AsValue false)
+      (((bytes_at source at ++ codes ".") ++ bytes_at source i) ++ (codes "(" ++ (given args ++ codes ")")))
+      (tok terminals.Owner (again.Bytes 1 (bytes_at source at)) ∷ again.sign terminals.OwnerDot
+      ∷ tok terminals.Word (from_start source i [] 1) ∷ call_tokens others)
+  unfolding byte
+  owned_written at i was owner old is before spaced calm =
+      let word = old_token source was at owner.lexeme owner.there in
+      let n : is_name (sort_of word.kind word.text) ≡ true =
+      ap (λ (t : Terminal). fits t (sort_of word.kind word.text)) (sym (only_owner owner.lexeme.terminal owner.kind)) ∙ word.fit in
+      let bytes_are = copied_bytes source at owner.lexeme word n in
+      let space = bytes_at source at in
+      let rest = bytes_at source i ++ (codes "(" ++ (given args ++ codes ")")) in
+      let first = copied_name source at owner.lexeme word n terminals.Owner (again.Bytes 1 space) before spaced calm
+      (Begins (sign ".")) (dot_parts word.text) (λ new k same_bytes. one_byte new k ∙ same_bytes) in
+      let dot = sign_segment kinds.Dot (codes ".") (terminals.OwnerDot ∷ []) befores.Other false
+      (λ after. (more : List ℕ) × (after ≡ bytes_at source i ++ more)) refl refl refl (lit< tt)
+      (λ inside after code b.
+      sign_token kinds.Dot after inside befores.Other refl code refl
+      (subst (λ (t : List ℕ). Fits kinds.Dot t) (sym b.1) (name_dotted source i was old b.0))) in record {
+        passed = _;
+        segment = as_behind (λ after f. tt)
+            (as_text
+            (ap (λ (t : List ℕ). (gap_of spaced ++ t) ++ (codes "." ++ rest)) (sym bytes_are)
+            ∙ append_assoc (gap_of spaced) space (codes "." ++ rest)
+            ∙ ap (λ (t : List ℕ). gap_of spaced ++ t)
+            (sym (append_assoc space (codes ".") rest)
+            ∙ sym (append_assoc (space ++ codes ".") (bytes_at source i) (codes "(" ++ (given args ++ codes ")")))))
+            (join first
+            (join dot (url_whole i is befores.Other false refl)
+            (λ after f. (
+              (codes "(" ++ (given args ++ codes ")")) ++ after,
+              append_assoc (bytes_at source i) (codes "(" ++ (given args ++ codes ")")) after,
+            )))
+            (λ after f. (rest ++ after, refl))));
+        told = λ mode free. owned_call (sort_of word.kind word.text) n (url_told true mode false free) it.items.told;
+      }
+
+  pub url_owned_in : {at i k : ℕ} {parts : Parts} {tokens : List Tok} → WasRead source → (span name_span : Span)
+      → Old source at (just terminals.Owner) → (name : SpellsWord source i k parts tokens)
+      → is_url_called source args name ≡ true
+      → WrittenAs (AsValue false)
+      (expr_text
+      (expression
+      (exprs.Call (callee_of (Some (namespaced source at)) (record { parts = parts; span = name_span })) args) span))
+      (tok terminals.Owner (again.Bytes 1 (bytes_at source at)) ∷ again.sign terminals.OwnerDot
+      ∷ (tokens ++ call_tokens others))
+  url_owned_in {at} was span name_span owner (spells.named {i} old spells.row_end) e =
+      let is = and_left (is_url (bytes_at source i)) _ e in
+      same (sym (url_text source i (Some (namespaced source at)) args span name_span is)) refl
+      (owned_written at i was owner old is)
+  url_owned_in was span name_span owner _ e = absurd (cc)

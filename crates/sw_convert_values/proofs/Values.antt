@@ -70,7 +70,7 @@ use Rattle.sw_convert_values.proofs.Starts.{is_clear, behind_old, behind_operato
 use Rattle.sw_convert_values.proofs.Called.{called_in, owned_in, arguments_as, named_text}
 use Rattle.sw_convert_values.proofs.Single.{unsigned, retold, constant_is, Either, row_in, plain_in, single, name_in, mixed_in}
 use Rattle.sw_convert_values.proofs.Firsts.{value_begun, IsBegun, begun_more}
-use Rattle.sw_convert_values.proofs.UrlCalls.{has_by, UrlArguments, opaque_arguments, guarded_arguments, url_called_in}
+use Rattle.sw_convert_values.proofs.UrlCalls.{has_by, UrlArguments, opaque_arguments, guarded_arguments, url_called_in, url_owned_in}
 use Rattle.sw_convert_values.proofs.Strings.{TextBefore, text_before, text_alone, begun_in}
 
 module _ (source : Source) (was : WasRead source) (known : SinglesAreWritten source) where
@@ -136,14 +136,18 @@ module _ (source : Source) (was : WasRead source) (known : SinglesAreWritten sou
         inl (by_test (IsWritten _ _ _) (is_called source false name)
         (λ e. unsigned (called_in source was args span name_span led opens name e (word_values name) (arguments_in (behind_old opens refl) inner)))
         (λ e. by_test (IsWritten _ _ _) (is_url_called source args name)
-        (λ f. unsigned (url_called_in source args span name_span name f
-        (url_arguments_in (behind_old opens refl) inner (has_by source args name f))))
+        (λ f. unsigned (url_called_in source args
+        (url_arguments_in (behind_old opens refl) inner (has_by source args name f)) span name_span name f))
         (λ f. single source was known led (spells.call span name_span name opens inner close)
         (ap not (neither (is_called source false name) _ e f)))))
     either led (spells.owned_call {args = args} span name_span owner dot name opens inner close) =
         inl (by_test (IsWritten _ _ _) (is_called source true name)
         (λ e. unsigned (owned_in source was args span name_span owner name e (word_values name) (arguments_in (behind_old opens refl) inner)))
-        (λ e. single source was known led (spells.owned_call span name_span owner dot name opens inner close) (ap not e)))
+        (λ e. by_test (IsWritten _ _ _) (is_url_called source args name)
+        (λ f. unsigned (url_owned_in source args
+        (url_arguments_in (behind_old opens refl) inner (has_by source args name f)) was span name_span owner name f))
+        (λ f. single source was known led (spells.owned_call span name_span owner dot name opens inner close)
+        (ap not (neither (is_called source true name) _ e f)))))
     either led (spells.parent span old) = inl (unsigned (same (sym unrolled.parent_is) refl parent_written))
     either led (spells.important span one two) = inl (unsigned (same (sym unrolled.important_is) refl important_written))
     either led (spells.prefixed {operand = operand} first span before value) =

@@ -89,9 +89,9 @@ is_url_called source arguments (spells.named {i} old spells.row_end) =
 is_url_called source arguments _ = false
 
 -- a call of one of these
-abbrev pub is_call : (source : Source) (arguments : List Argument) {i j : ℕ} {parts : Parts} {tokens : List Tok}
-    → SpellsWord source i j parts tokens → Bool
-is_call source arguments name = is_called source false name || is_url_called source arguments name
+abbrev pub is_call : (source : Source) (owned : Bool) (arguments : List Argument) {i j : ℕ} {parts : Parts}
+    {tokens : List Tok} → SpellsWord source i j parts tokens → Bool
+is_call source owned arguments name = is_called source owned name || is_url_called source arguments name
 
 abbrev pub is_text : List ℕ → Bool
 is_text [] = false
@@ -119,9 +119,9 @@ is_single (spells.special span name opens inner close) = true
 is_single {source = source} (spells.stays_signed {i} span one two) = begins_plus (bytes_at source i)
 is_single {source = source} (spells.word span word) = is_single_word source word
 is_single {source = source} (spells.call {args = arguments} span name_span name opens inner close) =
-    not (is_call source arguments name)
-is_single {source = source} (spells.owned_call span name_span owner dot name opens inner close) =
-    not (is_called source true name)
+    not (is_call source false arguments name)
+is_single {source = source} (spells.owned_call {args = arguments} span name_span owner dot name opens inner close) =
+    not (is_call source true arguments name)
 is_single _ = false
 
 -- what is written of each of these that stood in a sheet, whole, is its tokens
