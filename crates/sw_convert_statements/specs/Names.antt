@@ -49,19 +49,19 @@ pub record IsNamed (Head : List Written → Type 0) (text : List ℕ) (tokens : 
 abbrev pub NamedAs : (List Written → Type 0) → List ℕ → List Tok → Type 0
 NamedAs Head text tokens = (before : Before) → is_calm before ≡ true → IsNamed Head text tokens before
 
--- a raw text before the block of a rule, which begins one
+-- such a raw text before a block begins a rule
 abbrev pub rule_known : (source : Source) → {i j : ℕ} {values : List Part} {tokens : List Tok} {extents : List Extent}
     → SpellsRawText source i j values tokens extents → Bool
 rule_known source {i} {j} {values} spelt =
     raw_known source modes.Raw spelt && (is_uncut (parts_written (parts_between source i j values)) && begins_rule spelt)
 
--- a raw text, where there is one
+-- where a raw text stands, it is such a text
 abbrev pub optional_known : (source : Source) → Mode → {i j : ℕ} {text : Option Text} {tokens : List Tok}
     → SpellsOptionalRaw source i j text tokens → Bool
 optional_known source mode no_raw = true
 optional_known source mode (some_raw spelt) = raw_known source mode spelt
 
--- what stands before the block of each such rule of a sheet is its tokens
+-- what is written before the block of each such rule of a sheet is its tokens
 abbrev pub SelectorsAreKnown : Source → Type 0
 SelectorsAreKnown source =
     (i j : ℕ) (values : List Part) (tokens : List Tok) (extents : List Extent)

@@ -14,14 +14,14 @@ use Rattle.sw_convert_texts.specs.RawKinds.{raw_known}
 use Rattle.sw_convert_texts.specs.RawTexts.{IsText}
 use Rattle.sw_convert_statements.specs.Statements.{FrontIs}
 
--- what is written of each such raw text of a sheet is its tokens
+-- what is written of each raw text of a sheet is its tokens, where it is one without comments and what else `raw_known` leaves out
 abbrev pub TextsAreKnown : Mode → Source → Type 0
 TextsAreKnown mode source =
     (i j : ℕ) (values : List Part) (tokens : List Tok) (extents : List Extent)
     → (spelt : SpellsRawText source i j values tokens extents) → raw_known source mode spelt ≡ true
     → IsText source mode i j values extents tokens
 
--- `@import`, `@extend`, `@supports`, and `@at-root` with a selector, whose text is such
+-- `@import`, `@extend`, `@supports`, and `@at-root` with a selector, with such a raw text
 abbrev pub has_text : {source : Source} {i j : ℕ} {statement : Statement} {tokens : List Tok}
     → SpellsStatement source i j statement tokens → Bool
 has_text {source} (spells.import_line span old inner end) = raw_known source modes.Raw inner

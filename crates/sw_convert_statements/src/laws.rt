@@ -14,7 +14,8 @@ pub fn fronts_are_written()
     ensures branches { BranchesAreWritten }
 {}
 
-/// A law: the same of at-rules with raw text that is known, where what is written of such text is its tokens.
+/// A law: the same of at-rules with raw text of the kinds that `raw_known` tells, where what is written of such text is its
+/// tokens.
 pub fn text_fronts_are_written()
     ensures { TextFrontsAreWritten }
 {}
