@@ -28,24 +28,48 @@ pub fn body_rows<E: Engine>(
     engine: &mut E,
     module: &Module,
 ) -> Result<(), Broken> {
-    let path = module.path.as_str();
-    let answer = loaded(rt.alloc())?;
+    starved_rows(rt, engine, module)?;
+    refused_row(rt, engine, module)
+}
+
+// A line for each question at which memory lacks, and one with memory for all.
+fn starved_rows<E: Engine>(
+    rt: &HostRuntime,
+    engine: &mut E,
+    module: &Module,
+) -> Result<(), Broken> {
     for at in 0..MOST_QUESTIONS {
-        let run = run_body(rt.alloc(), engine, module, &answer, at)?;
-        let line = run.line.as_str();
-        if !run.starved {
-            println!(rt; "{path}: {line}")?;
+        if !starved_row(rt, engine, module, at)? {
             break;
         }
-        println!(rt; "{path}, starved at {at}: {line}")?;
     }
-    let run = run_body(
-        rt.alloc(),
-        engine,
-        module,
-        &refused(rt.alloc())?,
-        MOST_QUESTIONS,
-    )?;
+    Ok(())
+}
+
+// A line with memory lacking at this question, or nowhere where the body asks fewer; tells whether it lacked.
+fn starved_row<E: Engine>(
+    rt: &HostRuntime,
+    engine: &mut E,
+    module: &Module,
+    at: u32,
+) -> Result<bool, Broken> {
+    let path = module.path.as_str();
+    let answer = loaded(rt.alloc())?;
+    let run = run_body(rt.alloc(), engine, module, &answer, at)?;
+    let line = run.line.as_str();
+    if run.starved {
+        println!(rt; "{path}, starved at {at}: {line}")?;
+    } else {
+        println!(rt; "{path}: {line}")?;
+    }
+    Ok(run.starved)
+}
+
+// A line with the first load refused.
+fn refused_row<E: Engine>(rt: &HostRuntime, engine: &mut E, module: &Module) -> Result<(), Broken> {
+    let path = module.path.as_str();
+    let answer = refused(rt.alloc())?;
+    let run = run_body(rt.alloc(), engine, module, &answer, MOST_QUESTIONS)?;
     let line = run.line.as_str();
     println!(rt; "{path}, refused: {line}")?;
     Ok(())
