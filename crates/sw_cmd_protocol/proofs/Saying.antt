@@ -1,12 +1,12 @@
 -- A request that was carried out, and its reply.
-use Rattle.std.proofs.Common.{◌≡◌, ℕ, List, [], ◌++◌, sym, ap, ◌∙◌, subst}
+use Rattle.std.proofs.Common.{◌≡◌, ℕ, List, ◌++◌, sym, ap, ◌∙◌, subst}
 use Rattle.std.specs.declared.option.Option.{Option}
 use Rattle.std.specs.Io.KnownBytes.{Appends}
 use Rattle.sw_cmd_protocol.specs.declared.stop.Stop.{Stop}
 use Rattle.sw_cmd_protocol.specs.declared.stop.Stop.TheVariants.{Ended, Wrong, CutOff, SourceFailed, SinkFailed, Memory, OutsideFailed, Over as Over_stop}
 use Rattle.sw_cmd_protocol.specs.Protocol.{Protocol, Turn}
 use Rattle.sw_cmd_protocol.specs.Sending.{IsCutShort, SendEnds}
-use Rattle.sw_cmd_protocol.specs.Turns.{Standing, Does, Says, SaysSome, SaysNothing, SayStops}
+use Rattle.sw_cmd_protocol.specs.Turns.{Standing, Does, Says, SaysSome, SayStops}
 
 -- as this turn
 module _ {Event Mark Held Reply : Type 0} (p : Protocol Event Mark Held Reply) (event : Event) (mark : Mark) (before after : Standing Held) (turn : Turn Held Reply)

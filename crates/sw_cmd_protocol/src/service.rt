@@ -80,7 +80,7 @@ impl<P> Service<P> {
         ensures sink_cause { Cause Stop.SinkFailed (K.faults sink.old) (K.faults sink.new) result }
         ensures outside_cause { Cause Stop.OutsideFailed (P.faults outside.old) (P.faults outside.new) result }
     {
-        self.lines.reader.line(source, &mut self.lines.line)?;
+        self.lines.read(source)?;
         self.protocol
             .answer_request(&mut self.lines, source, sink, engine, outside)
     }
@@ -97,7 +97,7 @@ impl<P> Service<P> {
         ensures fault { result ≡ Stop.SourceFailed → Rose (S.faults source.old) (S.faults source.new) }
         ensures no_fault { result ≢ Stop.SourceFailed → NoFault (S.faults source.old) (S.faults source.new) }
     {
-        match self.lines.reader.line(source, &mut self.lines.line) {
+        match self.lines.read(source) {
             Err(stop) => Stop::from(stop),
             Ok(()) => self.protocol.last(&self.lines),
         }

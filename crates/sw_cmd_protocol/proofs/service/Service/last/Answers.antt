@@ -13,7 +13,7 @@ returns-in-Err-clause-ends g c =
 pub returns-in-Ok-clause-ends : goal.returns-in-Ok-clause-ends
 returns-in-Ok-clause-ends g c =
     λ written. let r = c.in-Ok.ensures.ok in
-    last_line_ends g.P.Protocol.rules.grammar c.last.result c.line.new.line.items _ _ r.0 (appends_none _) r.1 c.last.ensures
+    last_line_ends g.P.Protocol.rules.grammar c.last.result c.read.new.self.line.items _ _ r.0 (appends_none _) r.1 c.last.ensures
 
 pub returns-in-Err-clause-fault : goal.returns-in-Err-clause-fault
 returns-in-Err-clause-fault g c = λ e. line_rose _ _ c.in-Err.stop c.in-Err.ensures.cause (sym c.from.ensures ∙ e)
