@@ -1,5 +1,5 @@
 -- A compile under way, before and after a step.
-use Rattle.std.proofs.Common.{◌≡◌, List, [], ◌∷◌, ◌++◌, Option, None, Some, Result, Ok, Err, refl, sym, ◌∙◌, ap, subst, append_assoc}
+use Rattle.std.proofs.Common.{◌≡◌, List, [], ◌∷◌, ◌++◌, Option, None, Some, Result, Ok, Err, IfOk, tt, refl, sym, ◌∙◌, ap, subst, append_assoc}
 use Rattle.sw_text.specs.declared.Memory.{Memory}
 use Rattle.sw_modules.specs.Fresh.{Setting}
 use Rattle.sw_step_bodies.specs.declared.begun.Start.{Start}
@@ -51,3 +51,16 @@ module _ (setting : Setting) (start : Start) (old : Option Moment) (begun : Mome
   went_standing now (Ok (S.Ended reply)) did = subst (IsStanding setting start) (sym did.0) (none_standing setting start)
   went_standing now (Err memory) did =
       subst (IsStanding setting start) (sym did.1) (same_standing setting start old standing (Some did.0) (did.2 ∙ same))
+
+  -- what it answers is the first of the steps that were left
+  pub went_next : (now : Option Moment) (answer : Result Stepped Memory) → DidGo setting start.folder begun now answer
+      → IfOk answer (λ (stepped : Stepped). IsNext setting (under_way_of setting start old) stepped (under_way_of setting start now))
+  went_next now (Ok (S.Loading body opened)) did =
+      subst (λ (m : Option Moment). IsNext setting (under_way_of setting start old) (S.Loading body opened) (under_way_of setting start m)) (sym did.1)
+      (ap (λ (r : Rest). r.steps ++ Ended ∷ []) (sym same ∙ did.2), refl)
+  went_next now (Ok (S.Finished body)) did =
+      subst (λ (m : Option Moment). IsNext setting (under_way_of setting start old) (S.Finished body) (under_way_of setting start m)) (sym did.1)
+      (ap (λ (r : Rest). r.steps ++ Ended ∷ []) (sym same ∙ did.2), refl)
+  went_next now (Ok (S.Ended reply)) did =
+      ended_next setting start old standing reply (under_way_of setting start now) (sym same ∙ did.1)
+  went_next now (Err memory) did = tt

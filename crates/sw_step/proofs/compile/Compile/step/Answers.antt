@@ -1,4 +1,4 @@
-use Rattle.std.proofs.Common.{◌≡◌, ℕ, List, [], ◌∷◌, Option, Result, sym, ap, subst, ◌∙◌}
+use Rattle.std.proofs.Common.{◌≡◌, ℕ, List, [], ◌∷◌, Option, Result, IfOk, sym, ap, subst, ◌∙◌}
 use Rattle.sw_text.specs.declared.fault.Fault.{Fault}
 use Rattle.sw_world.specs.declared.question.Saying.{Saying}
 use Rattle.sw_record.specs.declared.reply.Outcome.TheVariants.{Error}
@@ -8,8 +8,9 @@ use Rattle.sw_step_bodies.specs.Stepping.{Ended}
 use Rattle.sw_step_bodies.specs.Standing.{Moment}
 use Rattle.sw_step.specs.Joint.{UnderWay, IsReply}
 use Rattle.sw_step_bodies.specs.Under.{IsBegun, left_of}
-use Rattle.sw_step.specs.Under.{IsStanding}
-use Rattle.sw_step.proofs.Nexts.{none_standing, ended_next, went_standing}
+use Rattle.sw_step_bodies.specs.declared.stepped.Stepped.{Stepped}
+use Rattle.sw_step.specs.Under.{IsStanding, IsNext, under_way_of}
+use Rattle.sw_step.proofs.Nexts.{none_standing, ended_next, went_standing, went_next}
 use Rattle.sw_step.proofs.compile.Compile.step.Goals as goal
 
 pub invariant_of-self-in-Err : goal.invariant_of-self-in-Err
@@ -23,6 +24,14 @@ invariant_of-self-in-Ok g c =
     went_standing (hostless g.R.Reader.reads g.E.Engine.body) c.self.inside.start c.self.inside.begun c.in-Ok.begun c.self.invariant
     (begun ∙ ap (left_of (hostless g.R.Reader.reads g.E.Engine.body) c.self.inside.start) c.take-begun.ensures.value)
     c.go-begun.result.0 c.go-begun.result.1 c.go-begun.ensures.went
+
+pub returns-in-Ok-clause-next : goal.returns-in-Ok-clause-next
+returns-in-Ok-clause-next g c =
+    let begun = subst (λ (r : Result Moment Fault). IsBegun (hostless g.R.Reader.reads g.E.Engine.body) c.self.inside.start c.take-begun.result r) c.in-Ok.is c.in_ok-fault.ensures.ok in
+    subst (λ (u : UnderWay). IfOk c.go-begun.result.1 (λ (stepped : Stepped). IsNext (hostless g.R.Reader.reads g.E.Engine.body) u stepped (under_way_of (hostless g.R.Reader.reads g.E.Engine.body) c.self.inside.start c.go-begun.result.0))) c.self.view_is
+    (went_next (hostless g.R.Reader.reads g.E.Engine.body) c.self.inside.start c.self.inside.begun c.in-Ok.begun c.self.invariant
+    (begun ∙ ap (left_of (hostless g.R.Reader.reads g.E.Engine.body) c.self.inside.start) c.take-begun.ensures.value)
+    c.go-begun.result.0 c.go-begun.result.1 c.go-begun.ensures.went)
 
 pub returns-in-Err-clause-next : goal.returns-in-Err-clause-next
 returns-in-Err-clause-next g c =
