@@ -36,6 +36,7 @@ pub mod Urls
 mod AroundTexts
 mod SeamedTexts
 mod RawOlds
+mod Levels
 mod RawHeads
 mod RawNames
 mod RawSigns

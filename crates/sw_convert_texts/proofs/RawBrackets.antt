@@ -1,11 +1,10 @@
 -- Brackets in raw text, as they are written around other raw text.
-use Rattle.std.proofs.Common.{◌≡◌, ◌<◌, ℕ, suc, ◌+◌, ◌-◌, Bool, true, false, List, [], ◌∷◌, ◌++◌, length, Some, refl, sym, ◌∙◌, ap, subst, arith, append_assoc, append-nil, length-append, lit<, not, ◌&&◌}
+use Rattle.std.proofs.Common.{◌≡◌, inl, ◌<◌, ℕ, suc, ◌+◌, ◌-◌, Bool, true, false, List, [], ◌∷◌, ◌++◌, length, Some, refl, sym, ◌∙◌, ap, subst, arith, append_assoc, append-nil, length-append, lit<}
 use Rattle.std.specs.List.{list_all}
 use Rattle.sw_parse_lexemes.specs.declared.state.Walk.TheVariants as walks
 use Rattle.sw_convert_heads_passing.specs.Rules.{walked}
-use Rattle.sw_convert_texts.specs.RuleTexts.{bracket_sort, row_bare}
+use Rattle.sw_convert_texts.specs.RuleTexts.{bracket_sort}
 use Rattle.sw_convert_texts.proofs.RawHeads.{Walks}
-use Rattle.sw_text_scan.proofs.Bounds.{and_left, and_right}
 use Rattle.sw_text_scan.specs.Bytes.{sign, byte, is_white}
 use Rattle.sw_tokens.specs.declared.pieces.Before.{Before}
 use Rattle.sw_tokens.specs.declared.pieces.Before.TheVariants as befores
@@ -149,24 +148,31 @@ enclosed_raw mode braces e own other around spaced blank inside rest all more =
 one_less : (count : ℕ) → (count + 1) - 1 ≡ count
 one_less count = omega arith
 
-enclosed_walks : {opening closing : Terminal} (kind : Brackets opening closing) → not (same (bracket_sort kind) sorts.OpenBrace) ≡ true
-    → (own other : List ℕ) (spaced blank : Bool) (first last : Terminal) (inside : List Written) → Walks inside
+-- none is a brace where braces aren't text
+enclosed_walks : (mode : Mode) {opening closing : Terminal} (kind : Brackets opening closing) → is_bracketed mode kind ≡ true
+    → is_custom mode ≡ false → (own other : List ℕ) (spaced blank : Bool) (first last : Terminal) (inside : List Written) → Walks inside
     → (count : ℕ) (rest : List Written)
     → walked walks.Sign count
     (enclosed (written (sort_of (opening_kind kind) own) spaced first) inside
     (written (sort_of (closing_kind kind) other) blank last) rest)
     ≡ walked walks.Sign count rest
-enclosed_walks parens e own other spaced blank first last inside inner count rest =
+enclosed_walks mode parens e plain own other spaced blank first last inside inner count rest =
     inner (count + 1) (written sorts.CloseParen blank last ∷ rest) ∙ ap (λ (n : ℕ). walked walks.Sign n rest) (one_less count)
-enclosed_walks squares e own other spaced blank first last inside inner count rest =
+enclosed_walks mode squares e plain own other spaced blank first last inside inner count rest =
     inner (count + 1) (written sorts.CloseBracket blank last ∷ rest) ∙ ap (λ (n : ℕ). walked walks.Sign n rest) (one_less count)
-enclosed_walks braces e own other spaced blank first last inside inner count rest = absurd (cc)
+enclosed_walks mode braces e plain own other spaced blank first last inside inner count rest =
+    absurd (let wrong : true ≡ false = sym e ∙ plain in cc)
 
 opening_sort : {opening closing : Terminal} (kind : Brackets opening closing) (own : List ℕ)
     → sort_of (opening_kind kind) own ≡ bracket_sort kind
 opening_sort parens own = refl
 opening_sort squares own = refl
 opening_sort braces own = refl
+
+no_insert : {opening closing : Terminal} (kind : Brackets opening closing) → same (bracket_sort kind) sorts.OpenInsert ≡ false
+no_insert parens = refl
+no_insert squares = refl
+no_insert braces = refl
 
 -- ---- brackets around items
 
@@ -209,10 +215,6 @@ module _ (source : Source) (mode : Mode) {i c : ℕ} {opening closing : Terminal
 
   abbrev list : List Joint
   list = inner.joints
-
-  -- no braces, and no value in it
-  abbrev item_bare_inside : Bool
-  item_bare_inside = not (same (bracket_sort kind) sorts.OpenBrace) && row_bare row
 
   abbrev rest_joints : List Joint
   rest_joints = list ++ Token closed ∷ []
@@ -264,15 +266,14 @@ module _ (source : Source) (mode : Mode) {i c : ℕ} {opening closing : Terminal
       rest inside_raw more)
 
   -- a walk goes over them with what they hold
-  all_walks : item_bare_inside ≡ true → Walks (writtens all_joints)
-  all_walks bare count rest =
+  all_walks : is_custom mode ≡ false → Walks (writtens all_joints)
+  all_walks plain count rest =
       let one : Written = written (sort_of (opening_kind kind) (bytes_at source i)) opened.spaced opening in
       let two : Written = written (sort_of (closing_kind kind) (bytes_at source c)) closed.spaced closing in
       ap (λ (t : List Written). walked walks.Sign count (one ∷ (t ++ rest))) (writtens_append list (Token closed ∷ []))
       ∙ ap (λ (t : List Written). walked walks.Sign count (one ∷ t)) (append_assoc (writtens list) (two ∷ []) rest)
-      ∙ enclosed_walks kind (and_left (not (same (bracket_sort kind) sorts.OpenBrace)) _ bare) (bytes_at source i) (bytes_at source c)
-      opened.spaced closed.spaced opening closing (writtens list)
-      (inner.walks (and_right (not (same (bracket_sort kind) sorts.OpenBrace)) _ bare)) count rest
+      ∙ enclosed_walks mode kind are.bracketed plain (bytes_at source i) (bytes_at source c) opened.spaced closed.spaced opening
+      closing (writtens list) (inner.walks plain) count rest
 
   all_tells : TellBefore said all_joints
   all_tells others more says = (
@@ -386,10 +387,12 @@ module _ (source : Source) (mode : Mode) {i c : ℕ} {opening closing : Terminal
       head = written (sort_of (opening_kind kind) (bytes_at source i)) opened.spaced opening;
       tail = writtens rest_joints;
       is = refl;
-      same = λ e. opening_sort kind (bytes_at source i);
+      told = inl (opening_sort kind (bytes_at source i));
+      digits_is = λ e. absurd (cc);
       spaced_is = refl;
     };
     one = λ e. absurd (cc);
+    over = λ e more. absurd (let none = no_insert kind in let wrong : true ≡ false = sym e ∙ none in cc);
     walks = all_walks;
     placed = all_placed;
     first = all_first;

@@ -1,12 +1,14 @@
 -- Raw text as the pass over tokens sees it from its begin on.
-use Rattle.std.proofs.Common.{◌≡◌, ℕ, Bool, true, false, List, [], ◌∷◌, ◌++◌, Option, Some, None, refl, ◌∙◌, ap, append_assoc}
+use Rattle.std.proofs.Common.{◌≡◌, ◌⊎◌, ℕ, Bool, true, false, List, [], ◌∷◌, ◌++◌, Option, Some, None, refl, ◌∙◌, ap, append_assoc}
 use Rattle.sw_tokens.specs.declared.pieces.Before.{Before}
 use Rattle.sw_tokens.specs.Tokens.{is_spaced}
 use Rattle.sw_parse_lexemes.specs.declared.sort.Sort.{Sort}
 use Rattle.sw_parse_lexemes.specs.declared.sort.Sort.TheVariants as sorts
 use Rattle.sw_parse_lexemes.specs.declared.state.Walk.TheVariants as walks
 use Rattle.sw_parse_lexemes.specs.Ahead.{to_sign}
-use Rattle.sw_parse_lexemes.specs.Classes.{is_name}
+use Rattle.sw_parse_lexemes.specs.declared.state.Mode.{Mode}
+use Rattle.sw_parse_lexemes.specs.Brackets.{is_custom}
+use Rattle.sw_parse_lexemes.specs.Classes.{is_name, same}
 use Rattle.sw_parse_table.specs.declared.source.Source.{Source}
 use Rattle.sw_parse_table.specs.Parts.{Part}
 use Rattle.sw_convert_spelling.specs.Spelt.{behind_gap}
@@ -15,14 +17,19 @@ use Rattle.sw_convert_heads_passing.specs.Rules.{walked}
 use Rattle.sw_convert_again.specs.Tokens.{Tok, Extent}
 use Rattle.sw_convert_again.specs.RawTexts.{SpellsRawItem, SpellsRawText, raw_token, raw_end, raw_more}
 use Rattle.sw_convert_texts.specs.RawKinds.{gap_before, leaves}
-use Rattle.sw_convert_texts.specs.RuleTexts.{item_sort, is_begin, row_bare}
+use Rattle.sw_convert_texts.specs.RuleTexts.{item_sort, item_digits, is_literal}
 
--- tokens begin with one of a sort
-pub record Head (sort : Sort) (spaced : Bool) (list : List Written) : Type 0 where
+-- a token that is written has the sort of the one that was read; both may be numbers or strings
+abbrev pub ToldSort : Sort → Sort → Type 0
+ToldSort sort new = (new ≡ sort) ⊎ ((is_literal sort ≡ true) × (is_literal new ≡ true))
+
+-- tokens begin with one of a sort, which is digits with a unit, or not
+pub record Head (sort : Sort) (digits spaced : Bool) (list : List Written) : Type 0 where
   pub head : Written
   pub tail : List Written
   pub is : list ≡ head ∷ tail
-  pub same : is_begin sort ≡ true → head.sort ≡ sort
+  pub told : ToldSort sort head.sort
+  pub digits_is : digits ≡ true → head.sort ≡ sorts.Digits
   pub spaced_is : head.spaced ≡ spaced
 
 -- a walk up to a `;` or a brace goes over them
@@ -87,13 +94,20 @@ abbrev pub is_one : {source : Source} {i k : ℕ} {parts : List Part} {tokens : 
 is_one (raw_token old) = true
 is_one _ = false
 
+-- behind the `#{` of a value a walk over a word goes over the rest of it
+abbrev pub IsOver : Sort → List Written → List Written → Type 0
+IsOver sort tail rest =
+    same sort sorts.OpenInsert ≡ true → (more : List Written)
+    → walked walks.Word 1 (tail ++ more) ≡ walked walks.Word 0 (rest ++ more)
+
 -- items one behind the other begin so, where this stands before them, and so do those behind the first
-abbrev pub RowHead : {source : Source} {i j : ℕ} {parts : List Part} {tokens : List Tok} {extents : List Extent}
+abbrev pub RowHead : Mode → {source : Source} {i j : ℕ} {parts : List Part} {tokens : List Tok} {extents : List Extent}
     → Before → SpellsRawText source i j parts tokens extents → List Written → Type 0
-RowHead start raw_end list = list ≡ []
-RowHead {source} start (raw_more {i = i} item text) list =
+RowHead mode start raw_end list = list ≡ []
+RowHead mode {source} start (raw_more {i = i} item text) list =
     (rest : List Written)
-    × (head : Head (item_sort item) (is_spaced (behind_gap start (gap_before source i))) list)
+    × (head : Head (item_sort item) (item_digits item) (is_spaced (behind_gap start (gap_before source i))) list)
     × (is_one item ≡ true → head.tail ≡ rest)
-    × (row_bare (raw_more item text) ≡ true → Walks list)
-    × RowHead (leaves item) text rest
+    × IsOver (item_sort item) head.tail rest
+    × (is_custom mode ≡ false → Walks list)
+    × RowHead mode (leaves item) text rest

@@ -3,8 +3,10 @@ use Rattle.std.proofs.Common.{◌≡◌, ℕ, suc, ◌+◌, Bool, true, false, �
 use Rattle.std.specs.List.{list_all}
 use Rattle.sw_tokens.specs.Tokens.{is_spaced}
 use Rattle.sw_parse_lexemes.specs.declared.sort.Sort.{Sort}
-use Rattle.sw_convert_texts.specs.RuleTexts.{item_sort}
-use Rattle.sw_convert_texts.proofs.RawHeads.{Head, Walks, walks_append}
+use Rattle.sw_parse_lexemes.specs.declared.state.Walk.TheVariants as walks
+use Rattle.sw_convert_heads_passing.specs.Rules.{walked}
+use Rattle.sw_convert_texts.specs.RuleTexts.{item_sort, item_digits}
+use Rattle.sw_convert_texts.proofs.RawHeads.{Head, Walks, walks_append, IsOver}
 use Rattle.sw_text_scan.specs.Bytes.{is_white}
 use Rattle.sw_text_scan.proofs.Bounds.{and_left, and_right}
 use Rattle.sw_tokens.specs.declared.pieces.Before.{Before}
@@ -77,20 +79,24 @@ row_placed xs ys count others extents further cut then counted ended one more ne
     (one new at front (text ys ++ after) to end (shifted (suc (at + count)) further ++ list) (then cuts) here left behind_cut)
 
 -- what the first item begins with
-abbrev row_first : (sort : Sort) (spaced : Bool) (xs ys : List Joint) → Head sort spaced (writtens xs) → Head sort spaced (writtens (xs ++ ys))
-row_first sort spaced xs ys one = record {
+abbrev row_first : (sort : Sort) (digits spaced : Bool) (xs ys : List Joint) → Head sort digits spaced (writtens xs)
+    → Head sort digits spaced (writtens (xs ++ ys))
+row_first sort digits spaced xs ys one = record {
   head = one.head;
   tail = one.tail ++ writtens ys;
   is = writtens_append xs ys ∙ ap (λ (t : List Written). t ++ writtens ys) one.is;
-  same = one.same;
+  told = one.told;
+  digits_is = one.digits_is;
   spaced_is = one.spaced_is;
 }
 
-row_walks : {a b : Bool} (xs ys : List Joint) → (a ≡ true → Walks (writtens xs)) → (b ≡ true → Walks (writtens ys))
-    → (a && b) ≡ true → Walks (writtens (xs ++ ys))
-row_walks {a} {b} xs ys one more e =
-    subst Walks (sym (writtens_append xs ys))
-    (walks_append (writtens xs) (writtens ys) (one (and_left a b e)) (more (and_right a b e)))
+row_walks : (xs ys : List Joint) → Walks (writtens xs) → Walks (writtens ys) → Walks (writtens (xs ++ ys))
+row_walks xs ys one more = subst Walks (sym (writtens_append xs ys)) (walks_append (writtens xs) (writtens ys) one more)
+
+row_over : (sort : Sort) (tail : List Written) (ys : List Joint) → IsOver sort tail []
+    → IsOver sort (tail ++ writtens ys) (writtens ys)
+row_over sort tail ys over e more =
+    ap (walked walks.Word 1) (append_assoc tail (writtens ys) more) ∙ over e (writtens ys ++ more)
 
 module _ (source : Source) (was : WasRead source) (mode : Mode) where
   more_is : {i k j : ℕ} {parts more : List Part} {tokens others : List Tok} {extents further : List Extent}
@@ -113,12 +119,13 @@ module _ (source : Source) (was : WasRead source) (mode : Mode) where
         tells = one.tells ys rest.tells (λ new commented at front after sit. tt);
         head = (
           writtens ys,
-          row_first (item_sort item) (is_spaced (behind_gap start (gap_before source i))) xs ys one.head,
+          row_first (item_sort item) (item_digits item) (is_spaced (behind_gap start (gap_before source i))) xs ys one.head,
           λ e. ap (λ (t : List Written). t ++ writtens ys) (one.one e),
-          λ e. row_walks xs ys one.walks rest.walks e,
+          row_over (item_sort item) one.head.tail ys one.over,
+          λ e. row_walks xs ys (one.walks e) (rest.walks e),
           rest.head,
         );
-        walks = row_walks xs ys one.walks rest.walks;
+        walks = λ e. row_walks xs ys (one.walks e) (rest.walks e);
         placed = λ new at front after to end list cuts here sit cut.
             row_placed xs ys (length tokens) (length others) extents further
             (λ cuts. begun (gap_before source i) (item_cut source item cuts)) (row_cut source row) one.counted (one.ended false)

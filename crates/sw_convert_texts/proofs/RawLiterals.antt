@@ -4,7 +4,7 @@ use Rattle.std.specs.Prelude.{◌==◌, codes, bytes_eq, slice_range}
 use Rattle.std.specs.List.{list_all}
 use Rattle.std.proofs.lemmas.Bool.Decides.{nat_tests}
 use Rattle.std.proofs.lemmas.Slice.Eq.{bytes_eq-Decides}
-use Rattle.sw_convert_texts.specs.RuleTexts.{is_begin}
+use Rattle.sw_convert_texts.specs.RuleTexts.{is_literal}
 use Rattle.sw_convert_texts.proofs.RawHeads.{is_neutral}
 use Rattle.sw_tokens.specs.declared.token.TokenKind.{TokenKind}
 use Rattle.sw_convert_tokens.proofs.NumberPieces.{is_numeric}
@@ -22,7 +22,7 @@ use Rattle.sw_tokens.specs.Decoded.{decoded}
 use Rattle.sw_tokens.specs.Pieces.{made, piece, quote_piece, code_piece, word_piece, name_piece, sign_piece, opens_url}
 use Rattle.sw_parse_lexemes.specs.declared.sort.Sort.{Sort}
 use Rattle.sw_parse_lexemes.specs.declared.sort.Sort.TheVariants as sorts
-use Rattle.sw_parse_lexemes.specs.Classes.{is_name, is_comment}
+use Rattle.sw_parse_lexemes.specs.Classes.{is_name, is_number, is_comment}
 use Rattle.sw_parse_terminals.specs.Urls.{has_namespace}
 use Rattle.sw_parse_lexemes.specs.Sorts.{quoted_sort, sort_of}
 use Rattle.sw_convert_spelling.specs.Neighbours.{joins_sign}
@@ -93,14 +93,22 @@ pub record IsPlain (sort : Sort) : Type 0 where
   pub unnamed : is_name sort ≡ false
   pub unhex : is_hex sort ≡ false
   pub leaves : befores.Other ≡ sort_behind sort
-  pub unbegun : is_begin sort ≡ false
+  pub literal : is_literal sort ≡ true
 
 pick_neutral : (t : Bool) → is_neutral (if t then sorts.Quoted else sorts.Unnamed) ≡ true
 pick_neutral true = refl
 pick_neutral false = refl
 
-unbegun_so : {P : Type 0} (sort : Sort) → IsPlain sort → is_begin sort ≡ true → P
-unbegun_so sort plain e = absurd (let none = plain.unbegun in let wrong : true ≡ false = sym e ∙ none in cc)
+pick_literal : (t : Bool) → is_literal (if t then sorts.Quoted else sorts.Unnamed) ≡ true
+pick_literal true = refl
+pick_literal false = refl
+
+-- no number in quotes
+quoted_digits : (text : List ℕ) → is_quote (byte text 0) ≡ true → is_digits text ≡ false
+quoted_digits text q = left_no (is_digit (byte text 0)) _ (go (byte text 0) q)
+  where
+    go : (b : ℕ) → is_quote b ≡ true → is_digit b ≡ false
+    go b e = grind (arith, nat_tests)
 
 pick_seen : (t : Bool) → is_comment (if t then sorts.Quoted else sorts.Unnamed) ≡ false
 pick_seen true = refl
@@ -124,7 +132,10 @@ string_raw sort (b ∷ c ∷ rest) plain e =
           (calm_by before sort (b ∷ c ∷ rest) plain.unnamed plain.unhex stands) first.1 first.2
           (string_alone (b ∷ c ∷ rest) e) (ap not (no_other b ((c ∷ rest) ++ after) first.1));
       raw = λ mode around spaced rest more. told.raw_token (quoted_sort told_text) (pick_raw (has_namespace told_text)) more;
-      same = unbegun_so sort plain;
+      told = inr (plain.literal, pick_literal (has_namespace told_text));
+      digits = λ d.
+          let none = right_no (is_number sort) _ (quoted_digits (b ∷ c ∷ rest) (and_left (is_quote (byte (b ∷ c ∷ rest) 0)) _ e)) in
+          absurd (let wrong : true ≡ false = sym d ∙ none in cc);
       neutral = pick_neutral (has_namespace told_text);
     }
 
@@ -215,6 +226,11 @@ numeric_neutral kinds.Digits text e = refl
 numeric_neutral kinds.Number text e = refl
 numeric_neutral _ text e = absurd (cc)
 
+numeric_literal : (kind : TokenKind) (text : List ℕ) → is_numeric kind ≡ true → is_literal (sort_of kind text) ≡ true
+numeric_literal kinds.Digits text e = refl
+numeric_literal kinds.Number text e = refl
+numeric_literal _ text e = absurd (cc)
+
 -- by the sort, a number
 pub number_raw : (sort : Sort) (text behind : List ℕ) → IsPlain sort
     → ((after : List ℕ) → told_by sort text after ≡ true → number_stays text after ≡ true)
@@ -234,7 +250,8 @@ number_raw sort text behind plain same some e = go (is_digits text) refl
           (digits_stay text after d (same after (stays_is sort text after plain.unnamed stays))) before
           (calm_by before sort text plain.unnamed plain.unhex stands);
       raw = λ mode around spaced rest more. told.raw_number sorts.Digits refl more;
-      same = unbegun_so sort plain;
+      told = inr (plain.literal, refl);
+      digits = λ e. refl;
       neutral = refl;
     }
     go false d =
@@ -254,7 +271,9 @@ number_raw sort text behind plain same some e = go (is_digits text) refl
           raw = λ mode around spaced rest more.
               told.raw_number (sort_of (numbers.kind text counts) text)
               (numeric_sort (numbers.kind text counts) text (numbers.numeric text counts)) more;
-          same = unbegun_so sort plain;
+          told = inr (plain.literal, numeric_literal (numbers.kind text counts) text (numbers.numeric text counts));
+          digits = λ both_are. absurd
+              (let wrong : true ≡ false = sym (and_right (is_number sort) _ both_are) ∙ d in cc);
           neutral = numeric_neutral (numbers.kind text counts) text (numbers.numeric text counts);
         }
 
@@ -271,7 +290,8 @@ colour_raw text behind some e = record {
   black = first_black text some (and_left (list_all is_hex_digit text) _ (and_left (is_colour text) _ e));
   token = λ after stays before stands. by before stands after (stays_is sorts.Hex text after refl stays);
   raw = λ mode around spaced rest more. told.raw_token sorts.Hex refl more;
-  same = λ e. refl;
+  told = inl refl;
+  digits = λ e. absurd (let wrong : false ≡ true = e in cc);
   neutral = refl;
 }
   where
@@ -322,7 +342,8 @@ other_by b u brace white alone joins = record {
       token_by kinds.Other b [] after insides.Sheet before refl (calm_by before sorts.Other (b ∷ []) refl refl stands) u brace alone
       (fits b after u (joins after));
   raw = λ mode around spaced rest more. told.raw_token sorts.Other refl more;
-  same = λ e. refl;
+  told = inl refl;
+  digits = λ e. absurd (let wrong : false ≡ true = e in cc);
   neutral = refl;
 }
 

@@ -1,11 +1,10 @@
 -- Names of raw text are the tokens that they were, before what is written behind them.
-use Rattle.std.proofs.Common.{◌≡◌, ◌<◌, ℕ, Bool, true, false, not, ◌&&◌, List, [], ◌∷◌, ◌++◌, length, Option, Some, None, refl, sym, ◌∙◌, ap, subst, ◌-◌, arith}
+use Rattle.std.proofs.Common.{◌≡◌, inl, ◌<◌, ℕ, Bool, true, false, not, ◌&&◌, List, [], ◌∷◌, ◌++◌, length, Option, Some, None, refl, sym, ◌∙◌, ap, subst, ◌-◌, arith}
 use Rattle.std.specs.Prelude.{◌==◌}
 use Rattle.std.specs.List.{list_all}
 use Rattle.std.proofs.lemmas.Bool.Decides.{nat_tests}
 use Rattle.sw_parse_lexemes.specs.declared.sort.Sort.TheVariants as sorts
-use Rattle.sw_convert_texts.specs.RuleTexts.{is_begin}
-use Rattle.sw_convert_texts.proofs.RawHeads.{is_neutral, name_neutral}
+use Rattle.sw_convert_texts.proofs.RawHeads.{ToldSort, is_neutral, name_neutral}
 use Rattle.sw_text_scan.specs.declared.signs.TheConstants.{LINE_FEED, CARRIAGE_RETURN}
 use Rattle.sw_text_scan.specs.Bytes.{sign, byte, is_white, is_name_byte}
 use Rattle.sw_text_scan.specs.Words.{is_u}
@@ -23,7 +22,7 @@ use Rattle.sw_parse_terminals.specs.declared.terminal.Terminal.TheVariants as te
 use Rattle.sw_parse_lexemes.specs.declared.sort.Sort.{Sort}
 use Rattle.sw_parse_lexemes.specs.declared.state.Mode.{Mode}
 use Rattle.sw_parse_lexemes.specs.Ahead.{sort_at}
-use Rattle.sw_parse_lexemes.specs.Classes.{is_name, is_comment}
+use Rattle.sw_parse_lexemes.specs.Classes.{is_name, is_number, is_comment}
 use Rattle.sw_parse_lexemes.specs.Sorts.{sort_of}
 use Rattle.sw_parse_table.specs.declared.source.Source.{Source}
 use Rattle.sw_parse_table.specs.Sources.{lexeme_at, bytes_at}
@@ -40,7 +39,7 @@ use Rattle.sw_convert_tokens.proofs.NamePieces.{name_in, name_keep}
 use Rattle.sw_convert_tokens.proofs.Names.{token_at, dollar_at, hash_at, name_black}
 use Rattle.sw_convert_tokens.proofs.Stops.{Behind, nothing_parts}
 use Rattle.sw_convert_tokens.proofs.Words.{kind_of_name, name_opens, name_behind, name_comment}
-use Rattle.sw_convert_texts.specs.RawKinds.{goes_on, is_colour, is_hex, stands_behind, sort_behind, is_some, is_unescaped, name_stays, told_by, token_stays}
+use Rattle.sw_convert_texts.specs.RawKinds.{goes_on, is_colour, is_digits, is_hex, stands_behind, sort_behind, is_some, is_unescaped, name_stays, told_by, token_stays}
 use Rattle.sw_convert_texts.proofs.LexemePairs.{plains_in}
 use Rattle.sw_convert_texts.proofs.OldPieces.{old_piece, whole_bytes, Whole}
 
@@ -56,7 +55,8 @@ pub record RawToken (sort : Sort) (text : List ℕ) : Type 0 where
       → stands_behind before sort text ≡ true → piece (text ++ after) insides.Sheet before 0 ≡ made kind (length text) changes.Keep
   pub raw : (mode : Mode) (around : Around) (spaced : Bool) (rest : List Written) → RawText mode around rest
       → RawText mode around (written (sort_of kind text) spaced terminals.Raw ∷ rest)
-  pub same : is_begin sort ≡ true → sort_of kind text ≡ sort
+  pub told : ToldSort sort (sort_of kind text)
+  pub digits : (is_number sort && is_digits text) ≡ true → sort_of kind text ≡ sorts.Digits
   pub neutral : is_neutral (sort_of kind text) ≡ true
 
 -- ---- names
@@ -104,6 +104,11 @@ name_there sort text after n e =
     sym (if_true (is_name sort) (name_stays text (byte after 0)) (told_by sort text after) n)
     ∙ and_right (is_some text) _ e
 
+pub no_number : (sort : Sort) → is_name sort ≡ true → is_number sort ≡ false
+no_number sorts.Digits e = absurd (cc)
+no_number sorts.Number e = absurd (cc)
+no_number _ e = refl
+
 pub name_leaves : (sort : Sort) → is_name sort ≡ true → sort_behind sort ≡ befores.Other
 name_leaves sorts.Hash e = absurd (cc)
 name_leaves sorts.Dollar e = absurd (cc)
@@ -141,7 +146,8 @@ module _ (source : Source) (was : WasRead source) (k : ℕ) (lexeme : Lexeme) (t
                 by before stands after (behind_name text after (name_there sort_here text after n stays)) named
                 ∙ ap (made kind (length text)) keep;
             raw = λ mode around spaced rest more. told.raw_name (sort_of kind text) (ap is_name (sym sort) ∙ n) more;
-            same = λ e. sym sort;
+            told = inl (sym sort);
+            digits = λ e. absurd (let no = no_number sort_here n in let wrong : true ≡ false = sym e ∙ left_no (is_number sort_here) _ no in cc);
             neutral = name_neutral (sort_of kind text) (ap is_name (sym sort) ∙ n);
           }
         where

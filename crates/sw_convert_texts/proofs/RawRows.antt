@@ -1,9 +1,15 @@
 -- Raw text without comments is written as its tokens, item by item.
-use Rattle.std.proofs.Common.{◌≡◌, ℕ, suc, ◌+◌, ◌-◌, Bool, true, false, not, List, [], ◌∷◌, ◌++◌, length, refl, sym, ◌∙◌, ap, subst, arith, append_assoc, append-nil, length-append}
+use Rattle.std.proofs.Common.{◌≡◌, inl, inr, ℕ, suc, ◌+◌, ◌-◌, Bool, true, false, not, List, [], ◌∷◌, ◌++◌, length, refl, sym, ◌∙◌, ap, subst, arith, append_assoc, append-nil, length-append}
 use Rattle.std.specs.Prelude.{codes}
 use Rattle.std.specs.List.{list_all}
-use Rattle.sw_convert_texts.specs.RuleTexts.{item_sort, item_bare, row_bare}
-use Rattle.sw_convert_texts.proofs.RawHeads.{Head, Walks, one_walks, is_one, RowHead}
+use Rattle.sw_parse_lexemes.specs.declared.state.Walk.TheVariants as walks
+use Rattle.sw_parse_lexemes.specs.Brackets.{is_custom}
+use Rattle.sw_parse_lexemes.specs.Classes.{same}
+use Rattle.sw_parse_lexemes.specs.Sorts.{sort_of}
+use Rattle.sw_convert_heads_passing.specs.Rules.{walked}
+use Rattle.sw_convert_texts.specs.RuleTexts.{item_sort, item_digits}
+use Rattle.sw_convert_texts.proofs.Levels.{sign_over, word_over}
+use Rattle.sw_convert_texts.proofs.RawHeads.{ToldSort, Head, Walks, is_neutral, one_walks, is_one, IsOver, RowHead}
 use Rattle.sw_text_scan.proofs.Bounds.{and_left, and_right}
 use Rattle.sw_text_scan.specs.Bytes.{sign, byte, is_white}
 use Rattle.sw_tree.specs.declared.expr.Expr.{Expr}
@@ -96,9 +102,10 @@ pub record ItemIs (source : Source) (mode : Mode) {i k : ℕ} {parts : List Part
   pub raw : IsRaw mode joints
   pub tells : TellBefore said joints
   pub ends : EndThere joints (length tokens)
-  pub head : Head (item_sort item) (is_spaced (behind_gap before gap)) (writtens joints)
+  pub head : Head (item_sort item) (item_digits item) (is_spaced (behind_gap before gap)) (writtens joints)
   pub one : is_one item ≡ true → head.tail ≡ []
-  pub walks : item_bare item ≡ true → Walks (writtens joints)
+  pub over : IsOver (item_sort item) head.tail []
+  pub walks : is_custom mode ≡ false → Walks (writtens joints)
   pub placed : Placed joints (length tokens) extents (λ cuts. begun gap (item_cut source item cuts))
   pub first : Begun joints (length tokens) extents (item_cut source item)
   pub stand : StandBefore before joints behind_text
@@ -119,10 +126,16 @@ pub record RowIs (source : Source) (mode : Mode) {i j : ℕ} {parts : List Part}
   pub ended : ends_apart false joints ≡ false
   pub raw : IsRaw mode joints
   pub tells : Tell joints
-  pub head : RowHead start row (writtens joints)
-  pub walks : row_bare row ≡ true → Walks (writtens joints)
+  pub head : RowHead mode start row (writtens joints)
+  pub walks : is_custom mode ≡ false → Walks (writtens joints)
   pub placed : Placed joints (length tokens) extents (row_cut source row)
   pub stand : StandBefore start joints behind_text
+
+-- no token alone is a `#{`
+no_insert : (sort new : Sort) → ToldSort sort new → is_neutral new ≡ true → same sort sorts.OpenInsert ≡ true → ⊥
+no_insert sorts.OpenInsert new (inl e) neutral f = let wrong : true ≡ false = sym neutral ∙ ap is_neutral e in cc
+no_insert sorts.OpenInsert new (inr (l, m)) neutral f = let wrong : false ≡ true = l in cc
+no_insert _ new told_new neutral f = let wrong : false ≡ true = f in cc
 
 -- white space before what begins with none
 pub white_gap : (gap own : List ℕ) → list_all is_white gap ≡ true → is_white (byte own 0) ≡ false
@@ -165,8 +178,16 @@ module _ (source : Source) (was : WasRead source) (mode : Mode) where
         raw = λ around rest more. token.raw mode around seen.spaced rest more;
         tells = λ others more says. (says, more);
         ends = λ new commented at front after sit. sit_first new commented at front seen [] after sit refl;
-        head = record { head = written_of (Token seen); tail = []; is = refl; same = token.same; spaced_is = refl };
+        head = record {
+          head = written_of (Token seen);
+          tail = [];
+          is = refl;
+          told = token.told;
+          digits_is = token.digits;
+          spaced_is = refl;
+        };
         one = λ e. refl;
+        over = λ e more. absurd (no_insert (sort_there old) (sort_of token.kind (bytes_at source i)) token.told token.neutral e);
         walks = λ e. one_walks (written_of (Token seen)) token.neutral;
         placed = λ new at front after to end more cuts here sit rest.
             cut_token new to end at gap (bytes_at source i) more cuts (step_sits new at front seen after here sit.0)
@@ -225,13 +246,17 @@ module _ (source : Source) (was : WasRead source) (mode : Mode) where
         (toks_append list (closed ∷ [])
         ∙ ap (λ (t : List Tok). t ++ again.sign terminals.InsertEnd ∷ []) inner.segment.seen)
 
+    insert_tail : (rest : List Written)
+        → writtens (list ++ closed ∷ []) ++ rest ≡ inner.passed ++ direct sorts.CloseInsert terminals.InsertEnd ∷ rest
+    insert_tail rest =
+        ap (λ (t : List Written). t ++ rest)
+        (writtens_append list (closed ∷ []) ∙ ap (λ (t : List Written). t ++ direct sorts.CloseInsert terminals.InsertEnd ∷ []) inner.segment.written)
+        ∙ append_assoc inner.passed (direct sorts.CloseInsert terminals.InsertEnd ∷ []) rest
+
     insert_raw : IsRaw mode insert_joints
     insert_raw around rest more =
         subst (RawText mode around)
-        (sym (ap (λ (t : List Written). written sorts.OpenInsert opened.spaced terminals.Insert ∷ t)
-        (ap (λ (t : List Written). t ++ rest)
-        (writtens_append list (closed ∷ []) ∙ ap (λ (t : List Written). t ++ direct sorts.CloseInsert terminals.InsertEnd ∷ []) inner.segment.written)
-        ∙ append_assoc inner.passed (direct sorts.CloseInsert terminals.InsertEnd ∷ []) rest)))
+        (sym (ap (λ (t : List Written). written sorts.OpenInsert opened.spaced terminals.Insert ∷ t) (insert_tail rest)))
         (told.raw_insert (inner_items inner) more)
 
     insert_tells : TellBefore said insert_joints
@@ -280,11 +305,16 @@ module _ (source : Source) (was : WasRead source) (mode : Mode) where
         head = written_of (Token opened);
         tail = writtens (list ++ closed ∷ []);
         is = refl;
-        same = λ e. refl;
+        told = inl refl;
+        digits_is = λ e. absurd (cc);
         spaced_is = refl;
       };
       one = λ e. absurd (cc);
-      walks = λ e. absurd (cc);
+      over = λ e more. ap (walked walks.Word 1) (insert_tail more) ∙ word_over inner.passed (inner_items inner) more;
+      walks = λ e count more.
+          ap (λ (t : List Written). walked walks.Sign count (written sorts.OpenInsert opened.spaced terminals.Insert ∷ t))
+          (insert_tail more)
+          ∙ sign_over inner.passed (inner_items inner) opened.spaced terminals.Insert count more;
       placed = insert_placed;
       first = insert_first;
       stand = λ after ends.

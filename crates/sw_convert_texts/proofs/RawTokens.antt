@@ -29,12 +29,12 @@ some_as : (text own : List ℕ) → own ≡ text → is_some text ≡ true → i
 some_as text own e some = ap is_some e ∙ some
 
 told_raw : (sort : Sort) (text behind : List ℕ) → is_some text ≡ true → told_by sort text behind ≡ true → RawToken sort text
-told_raw sorts.Quoted text behind some e = string_raw sorts.Quoted text (record { unnamed = refl; unhex = refl; leaves = refl; unbegun = refl }) e
-told_raw sorts.Unnamed text behind some e = string_raw sorts.Unnamed text (record { unnamed = refl; unhex = refl; leaves = refl; unbegun = refl }) e
+told_raw sorts.Quoted text behind some e = string_raw sorts.Quoted text (record { unnamed = refl; unhex = refl; leaves = refl; literal = refl }) e
+told_raw sorts.Unnamed text behind some e = string_raw sorts.Unnamed text (record { unnamed = refl; unhex = refl; leaves = refl; literal = refl }) e
 told_raw sorts.Digits text behind some e =
-    number_raw sorts.Digits text behind (record { unnamed = refl; unhex = refl; leaves = refl; unbegun = refl }) (λ after f. f) some e
+    number_raw sorts.Digits text behind (record { unnamed = refl; unhex = refl; leaves = refl; literal = refl }) (λ after f. f) some e
 told_raw sorts.Number text behind some e =
-    number_raw sorts.Number text behind (record { unnamed = refl; unhex = refl; leaves = refl; unbegun = refl }) (λ after f. f) some e
+    number_raw sorts.Number text behind (record { unnamed = refl; unhex = refl; leaves = refl; literal = refl }) (λ after f. f) some e
 told_raw sorts.Hex text behind some e = colour_raw text behind some e
 told_raw sorts.Other text behind some e = other_raw text e
 told_raw sort text behind some e =

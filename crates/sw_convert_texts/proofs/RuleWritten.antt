@@ -1,5 +1,6 @@
 -- What stands before the block of a rule is written as its tokens, and these begin a rule.
 use Rattle.std.proofs.Common.{◌≡◌, ◌⊎◌, ℕ, Bool, true, false, not, ◌&&◌, ◌||◌, inl, inr, List, [], ◌∷◌, ◌++◌, refl, sym, ◌∙◌, ap, subst, append_assoc}
+use Rattle.std.specs.Prelude.{if◌then◌else◌}
 use Rattle.sw_text_scan.proofs.Bounds.{and_left, and_right, not_true}
 use Rattle.sw_tokens.specs.declared.pieces.Before.{Before}
 use Rattle.sw_tokens.specs.declared.pieces.Before.TheVariants as befores
@@ -7,40 +8,54 @@ use Rattle.sw_tokens.specs.Tokens.{is_spaced}
 use Rattle.sw_parse_lexemes.specs.declared.sort.Sort.{Sort}
 use Rattle.sw_parse_lexemes.specs.declared.sort.Sort.TheVariants as sorts
 use Rattle.sw_parse_lexemes.specs.declared.state.Mode.TheVariants as modes
-use Rattle.sw_parse_lexemes.specs.Ahead.{over_comment}
+use Rattle.sw_parse_lexemes.specs.declared.state.Walk.TheVariants as walks
+use Rattle.sw_parse_lexemes.specs.Ahead.{in_insert}
 use Rattle.sw_parse_lexemes.specs.Classes.{is_name, goes_on as goes_on_sort, same}
 use Rattle.sw_parse_table.specs.declared.source.Source.{Source}
 use Rattle.sw_parse_table.specs.Parts.{Part}
 use Rattle.sw_parse_table.specs.Sources.{parts_between}
 use Rattle.sw_convert_spelling.specs.Spelt.{behind_gap}
-use Rattle.sw_convert_spelling.proofs.Choices.{left_no, right_no}
+use Rattle.sw_convert_spelling.proofs.Choices.{left_no, right_no, both}
 use Rattle.sw_convert_passing.specs.Written.{Written}
 use Rattle.sw_convert_passing.specs.Kinds.{is_dot, is_dollar}
 use Rattle.sw_convert_written.specs.Expressions.{parts_written}
 use Rattle.sw_convert_heads_passing.specs.Blocks.{open_sign}
 use Rattle.sw_convert_heads_passing.specs.RawTexts.{RawText, Outside}
 use Rattle.sw_convert_heads_passing.specs.RawTexts as told
-use Rattle.sw_convert_heads_passing.specs.Rules.{is_direct, is_pseudo, no_variable, is_rule}
+use Rattle.sw_convert_heads_passing.specs.Rules.{walked, is_direct, is_pseudo, no_variable, is_rule}
 use Rattle.sw_convert_again.specs.Tokens.{Tok, Extent}
 use Rattle.sw_convert_again.specs.RawTexts.{parens, squares, braces, SpellsRawItem, SpellsRawText, raw_token, raw_insert, raw_brackets, raw_end, raw_more, raw_tokens}
-use Rattle.sw_convert_texts.specs.RawKinds.{gap_before, row_text, is_some, sign_text, sort_behind, leaves, item_known}
-use Rattle.sw_convert_texts.specs.RuleTexts.{item_sort, is_begin, is_selector_sign, is_type, goes_as_class, goes_as_pseudo, goes_as_rule, begins_rule, seams_of, RuleTextsAreWritten}
+use Rattle.sw_convert_texts.specs.RawKinds.{gap_before, row_text, sort_there, is_some, sort_behind, leaves, item_known}
+use Rattle.sw_convert_texts.specs.RuleTexts.{item_sort, item_digits, is_begin, is_literal, is_lead, is_type, is_part, ends_word, goes_as_class, goes_as_pseudo, goes_as_rule, goes_behind_name, begins_as, begins_rule, seams_of, RuleTextsAreWritten}
 use Rattle.sw_convert_texts.specs.RawTexts.{SheetSegment, EndsText}
-use Rattle.sw_convert_texts.proofs.RawHeads.{Head, is_one, RowHead}
+use Rattle.sw_convert_texts.proofs.RawHeads.{Head, is_one, IsOver, RowHead}
 use Rattle.sw_convert_tokens.specs.Joints.{writtens}
 use Rattle.sw_convert_tokens.proofs.Joins.{writtens_append}
 use Rattle.sw_convert_texts.proofs.RawRows.{row_leaves}
 use Rattle.sw_convert_texts.proofs.RawWritten.{whole_text, whole_raw, uncut_same}
-use Rattle.sw_convert_texts.proofs.RuleHeads.{block, sign_rule, type_name, Ends, no_comment, alone_rule, next_rule, pseudo_rule, is_pseudo_so}
+use Rattle.sw_convert_texts.proofs.RuleHeads.{block, which, or_first, or_second, as_told, exact, literal_new, name_unliteral, lead_rule, ends_so, word_so, block_so, Ends, no_comment, word_stops, ends_plain, ends_pseudo, word_part, name_goes, named_insert, insert_rule, minus_rule, dashed_rule, name_rule, alone_rule, is_pseudo_begin, pseudo_unliteral, is_pseudo_so}
 
 -- white space stands there
 gap_spaced : (start : Before) (gap : List ℕ) → is_some gap ≡ true → is_spaced (behind_gap start gap) ≡ true
 gap_spaced start [] e = absurd (cc)
 gap_spaced start (b ∷ gap) e = refl
 
-no_gap : (start : Before) (gap : List ℕ) → is_some gap ≡ false → behind_gap start gap ≡ start
-no_gap start [] e = refl
-no_gap start (b ∷ gap) e = absurd (cc)
+gap_direct : (start : Before) (gap : List ℕ) → is_spaced start ≡ false → is_some gap ≡ false
+    → is_spaced (behind_gap start gap) ≡ false
+gap_direct start [] dark e = dark
+gap_direct start (b ∷ gap) dark e = absurd (cc)
+
+-- none stands directly behind an item
+leaves_direct : {source : Source} {i k : ℕ} {parts : List Part} {tokens : List Tok} {extents : List Extent}
+    (item : SpellsRawItem source i k parts tokens extents) → is_spaced (leaves item) ≡ false
+leaves_direct (raw_token old) = go (sort_there old)
+  where
+    go : (sort : Sort) → is_spaced (sort_behind sort) ≡ false
+    go sorts.Hash = refl
+    go sorts.Dollar = refl
+    go _ = refl
+leaves_direct (raw_insert opens inner close) = refl
+leaves_direct (raw_brackets kind opens text close) = refl
 
 -- an item that begins with none of these is one token
 one_by : (f : Sort → Bool) → f sorts.OpenInsert ≡ false → f sorts.OpenParen ≡ false → f sorts.OpenBracket ≡ false
@@ -52,191 +67,273 @@ one_by f insert paren square brace (raw_brackets parens opens text close) e = ab
 one_by f insert paren square brace (raw_brackets squares opens text close) e = absurd (let wrong : true ≡ false = sym e ∙ square in cc)
 one_by f insert paren square brace (raw_brackets braces opens text close) e = absurd (let wrong : true ≡ false = sym e ∙ brace in cc)
 
-leaves_by : {source : Source} {i k : ℕ} {parts : List Part} {tokens : List Tok} {extents : List Extent}
-    (item : SpellsRawItem source i k parts tokens extents) → is_one item ≡ true → leaves item ≡ sort_behind (item_sort item)
-leaves_by (raw_token old) e = refl
-leaves_by (raw_insert opens inner close) e = absurd (cc)
-leaves_by (raw_brackets kind opens text close) e = absurd (cc)
+one_digits : {source : Source} {i k : ℕ} {parts : List Part} {tokens : List Tok} {extents : List Extent}
+    (item : SpellsRawItem source i k parts tokens extents) → item_digits item ≡ true → is_one item ≡ true
+one_digits (raw_token old) e = refl
+one_digits (raw_insert opens inner close) e = absurd (let wrong : false ≡ true = e in cc)
+one_digits (raw_brackets kind opens text close) e = absurd (let wrong : false ≡ true = e in cc)
 
-or_first : (a b : Bool) → a ≡ true → (a || b) ≡ true
-or_first true b e = refl
-or_first false b e = absurd (cc)
+-- by the sort that is looked for
+is_minus : (sort : Sort) → same sort sorts.Minus ≡ true → sort ≡ sorts.Minus
+is_minus sorts.Minus e = refl
+is_minus _ e = absurd (cc)
 
-which : (a b : Bool) → (a || b) ≡ true → (a ≡ true) ⊎ (b ≡ true)
-which true b e = inl refl
-which false b e = inr e
-
-begin_name : (sort : Sort) → is_name sort ≡ true → is_begin sort ≡ true
-begin_name sorts.Other e = refl
-begin_name sorts.OpenInsert e = refl
-begin_name sorts.OpenParen e = refl
-begin_name sorts.OpenBracket e = refl
-begin_name sorts.OpenBrace e = refl
-begin_name sort e = or_first (is_name sort) (is_some (sign_text sort)) e
-
-begin_sign : (sort : Sort) → is_selector_sign sort ≡ true → is_begin sort ≡ true
-begin_sign sorts.Dot e = refl
-begin_sign sorts.Hash e = refl
-begin_sign sorts.Colon e = refl
-begin_sign sorts.Ampersand e = refl
-begin_sign sorts.Star e = refl
-begin_sign sorts.Percent e = refl
-begin_sign sorts.Plus e = refl
-begin_sign sorts.Greater e = refl
-begin_sign sorts.OpenBracket e = refl
-begin_sign sorts.Other e = refl
-begin_sign _ e = absurd (cc)
-
-begin_colon : (sort : Sort) → same sort sorts.Colon ≡ true → is_begin sort ≡ true
-begin_colon sorts.Colon e = refl
-begin_colon _ e = absurd (cc)
+is_insert : (sort : Sort) → same sort sorts.OpenInsert ≡ true → sort ≡ sorts.OpenInsert
+is_insert sorts.OpenInsert e = refl
+is_insert _ e = absurd (cc)
 
 -- ---- behind a `.` and behind a `:`
 
 class_so : (unclosed : Bool) (before : Before) {source : Source} {k j : ℕ} {more : List Part} {others : List Tok}
-    {further : List Extent} (row : SpellsRawText source k j more others further) (list : List Written) → RowHead before row list
-    → goes_as_class row ≡ true → no_variable (list ++ block unclosed) ≡ true
-class_so unclosed before raw_end list rows e = absurd (cc)
-class_so unclosed before (raw_more item row) list (rest, third, one, walk, rows) e =
-    let sort_is = third.same (and_left (is_begin (item_sort item)) _ e) in
+    {further : List Extent} (row : SpellsRawText source k j more others further) (list : List Written)
+    → RowHead modes.Raw before row list → goes_as_class row ≡ true → no_variable (list ++ block unclosed) ≡ true
+class_so true before raw_end list rows e = ap (λ (t : List Written). no_variable (t ++ block true)) rows
+class_so false before raw_end list rows e = ap (λ (t : List Written). no_variable (t ++ block false)) rows
+class_so unclosed before (raw_more item row) list (rest, third, one, over, walk, rows) e =
     ap (λ (t : List Written). no_variable (t ++ block unclosed)) third.is
     ∙ ap not (right_no (not third.head.spaced) _
-    (ap is_dollar sort_is ∙ not_true (same (item_sort item) sorts.Dollar) (and_right (is_begin (item_sort item)) _ e)))
+    (as_told is_dollar false refl refl refl refl (item_sort item) third.head.sort third.told
+    (not_true (same (item_sort item) sorts.Dollar) e)))
 
-pseudo_so : (unclosed : Bool) (before : Before) → before ≡ befores.Other → {source : Source} {k j : ℕ} {more : List Part}
+pseudo_so : (unclosed : Bool) (before : Before) → is_spaced before ≡ false → {source : Source} {k j : ℕ} {more : List Part}
     {others : List Tok} {further : List Extent} (row : SpellsRawText source k j more others further) (list : List Written)
-    → RowHead before row list → goes_as_pseudo row ≡ true → is_pseudo (list ++ block unclosed) ≡ true
-pseudo_so unclosed before plain raw_end list rows e = absurd (cc)
-pseudo_so unclosed before plain {source} (raw_more {i = at} item row) list (rest, third, one, walk, rows) e =
-    let head = and_left (not (is_some (gap_before source at)) && (is_name (item_sort item) || same (item_sort item) sorts.Colon)) _ e in
-    let bare = and_right (not (is_some (gap_before source at)) && (is_name (item_sort item) || same (item_sort item) sorts.Colon)) _ e in
-    let direct = not_true (is_some (gap_before source at)) (and_left (not (is_some (gap_before source at))) _ head) in
+    → RowHead modes.Raw before row list → goes_as_pseudo row ≡ true → is_pseudo (list ++ block unclosed) ≡ true
+pseudo_so unclosed before dark raw_end list rows e = absurd (cc)
+pseudo_so unclosed before dark {source} (raw_more {i = at} item row) list (rest, third, one, over, walk, rows) e =
+    let begins = and_right (not (is_some (gap_before source at))) (is_pseudo_begin (item_sort item)) e in
+    let direct = not_true (is_some (gap_before source at)) (and_left (not (is_some (gap_before source at))) _ e) in
     is_pseudo_so list third.head third.tail unclosed third.is
-    (third.spaced_is ∙ ap is_spaced (no_gap before (gap_before source at) direct ∙ plain))
-    (go (which (is_name (item_sort item)) _ (and_right (not (is_some (gap_before source at))) _ head))) (walk bare)
-  where
-    go : (is_name (item_sort item) ≡ true) ⊎ (same (item_sort item) sorts.Colon ≡ true)
-        → (is_name third.head.sort ≡ true) ⊎ (same third.head.sort sorts.Colon ≡ true)
-    go (inl n) = inl (ap is_name (third.same (begin_name (item_sort item) n)) ∙ n)
-    go (inr c) = inr (ap (λ (s : Sort). same s sorts.Colon) (third.same (begin_colon (item_sort item) c)) ∙ c)
+    (third.spaced_is ∙ gap_direct before (gap_before source at) dark direct)
+    (ap is_pseudo_begin
+    (exact (item_sort item) third.head.sort third.told (pseudo_unliteral (item_sort item) begins)) ∙ begins)
+    (walk refl)
 
--- ---- by the sort of what stands behind the name
+-- ---- behind a word
 
-module _ {source : Source} (sort : Sort) (first : Written) (first_is : first.sort ≡ sort) (type : is_type sort ≡ true)
-    (unclosed : Bool) (before : Before) {i k j : ℕ} {parts more : List Part} {tokens others : List Tok}
-    {extents further : List Extent} (next : SpellsRawItem source i k parts tokens extents)
-    (row : SpellsRawText source k j more others further) (list rest : List Written)
-    (second : Head (item_sort next) (is_spaced (behind_gap before (gap_before source i))) list)
-    (one : is_one next ≡ true → second.tail ≡ rest) (rows : RowHead (leaves next) row rest) where
-  abbrev IsRuleSo : Type 0
-  IsRuleSo = is_rule (first ∷ second.head ∷ (second.tail ++ block unclosed)) ≡ true
-
+-- an item, behind which more stand
+module _ {source : Source} (unclosed dashed : Bool) (before : Before) (dark : is_spaced before ≡ false) {i k j : ℕ}
+    {parts more : List Part} {tokens others : List Tok} {extents further : List Extent}
+    (next : SpellsRawItem source i k parts tokens extents) (row : SpellsRawText source k j more others further)
+    (list rest : List Written)
+    (second : Head (item_sort next) (item_digits next) (is_spaced (behind_gap before (gap_before source i))) list)
+    (one : is_one next ≡ true → second.tail ≡ rest) (over : IsOver (item_sort next) second.tail rest)
+    (rows : RowHead modes.Raw (leaves next) row rest)
+    (onward : goes_as_rule row dashed ≡ true → word_so dashed 0 (rest ++ block unclosed) ≡ true) where
   abbrev spaced : Bool
   spaced = is_some (gap_before source i)
+
+  abbrev behind : List Written
+  behind = second.tail ++ block unclosed
 
   white : spaced ≡ true → second.head.spaced ≡ true
   white e = second.spaced_is ∙ gap_spaced before (gap_before source i) e
 
-  ends_by : (s : Sort) → second.head.sort ≡ s → is_begin s ≡ true → (spaced || not (goes_on_sort s)) ≡ true → Ends second.head
-  ends_by s e begins apart = record {
-    apart = go (which spaced (not (goes_on_sort s)) apart);
-    seen = ap (λ (t : Sort). over_comment t 0) e ∙ no_comment s begins;
-  }
+  direct : spaced ≡ false → second.head.spaced ≡ false
+  direct e = second.spaced_is ∙ gap_direct before (gap_before source i) dark e
+
+  -- one token goes on with it
+  token_goes : spaced ≡ false → (sort : Sort) → second.head.sort ≡ sort → goes_on_sort sort ≡ true → in_insert sort 0 ≡ 0
+      → is_one next ≡ true → goes_as_rule row dashed ≡ true → word_so dashed 0 (second.head ∷ behind) ≡ true
+  token_goes e sort same_is goes counted single g =
+      word_part dashed second.head behind 0 (direct e) (ap goes_on_sort same_is ∙ goes) (ap (λ (s : Sort). in_insert s 0) same_is ∙ counted)
+      ∙ ap (λ (t : List Written). word_so dashed 0 (t ++ block unclosed)) (one single) ∙ onward g
+
+  -- a value does
+  insert_goes : spaced ≡ false → same (item_sort next) sorts.OpenInsert ≡ true → goes_as_rule row dashed ≡ true
+      → word_so dashed 0 (second.head ∷ behind) ≡ true
+  insert_goes e insert g =
+      let is = is_insert (item_sort next) insert in
+      let same_is = exact (item_sort next) second.head.sort second.told (ap is_literal is) ∙ is in
+      word_part dashed second.head behind 1 (direct e) (ap goes_on_sort same_is) (ap (λ (s : Sort). in_insert s 0) same_is)
+      ∙ ap (λ (t : List Written). ends_so dashed (walked walks.Comments 0 t)) (over insert (block unclosed)) ∙ onward g
+
+  part_goes : spaced ≡ false → is_part next ≡ true → goes_as_rule row dashed ≡ true
+      → word_so dashed 0 (second.head ∷ behind) ≡ true
+  part_goes e part g = go (which (item_digits next) _ part)
     where
-      go : (spaced ≡ true) ⊎ (not (goes_on_sort s) ≡ true) → (not second.head.spaced && goes_on_sort second.head.sort) ≡ false
-      go (inl w) = left_no (not second.head.spaced) _ (ap not (white w))
-      go (inr n) = right_no (not second.head.spaced) _ (ap goes_on_sort e ∙ not_true (goes_on_sort s) n)
+      sign : (same (item_sort next) sorts.Minus ≡ true) ⊎ (same (item_sort next) sorts.OpenInsert ≡ true)
+          → word_so dashed 0 (second.head ∷ behind) ≡ true
+      sign (inl m) =
+          let is = is_minus (item_sort next) m in
+          token_goes e sorts.Minus (exact (item_sort next) second.head.sort second.told (ap is_literal is) ∙ is) refl refl
+          (one_by (λ s. same s sorts.Minus) refl refl refl refl next m) g
+      sign (inr insert) = insert_goes e insert g
 
-  other_so : (s : Sort) → item_sort next ≡ s → same s sorts.Colon ≡ false → is_dot s ≡ false
-      → (is_begin s && (spaced || not (goes_on_sort s))) ≡ true → IsRuleSo
-  other_so s e colon dot g =
-      let begins = and_left (is_begin s) _ g in
-      let is = second.same (ap is_begin e ∙ begins) ∙ e in
-      next_rule sort first second.head (second.tail ++ block unclosed) first_is type
-      (ends_by s is begins (and_right (is_begin s) _ g)) (ap (λ (t : Sort). same t sorts.Colon) is ∙ colon)
-      (λ d. absurd (let none = right_no (not second.head.spaced) _ (ap is_dot is ∙ dot) in let wrong : true ≡ false = sym d ∙ none in cc))
+      word : (is_name (item_sort next) ≡ true) ⊎ ((same (item_sort next) sorts.Minus || same (item_sort next) sorts.OpenInsert) ≡ true)
+          → word_so dashed 0 (second.head ∷ behind) ≡ true
+      word (inl n) =
+          token_goes e (item_sort next) (exact (item_sort next) second.head.sort second.told (name_unliteral (item_sort next) n))
+          (name_goes (item_sort next) n) (named_insert (item_sort next) n) (one_by is_name refl refl refl refl next n) g
+      word (inr s) = sign (which (same (item_sort next) sorts.Minus) _ s)
 
-  dot_so : item_sort next ≡ sorts.Dot → (spaced || goes_as_class row) ≡ true → IsRuleSo
-  dot_so e g =
-      let is = second.same (ap is_begin e) ∙ e in
-      next_rule sort first second.head (second.tail ++ block unclosed) first_is type
-      (ends_by sorts.Dot is refl (dots spaced)) (ap (λ (t : Sort). same t sorts.Colon) is)
-      (λ d. by d (which spaced (goes_as_class row) g))
+      go : (item_digits next ≡ true)
+          ⊎ ((is_name (item_sort next) || (same (item_sort next) sorts.Minus || same (item_sort next) sorts.OpenInsert)) ≡ true)
+          → word_so dashed 0 (second.head ∷ behind) ≡ true
+      go (inl d) = token_goes e sorts.Digits (second.digits_is d) refl refl (one_digits next d) g
+      go (inr w) = word (which (is_name (item_sort next)) _ w)
+
+  -- or it ends the word
+  head_ends : ends_word spaced (item_sort next) ≡ true → Ends second.head
+  head_ends e = go (is_literal (item_sort next)) refl e
     where
-      dots : (a : Bool) → (a || true) ≡ true
-      dots true = refl
-      dots false = refl
+      spaced_or : (spaced ≡ true) ⊎ (not (goes_on_sort (item_sort next)) ≡ true) → second.head.sort ≡ item_sort next
+          → (not second.head.spaced && goes_on_sort second.head.sort) ≡ false
+      spaced_or (inl w) is = left_no (not second.head.spaced) _ (ap not (white w))
+      spaced_or (inr n) is =
+          right_no (not second.head.spaced) _ (ap goes_on_sort is ∙ not_true (goes_on_sort (item_sort next)) n)
 
-      by : is_direct is_dot second.head ≡ true → (spaced ≡ true) ⊎ (goes_as_class row ≡ true)
-          → no_variable (second.tail ++ block unclosed) ≡ true
-      by d (inl w) = absurd (let none = left_no (not second.head.spaced) _ (ap not (white w)) in
-          let wrong : true ≡ false = sym d ∙ none in cc)
-      by d (inr class) =
-          ap (λ (t : List Written). no_variable (t ++ block unclosed))
-          (one (one_by is_dot refl refl refl refl next (ap is_dot e)))
-          ∙ class_so unclosed (leaves next) row rest rows class
+      go : (t : Bool) → is_literal (item_sort next) ≡ t
+          → (if t then spaced else (is_begin (item_sort next) && (spaced || not (goes_on_sort (item_sort next))))) ≡ true
+          → Ends second.head
+      go true l w = record {
+        apart = left_no (not second.head.spaced) _ (ap not (white w));
+        seen = no_comment second.head.sort
+            (or_second (is_begin second.head.sort) _ (literal_new (item_sort next) second.head.sort second.told l));
+      }
+      go false l w =
+          let is = exact (item_sort next) second.head.sort second.told l in record {
+            apart = spaced_or (which spaced _ (and_right (is_begin (item_sort next)) _ w)) is;
+            seen = no_comment second.head.sort
+                (or_first (is_begin second.head.sort) _ (ap is_begin is ∙ and_left (is_begin (item_sort next)) _ w));
+          }
 
-  colon_so : item_sort next ≡ sorts.Colon → goes_as_pseudo row ≡ true → IsRuleSo
-  colon_so e g =
-      let is = second.same (ap is_begin e) ∙ e in
-      let single = one_by (λ s. same s sorts.Colon) refl refl refl refl next (ap (λ (s : Sort). same s sorts.Colon) e) in
-      pseudo_rule sort first second.head (second.tail ++ block unclosed) first_is type
-      (record {
-        apart = right_no (not second.head.spaced) _ (ap goes_on_sort is);
-        seen = ap (λ (t : Sort). over_comment t 0) is;
-      })
-      (right_no (not second.head.spaced) _ (ap is_dot is))
-      (ap (λ (t : List Written). is_pseudo (t ++ block unclosed)) (one single)
-      ∙ pseudo_so unclosed (leaves next) (leaves_by next single ∙ ap sort_behind e) row rest rows g)
+  ends_here : (ends_word spaced (item_sort next) && (not (same (item_sort next) sorts.Colon) || (not dashed && goes_as_pseudo row))) ≡ true
+      → word_so dashed 0 (second.head ∷ behind) ≡ true
+  ends_here e =
+      word_stops dashed second.head behind (head_ends (and_left (ends_word spaced (item_sort next)) _ e))
+      ∙ go (same (item_sort next) sorts.Colon) refl (and_right (ends_word spaced (item_sort next)) _ e)
+    where
+      go : (t : Bool) → same (item_sort next) sorts.Colon ≡ t → (not t || (not dashed && goes_as_pseudo row)) ≡ true
+          → ends_so dashed (second.head ∷ behind) ≡ true
+      go false c f =
+          ends_plain dashed second.head behind
+          (as_told (λ s. same s sorts.Colon) false refl refl refl refl (item_sort next) second.head.sort second.told c)
+      go true c f =
+          ends_pseudo dashed second.head behind (and_left (not dashed) _ f)
+          (ap (λ (t : List Written). is_pseudo (t ++ block unclosed)) (one (one_by (λ s. same s sorts.Colon) refl refl refl refl next c))
+          ∙ pseudo_so unclosed (leaves next) (leaves_direct next) row rest rows (and_right (not dashed) _ f))
 
-  next_so : (s : Sort) → item_sort next ≡ s → goes_as_rule spaced s row ≡ true → IsRuleSo
-  next_so sorts.Colon e g = colon_so e g
-  next_so sorts.Dot e g = dot_so e g
-  next_so s e g = other_so s e refl refl g
+  pub next_so : goes_as_rule (raw_more next row) dashed ≡ true → word_so dashed 0 (list ++ block unclosed) ≡ true
+  next_so e = ap (λ (t : List Written). word_so dashed 0 (t ++ block unclosed)) second.is ∙ go (not spaced && is_part next) refl e
+    where
+      go : (t : Bool) → (not spaced && is_part next) ≡ t
+          → (if t then goes_as_rule row dashed
+          else (ends_word spaced (item_sort next) && (not (same (item_sort next) sorts.Colon) || (not dashed && goes_as_pseudo row)))) ≡ true
+          → word_so dashed 0 (second.head ∷ behind) ≡ true
+      go true p f = part_goes (not_true spaced (and_left (not spaced) _ p)) (and_right (not spaced) _ p) f
+      go false p f = ends_here f
+
+-- items behind a word
+word_row : (unclosed dashed : Bool) {source : Source} {k j : ℕ} {more : List Part} {others : List Tok} {further : List Extent}
+    (row : SpellsRawText source k j more others further) (before : Before) → is_spaced before ≡ false → (list : List Written)
+    → RowHead modes.Raw before row list → goes_as_rule row dashed ≡ true → word_so dashed 0 (list ++ block unclosed) ≡ true
+word_row unclosed dashed raw_end before dark list rows e =
+    ap (λ (t : List Written). word_so dashed 0 (t ++ block unclosed)) rows ∙ block_so dashed unclosed
+word_row unclosed dashed (raw_more item row) before dark list (rest, second, one, over, walk, rows) e =
+    next_so unclosed dashed before dark item row list rest second one over rows
+    (λ f. word_row unclosed dashed row (leaves item) (leaves_direct item) rest rows f) e
+
+-- ---- behind a name that begins the text
+
+name_row : (first : Written) → is_type first.sort ≡ true → (unclosed : Bool) {source : Source} {k j : ℕ} {more : List Part}
+    {others : List Tok} {further : List Extent} (row : SpellsRawText source k j more others further) (before : Before)
+    → is_spaced before ≡ false → (list : List Written) → RowHead modes.Raw before row list → goes_behind_name row ≡ true
+    → is_rule (first ∷ (list ++ block unclosed)) ≡ true
+name_row first type unclosed raw_end before dark list rows e =
+    ap (λ (t : List Written). is_rule (first ∷ (t ++ block unclosed))) rows ∙ alone_rule first unclosed type
+name_row first type unclosed {source} (raw_more {i = at} item row) before dark list (rest, second, one, over, walk, rows) e =
+    ap (λ (t : List Written). is_rule (first ∷ (t ++ block unclosed))) second.is ∙ go (not spaced && same (item_sort item) sorts.Dot) refl e
+  where
+    spaced : Bool
+    spaced = is_some (gap_before source at)
+
+    white : spaced ≡ true → second.head.spaced ≡ true
+    white f = second.spaced_is ∙ gap_spaced before (gap_before source at) f
+
+    direct : spaced ≡ false → second.head.spaced ≡ false
+    direct f = second.spaced_is ∙ gap_direct before (gap_before source at) dark f
+
+    no_dot : (t : Bool) → spaced ≡ t → (not t && same (item_sort item) sorts.Dot) ≡ false → is_direct is_dot second.head ≡ false
+    no_dot true w d = left_no (not second.head.spaced) _ (ap not (white w))
+    no_dot false w d =
+        right_no (not second.head.spaced) _
+        (as_told is_dot false refl refl refl refl (item_sort item) second.head.sort second.told d)
+
+    dot_is : (sort : Sort) → same sort sorts.Dot ≡ true → is_literal sort ≡ false
+    dot_is sorts.Dot d = refl
+    dot_is _ d = absurd (cc)
+
+    go : (t : Bool) → (not spaced && same (item_sort item) sorts.Dot) ≡ t
+        → (if t then goes_as_class row else goes_as_rule (raw_more item row) false) ≡ true
+        → is_rule (first ∷ second.head ∷ (second.tail ++ block unclosed)) ≡ true
+    go true d f =
+        let dot = and_right (not spaced) (same (item_sort item) sorts.Dot) d in
+        name_rule first second.head (second.tail ++ block unclosed) type
+        (λ n. ap (λ (t : List Written). no_variable (t ++ block unclosed)) (one (one_by is_dot refl refl refl refl item dot))
+        ∙ class_so unclosed (leaves item) row rest rows f)
+        (λ n. absurd (let there : is_direct is_dot second.head ≡ true =
+        both (not second.head.spaced) _ (ap not (direct (not_true spaced (and_left (not spaced) _ d))))
+        (ap is_dot (exact (item_sort item) second.head.sort second.told (dot_is (item_sort item) dot)) ∙ dot) in
+        let wrong : true ≡ false = sym there ∙ n in cc))
+    go false d f =
+        name_rule first second.head (second.tail ++ block unclosed) type
+        (λ n. absurd (let none = no_dot spaced refl d in let wrong : true ≡ false = sym n ∙ none in cc))
+        (λ n. sym (ap (λ (t : List Written). word_so false 0 (t ++ block unclosed)) second.is)
+        ∙ word_row unclosed false (raw_more item row) before dark list (rest, second, one, over, walk, rows) f)
 
 -- ---- by the first token
 
 module _ {source : Source} {i k : ℕ} {parts : List Part} {tokens : List Tok} {extents : List Extent}
     (item : SpellsRawItem source i k parts tokens extents) (xs ys : List Written) (spaced unclosed : Bool)
-    (first : Head (item_sort item) spaced xs) (one : is_one item ≡ true → first.tail ≡ []) where
-  by_sign : is_selector_sign (item_sort item) ≡ true → is_rule ((xs ++ ys) ++ block unclosed) ≡ true
-  by_sign e =
+    (first : Head (item_sort item) (item_digits item) spaced xs) (one : is_one item ≡ true → first.tail ≡ [])
+    (over : IsOver (item_sort item) first.tail []) {j : ℕ} {more : List Part} {others : List Tok} {further : List Extent}
+    (row : SpellsRawText source k j more others further) (rows : RowHead modes.Raw (leaves item) row ys) where
+  dark : is_spaced (leaves item) ≡ false
+  dark = leaves_direct item
+
+  -- one token
+  lone : is_one item ≡ true → is_rule (first.head ∷ (ys ++ block unclosed)) ≡ true → is_rule ((xs ++ ys) ++ block unclosed) ≡ true
+  lone single e =
+      ap (λ (t : List Written). is_rule ((t ++ ys) ++ block unclosed)) (first.is ∙ ap (λ (t : List Written). first.head ∷ t) (one single)) ∙ e
+
+  exactly : (sort : Sort) → item_sort item ≡ sort → is_literal sort ≡ false → first.head.sort ≡ sort
+  exactly sort is none = exact (item_sort item) first.head.sort first.told (ap is_literal is ∙ none) ∙ is
+
+  sign_so : is_lead (item_sort item) ≡ true → is_rule ((xs ++ ys) ++ block unclosed) ≡ true
+  sign_so e =
       ap (λ (t : List Written). is_rule ((t ++ ys) ++ block unclosed)) first.is
-      ∙ sign_rule (item_sort item) first.head (first.tail ++ ys) unclosed (first.same (begin_sign (item_sort item) e)) e
+      ∙ lead_rule first.head (first.tail ++ ys) unclosed
+      (as_told is_lead true refl refl refl refl (item_sort item) first.head.sort first.told e)
 
-  -- a name by itself
-  type_is : is_type (item_sort item) ≡ true → (xs ≡ first.head ∷ []) × (first.head.sort ≡ item_sort item)
-  type_is e = (
-    first.is ∙ ap (λ (t : List Written). first.head ∷ t) (one (one_by is_type refl refl refl refl item e)),
-    first.same (begin_name (item_sort item) (type_name (item_sort item) e)),
-  )
-
-  pub begins_so : {j : ℕ} {more : List Part} {others : List Tok} {further : List Extent}
-      (row : SpellsRawText source k j more others further) → RowHead (leaves item) row ys → begins_rule (raw_more item row) ≡ true
-      → is_rule ((xs ++ ys) ++ block unclosed) ≡ true
-  begins_so raw_end rows told = go (which (is_selector_sign (item_sort item)) _ told)
+  by_sort : (sort : Sort) → item_sort item ≡ sort → begins_as sort row ≡ true → is_rule ((xs ++ ys) ++ block unclosed) ≡ true
+  by_sort sorts.DashedName is e =
+      lone (one_by is_name refl refl refl refl item (ap is_name is))
+      (dashed_rule first.head (ys ++ block unclosed) (exactly sorts.DashedName is refl)
+      (word_row unclosed true row (leaves item) dark ys rows e))
+  by_sort sorts.Minus is e =
+      lone (one_by (λ s. same s sorts.Minus) refl refl refl refl item (ap (λ (s : Sort). same s sorts.Minus) is))
+      (minus_rule first.head (ys ++ block unclosed) (exactly sorts.Minus is refl)
+      (word_row unclosed false row (leaves item) dark ys rows e))
+  by_sort sorts.OpenInsert is e =
+      ap (λ (t : List Written). is_rule ((t ++ ys) ++ block unclosed)) first.is
+      ∙ insert_rule first.head ((first.tail ++ ys) ++ block unclosed) (exactly sorts.OpenInsert is refl)
+      (ap (λ (t : List Written). ends_so false (walked walks.Comments 0 t))
+      (ap (walked walks.Word 1) (append_assoc first.tail ys (block unclosed))
+      ∙ over (ap (λ (s : Sort). same s sorts.OpenInsert) is) (ys ++ block unclosed))
+      ∙ word_row unclosed false row (leaves item) dark ys rows e)
+  by_sort sort is e = go (which (is_lead sort) _ e) refl
     where
-      go : (is_selector_sign (item_sort item) ≡ true) ⊎ (is_type (item_sort item) ≡ true) → is_rule ((xs ++ ys) ++ block unclosed) ≡ true
-      go (inl e) = by_sign e
-      go (inr e) =
-          let (is, same_is) = type_is e in
-          ap (λ (t : List Written). is_rule ((t ++ ys) ++ block unclosed)) is
-          ∙ ap (λ (t : List Written). is_rule (first.head ∷ (t ++ block unclosed))) rows
-          ∙ alone_rule (item_sort item) first.head unclosed same_is e
-  begins_so (raw_more {i = at} next row) (rest, second, single, walk, rows) told =
-      go (which (is_selector_sign (item_sort item)) _ told)
-    where
-      go : (is_selector_sign (item_sort item) ≡ true)
-          ⊎ ((is_type (item_sort item) && goes_as_rule (is_some (gap_before source at)) (item_sort next) row) ≡ true)
+      go : (is_lead sort ≡ true) ⊎ ((is_name sort && goes_behind_name row) ≡ true) → is_type sort ≡ is_name sort
           → is_rule ((xs ++ ys) ++ block unclosed) ≡ true
-      go (inl e) = by_sign e
-      go (inr e) =
-          let type = and_left (is_type (item_sort item)) _ e in
-          let (is, same_is) = type_is type in
-          ap (λ (t : List Written). is_rule ((t ++ ys) ++ block unclosed)) is
-          ∙ ap (λ (t : List Written). is_rule (first.head ∷ (t ++ block unclosed))) second.is
-          ∙ next_so (item_sort item) first.head same_is type unclosed (leaves item) next row ys rest second single rows
-          (item_sort next) refl (and_right (is_type (item_sort item)) _ e)
+      go (inl l) plain = sign_so (ap is_lead is ∙ l)
+      go (inr w) plain =
+          let n = and_left (is_name sort) (goes_behind_name row) w in
+          lone (one_by is_name refl refl refl refl item (ap is_name is ∙ n))
+          (name_row first.head (ap is_type (exactly sort is (name_unliteral sort n)) ∙ plain ∙ n) unclosed row (leaves item) dark ys rows
+          (and_right (is_name sort) (goes_behind_name row) w))
+
+  pub begins_so : begins_rule (raw_more item row) ≡ true → is_rule ((xs ++ ys) ++ block unclosed) ≡ true
+  begins_so e = by_sort (item_sort item) refl e
 
 -- ---- a whole text
 
@@ -257,7 +354,7 @@ rule_texts_written source i j values tokens extents was (raw_more item row) know
       rule = λ unclosed.
           ap is_rule (append_assoc (writtens (xs ++ ys)) (seams_of unclosed) (open_sign true ∷ [])
           ∙ ap (λ (t : List Written). t ++ block unclosed) (writtens_append xs ys))
-          ∙ begins_so item (writtens xs) (writtens ys) _ unclosed it.one.head it.one.one row it.rest.head begins;
+          ∙ begins_so item (writtens xs) (writtens ys) _ unclosed it.one.head it.one.one it.one.over row it.rest.head begins;
       end = row_leaves (leaves item) row;
       segment = subst
           (λ (own : List ℕ). SheetSegment before own (raw_tokens source i j values extents tokens) (writtens (xs ++ ys)) (row_leaves (leaves item) row) (EndsText own))

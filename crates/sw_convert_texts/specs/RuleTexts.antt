@@ -5,10 +5,10 @@ use Rattle.sw_parse_terminals.specs.declared.terminal.Terminal.{Terminal}
 use Rattle.sw_parse_lexemes.specs.declared.sort.Sort.{Sort}
 use Rattle.sw_parse_lexemes.specs.declared.sort.Sort.TheVariants as sorts
 use Rattle.sw_parse_lexemes.specs.declared.state.Mode.TheVariants as modes
-use Rattle.sw_parse_lexemes.specs.Classes.{is_name, goes_on, same}
+use Rattle.sw_parse_lexemes.specs.Classes.{is_name, is_number, goes_on, same}
 use Rattle.sw_parse_table.specs.declared.source.Source.{Source}
 use Rattle.sw_parse_table.specs.Parts.{Part}
-use Rattle.sw_parse_table.specs.Sources.{parts_between, text_between}
+use Rattle.sw_parse_table.specs.Sources.{bytes_at, parts_between, text_between}
 use Rattle.sw_convert_written.specs.Heads.{selector_text}
 use Rattle.sw_convert_written.specs.Expressions.{parts_written}
 use Rattle.sw_convert_passing.specs.Written.{Written}
@@ -22,7 +22,7 @@ use Rattle.sw_convert_tokens.specs.Values.{WasRead}
 use Rattle.sw_convert_tokens.specs.Written.{is_calm}
 use Rattle.sw_convert_texts.specs.Inserted.{RawTextHasValues}
 use Rattle.sw_convert_texts.specs.RawTexts.{SheetSegment, EndsText}
-use Rattle.sw_convert_texts.specs.RawKinds.{gap_before, sort_there, sign_text, is_some, raw_known, is_uncut}
+use Rattle.sw_convert_texts.specs.RawKinds.{gap_before, sort_there, sign_text, is_some, is_digits, raw_known, is_uncut}
 
 -- ---- what it begins with
 
@@ -38,75 +38,97 @@ item_sort (raw_token old) = sort_there old
 item_sort (raw_insert opens inner close) = sorts.OpenInsert
 item_sort (raw_brackets kind opens text close) = bracket_sort kind
 
--- names, signs and brackets
+-- names, colours, signs and brackets
 abbrev pub is_begin : Sort → Bool
 is_begin sorts.Other = true
+is_begin sorts.Hex = true
 is_begin sorts.OpenInsert = true
 is_begin sorts.OpenParen = true
 is_begin sorts.OpenBracket = true
 is_begin sorts.OpenBrace = true
 is_begin sort = is_name sort || is_some (sign_text sort)
 
--- a token with which a selector may begin and nothing else
-abbrev pub is_selector_sign : Sort → Bool
-is_selector_sign sorts.Dot = true
-is_selector_sign sorts.Hash = true
-is_selector_sign sorts.Colon = true
-is_selector_sign sorts.Ampersand = true
-is_selector_sign sorts.Star = true
-is_selector_sign sorts.Percent = true
-is_selector_sign sorts.Plus = true
-is_selector_sign sorts.Greater = true
-is_selector_sign sorts.OpenBracket = true
-is_selector_sign sorts.Other = true
-is_selector_sign _ = false
+-- numbers and strings
+abbrev pub is_literal : Sort → Bool
+is_literal sorts.Digits = true
+is_literal sorts.Number = true
+is_literal sorts.Quoted = true
+is_literal sorts.Unnamed = true
+is_literal _ = false
+
+-- a token with which a selector may begin, but no word and no other statement
+abbrev pub is_lead : Sort → Bool
+is_lead sorts.OpenInsert = false
+is_lead sorts.Minus = false
+is_lead sorts.Dollar = false
+is_lead sort = is_literal sort || (is_begin sort && not (is_name sort))
 
 -- a name that doesn't begin with `--`
 abbrev pub is_type : Sort → Bool
 is_type sorts.DashedName = false
 is_type sort = is_name sort
 
--- no value stands in items, and no braces
-abbrev mutual
-  pub item_bare : {source : Source} {i k : ℕ} {parts : List Part} {tokens : List Tok} {extents : List Extent}
-      → SpellsRawItem source i k parts tokens extents → Bool
-  item_bare (raw_token old) = true
-  item_bare (raw_insert opens inner close) = false
-  item_bare (raw_brackets kind opens text close) = not (same (bracket_sort kind) sorts.OpenBrace) && row_bare text
+-- a token that is digits with a unit or without
+abbrev pub item_digits : {source : Source} {i k : ℕ} {parts : List Part} {tokens : List Tok} {extents : List Extent}
+    → SpellsRawItem source i k parts tokens extents → Bool
+item_digits {source} (raw_token {i = i} old) = is_number (sort_there old) && is_digits (bytes_at source i)
+item_digits _ = false
 
-  pub row_bare : {source : Source} {i j : ℕ} {parts : List Part} {tokens : List Tok} {extents : List Extent}
-      → SpellsRawText source i j parts tokens extents → Bool
-  row_bare raw_end = true
-  row_bare (raw_more item text) = item_bare item && row_bare text
+-- what goes on with a word where it stands directly behind it
+abbrev pub is_part : {source : Source} {i k : ℕ} {parts : List Part} {tokens : List Tok} {extents : List Extent}
+    → SpellsRawItem source i k parts tokens extents → Bool
+is_part item =
+    item_digits item
+    || (is_name (item_sort item) || (same (item_sort item) sorts.Minus || same (item_sort item) sorts.OpenInsert))
+
+-- a token that ends a word, with white space before it or not
+abbrev pub ends_word : Bool → Sort → Bool
+ends_word spaced sort =
+    if is_literal sort then spaced
+    else (is_begin sort && (spaced || not (goes_on sort)))
 
 -- behind a `.` that stands directly behind a name: something else than a variable
 abbrev pub goes_as_class : {source : Source} {i j : ℕ} {parts : List Part} {tokens : List Tok} {extents : List Extent}
     → SpellsRawText source i j parts tokens extents → Bool
-goes_as_class raw_end = false
-goes_as_class (raw_more item text) = is_begin (item_sort item) && not (same (item_sort item) sorts.Dollar)
+goes_as_class raw_end = true
+goes_as_class (raw_more item text) = not (same (item_sort item) sorts.Dollar)
 
--- behind a `:` behind a name: directly the name of a pseudo or a second `:`, and no value
+-- directly behind a `:`: a name, a second `:` or a `#{`
 abbrev pub goes_as_pseudo : {source : Source} {i j : ℕ} {parts : List Part} {tokens : List Tok} {extents : List Extent}
     → SpellsRawText source i j parts tokens extents → Bool
 goes_as_pseudo raw_end = false
 goes_as_pseudo {source} (raw_more {i = i} item text) =
-    (not (is_some (gap_before source i)) && (is_name (item_sort item) || same (item_sort item) sorts.Colon))
-    && (item_bare item && row_bare text)
+    not (is_some (gap_before source i))
+    && (is_name (item_sort item) || (same (item_sort item) sorts.OpenInsert || same (item_sort item) sorts.Colon))
 
--- what stands behind a name makes no declaration of it
+-- what stands behind a word that goes on makes no declaration of it, and where it begins with `--` no custom property
 abbrev pub goes_as_rule : {source : Source} {i j : ℕ} {parts : List Part} {tokens : List Tok} {extents : List Extent}
-    → Bool → Sort → SpellsRawText source i j parts tokens extents → Bool
-goes_as_rule spaced sorts.Colon text = goes_as_pseudo text
-goes_as_rule spaced sorts.Dot text = spaced || goes_as_class text
-goes_as_rule spaced sort text = is_begin sort && (spaced || not (goes_on sort))
+    → SpellsRawText source i j parts tokens extents → Bool → Bool
+goes_as_rule raw_end dashed = true
+goes_as_rule {source} (raw_more {i = i} item text) dashed =
+    if not (is_some (gap_before source i)) && is_part item then goes_as_rule text dashed
+    else (ends_word (is_some (gap_before source i)) (item_sort item)
+    && (not (same (item_sort item) sorts.Colon) || (not dashed && goes_as_pseudo text)))
+
+-- and behind a name with which the text begins
+abbrev pub goes_behind_name : {source : Source} {i j : ℕ} {parts : List Part} {tokens : List Tok} {extents : List Extent}
+    → SpellsRawText source i j parts tokens extents → Bool
+goes_behind_name raw_end = true
+goes_behind_name {source} (raw_more {i = i} item text) =
+    if not (is_some (gap_before source i)) && same (item_sort item) sorts.Dot then goes_as_class text
+    else goes_as_rule (raw_more item text) false
+
+abbrev pub begins_as : {source : Source} {i j : ℕ} {parts : List Part} {tokens : List Tok} {extents : List Extent}
+    → Sort → SpellsRawText source i j parts tokens extents → Bool
+begins_as sorts.DashedName text = goes_as_rule text true
+begins_as sorts.OpenInsert text = goes_as_rule text false
+begins_as sorts.Minus text = goes_as_rule text false
+begins_as sort text = is_lead sort || (is_name sort && goes_behind_name text)
 
 abbrev pub begins_rule : {source : Source} {i j : ℕ} {parts : List Part} {tokens : List Tok} {extents : List Extent}
     → SpellsRawText source i j parts tokens extents → Bool
 begins_rule raw_end = false
-begins_rule (raw_more item raw_end) = is_selector_sign (item_sort item) || is_type (item_sort item)
-begins_rule {source} (raw_more item (raw_more {i = i} next text)) =
-    is_selector_sign (item_sort item)
-    || (is_type (item_sort item) && goes_as_rule (is_some (gap_before source i)) (item_sort next) text)
+begins_rule (raw_more item text) = begins_as (item_sort item) text
 
 -- ---- what it is written as
 

@@ -48,8 +48,8 @@ pub fn selectors_are_written()
     ensures { SelectorsAreWritten }
 {}
 
-/// A law: and to the pass over tokens these begin a rule, where the text begins with a sign of selectors or with a name
-/// behind which none of a declaration stands.
+/// A law: and to the pass over tokens these begin a rule, where the text begins with no word, or with one behind which none
+/// of a declaration or a custom property stands.
 pub fn rule_texts_are_written()
     ensures { RuleTextsAreWritten }
 {}
