@@ -37,7 +37,7 @@ use Rattle.sw_convert_tokens.specs.Written.{is_calm, begins_white}
 use Rattle.sw_convert_tokens.proofs.OpenEscapes.{run_state, nothing_open, states_text}
 use Rattle.sw_convert_tokens.proofs.Stops.{white_same}
 use Rattle.sw_convert_tokens.proofs.Names.{Start, code_name}
-use Rattle.sw_convert_texts.proofs.TerminalChoices.{is_at}
+use Rattle.sw_convert_texts.specs.RawKinds.{is_at}
 use Rattle.sw_convert_texts.proofs.TokenPairs.{at_yes}
 use Rattle.sw_convert_texts.proofs.Pieces.{is_frame, is_mark, Cases, piece_has, sign_has}
 use Rattle.sw_convert_texts.proofs.NameTokens.{Settled, no_more, joins_no}

@@ -41,6 +41,7 @@ mod RawHeads
 mod RawNames
 mod RawSigns
 mod RawLiterals
+mod RawWords
 mod RawTokens
 mod RawSits
 mod RawRows

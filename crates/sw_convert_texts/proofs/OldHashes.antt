@@ -32,7 +32,8 @@ use Rattle.sw_convert_tokens.proofs.Hashes.{colour_written, hashed_written}
 use Rattle.sw_convert_tokens.proofs.HexForms.{form_is}
 use Rattle.sw_convert_tokens.proofs.NamePieces.{name_in}
 use Rattle.sw_convert_tokens.proofs.Words.{name_yes, name_opens, kind_of_name}
-use Rattle.sw_convert_texts.proofs.TerminalChoices.{comes, is_at, is_hash, is_hex}
+use Rattle.sw_convert_texts.specs.RawKinds.{is_at}
+use Rattle.sw_convert_texts.proofs.TerminalChoices.{comes, is_hash, is_hex}
 use Rattle.sw_convert_texts.proofs.TokenPairs.{at_yes}
 use Rattle.sw_convert_texts.proofs.LexemePairs.{plains_in, comes_at, directly}
 use Rattle.sw_convert_texts.proofs.HashPieces.{hash_in}

@@ -24,7 +24,7 @@ use Rattle.sw_parse_lexemes.specs.Words.{at_sort}
 use Rattle.sw_convert_spelling.proofs.Choices.{is_name, ends_here, unlike, no_white_piece}
 use Rattle.sw_convert_passing.specs.Kinds.{is_part}
 use Rattle.sw_convert_tokens.proofs.Words.{kind_of_name, name_yes}
-use Rattle.sw_convert_texts.proofs.TerminalChoices.{is_at}
+use Rattle.sw_convert_texts.specs.RawKinds.{is_at}
 use Rattle.sw_convert_texts.proofs.TokenPairs.{at_yes}
 use Rattle.sw_convert_texts.proofs.Pieces.{is_frame, Cases, piece_has}
 use Rattle.sw_convert_texts.specs.Names.{begins_digits}

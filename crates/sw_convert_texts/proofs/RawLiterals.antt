@@ -39,7 +39,7 @@ use Rattle.sw_convert_tokens.proofs.Hashes.{hex_token}
 use Rattle.sw_convert_tokens.proofs.Numbers.{numeric_opens, numeric_seen, numeric_sort, numeric_behind, calm_hash}
 use Rattle.sw_convert_tokens.proofs.Leaves.{no_other}
 use Rattle.sw_convert_tokens.proofs.Signs.{token_by}
-use Rattle.sw_convert_texts.specs.RawKinds.{is_some, is_other, goes_on, is_colour, string_end, is_string, is_digits, is_unescaped, is_number_text, ends_number, number_stays, told_by, is_hex, stands_behind, sort_behind}
+use Rattle.sw_convert_texts.specs.RawKinds.{is_some, is_other, goes_on, is_colour, string_end, is_string, is_digits, is_unescaped, is_number_text, ends_number, number_stays, told_by, is_at, is_hex, stands_behind, sort_behind}
 use Rattle.sw_convert_texts.proofs.DigitTokens.{digit_token}
 use Rattle.sw_convert_texts.proofs.UnitTokens.{HasUnit, cut_unit, unit_black, unit_token}
 use Rattle.sw_convert_texts.proofs.Parts.{unit_stop}
@@ -91,6 +91,7 @@ pick_raw false = refl
 -- a sort of neither a name nor a colour, behind which nothing of its own stands
 pub record IsPlain (sort : Sort) : Type 0 where
   pub unnamed : is_name sort ≡ false
+  pub unat : is_at sort ≡ false
   pub unhex : is_hex sort ≡ false
   pub leaves : befores.Other ≡ sort_behind sort
   pub literal : is_literal sort ≡ true
@@ -247,7 +248,7 @@ number_raw sort text behind plain same some e = go (is_digits text) refl
       black = unit_black text (and_left (is_digit (byte text 0)) _ d);
       token = λ after stays before stands.
           digits_here text after (some_long text some) d
-          (digits_stay text after d (same after (stays_is sort text after plain.unnamed stays))) before
+          (digits_stay text after d (same after (stays_is sort text after plain.unnamed plain.unat stays))) before
           (calm_by before sort text plain.unnamed plain.unhex stands);
       raw = λ mode around spaced rest more. told.raw_number sorts.Digits refl more;
       told = inr (plain.literal, refl);
@@ -266,7 +267,7 @@ number_raw sort text behind plain same some e = go (is_digits text) refl
           token = λ after stays before stands.
               numbers.number_at text counts after
               (counted_follows text after told_text
-              (and_right (is_number_text text) _ (counted_stay text after d (same after (stays_is sort text after plain.unnamed stays)))))
+              (and_right (is_number_text text) _ (counted_stay text after d (same after (stays_is sort text after plain.unnamed plain.unat stays)))))
               insides.Sheet before refl (calm_hash before (calm_by before sort text plain.unnamed plain.unhex stands));
           raw = λ mode around spaced rest more.
               told.raw_number (sort_of (numbers.kind text counts) text)
@@ -288,7 +289,7 @@ colour_raw text behind some e = record {
   other = refl;
   some = some_long text some;
   black = first_black text some (and_left (list_all is_hex_digit text) _ (and_left (is_colour text) _ e));
-  token = λ after stays before stands. by before stands after (stays_is sorts.Hex text after refl stays);
+  token = λ after stays before stands. by before stands after (stays_is sorts.Hex text after refl refl stays);
   raw = λ mode around spaced rest more. told.raw_token sorts.Hex refl more;
   told = inl refl;
   digits = λ e. absurd (let wrong : false ≡ true = e in cc);

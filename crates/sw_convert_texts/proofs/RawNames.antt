@@ -1,6 +1,6 @@
 -- Names of raw text are the tokens that they were, before what is written behind them.
 use Rattle.std.proofs.Common.{◌≡◌, inl, ◌<◌, ℕ, Bool, true, false, not, ◌&&◌, List, [], ◌∷◌, ◌++◌, length, Option, Some, None, refl, sym, ◌∙◌, ap, subst, ◌-◌, arith}
-use Rattle.std.specs.Prelude.{◌==◌}
+use Rattle.std.specs.Prelude.{◌==◌, if◌then◌else◌}
 use Rattle.std.specs.List.{list_all}
 use Rattle.std.proofs.lemmas.Bool.Decides.{nat_tests}
 use Rattle.sw_parse_lexemes.specs.declared.sort.Sort.TheVariants as sorts
@@ -39,7 +39,7 @@ use Rattle.sw_convert_tokens.proofs.NamePieces.{name_in, name_keep}
 use Rattle.sw_convert_tokens.proofs.Names.{token_at, dollar_at, hash_at, name_black}
 use Rattle.sw_convert_tokens.proofs.Stops.{Behind, nothing_parts}
 use Rattle.sw_convert_tokens.proofs.Words.{kind_of_name, name_opens, name_behind, name_comment}
-use Rattle.sw_convert_texts.specs.RawKinds.{goes_on, is_colour, is_digits, is_hex, stands_behind, sort_behind, is_some, is_unescaped, name_stays, told_by, token_stays}
+use Rattle.sw_convert_texts.specs.RawKinds.{goes_on, is_colour, is_digits, is_hex, stands_behind, sort_behind, is_some, is_unescaped, name_stays, is_at, at_stays, told_by, token_stays}
 use Rattle.sw_convert_texts.proofs.LexemePairs.{plains_in}
 use Rattle.sw_convert_texts.proofs.OldPieces.{old_piece, whole_bytes, Whole}
 
@@ -101,7 +101,14 @@ behind_name text after e =
 name_there : (sort : Sort) (text after : List ℕ) → is_name sort ≡ true → token_stays sort text after ≡ true
     → name_stays text (byte after 0) ≡ true
 name_there sort text after n e =
-    sym (if_true (is_name sort) (name_stays text (byte after 0)) (told_by sort text after) n)
+    sym (if_true (is_name sort) (name_stays text (byte after 0)) (if is_at sort then at_stays text after else told_by sort text after) n)
+    ∙ and_right (is_some text) _ e
+
+pub at_there : (sort : Sort) (text after : List ℕ) → is_name sort ≡ false → is_at sort ≡ true → token_stays sort text after ≡ true
+    → at_stays text after ≡ true
+at_there sort text after n a e =
+    sym (if_false (is_name sort) (name_stays text (byte after 0)) (if is_at sort then at_stays text after else told_by sort text after) n
+    ∙ if_true (is_at sort) (at_stays text after) (told_by sort text after) a)
     ∙ and_right (is_some text) _ e
 
 pub no_number : (sort : Sort) → is_name sort ≡ true → is_number sort ≡ false

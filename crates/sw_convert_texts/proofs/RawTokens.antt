@@ -19,7 +19,9 @@ use Rattle.sw_convert_spelling.proofs.MovedRuns.{first_byte}
 use Rattle.sw_convert_spelling.proofs.Choices.{left_no, both, right_no}
 use Rattle.sw_convert_written.specs.Expressions.{is_url}
 use Rattle.sw_convert_tokens.specs.Values.{WasRead}
-use Rattle.sw_convert_texts.specs.RawKinds.{sign_text, is_some, sign_stays, goes_on, name_stays, is_colour, is_digits, is_number_text, number_stays, told_by, token_stays}
+use Rattle.sw_convert_texts.specs.RawKinds.{sign_text, is_some, sign_stays, goes_on, name_stays, is_colour, is_digits, is_number_text, number_stays, told_by, is_at, at_stays, token_stays}
+use Rattle.sw_convert_texts.specs.Urls.{is_unbroken}
+use Rattle.sw_convert_texts.proofs.RawWords.{url_raw, range_raw, at_name_raw}
 use Rattle.sw_convert_texts.proofs.LexemePairs.{plains_in}
 use Rattle.sw_convert_texts.proofs.RawNames.{RawToken, name_raw}
 use Rattle.sw_convert_texts.proofs.RawSigns.{sign_raw}
@@ -28,16 +30,24 @@ use Rattle.sw_convert_texts.proofs.RawLiterals.{text_as, string_raw, number_raw,
 some_as : (text own : List ℕ) → own ≡ text → is_some text ≡ true → is_some own ≡ true
 some_as text own e some = ap is_some e ∙ some
 
-told_raw : (sort : Sort) (text behind : List ℕ) → is_some text ≡ true → told_by sort text behind ≡ true → RawToken sort text
-told_raw sorts.Quoted text behind some e = string_raw sorts.Quoted text (record { unnamed = refl; unhex = refl; leaves = refl; literal = refl }) e
-told_raw sorts.Unnamed text behind some e = string_raw sorts.Unnamed text (record { unnamed = refl; unhex = refl; leaves = refl; literal = refl }) e
-told_raw sorts.Digits text behind some e =
-    number_raw sorts.Digits text behind (record { unnamed = refl; unhex = refl; leaves = refl; literal = refl }) (λ after f. f) some e
-told_raw sorts.Number text behind some e =
-    number_raw sorts.Number text behind (record { unnamed = refl; unhex = refl; leaves = refl; literal = refl }) (λ after f. f) some e
-told_raw sorts.Hex text behind some e = colour_raw text behind some e
-told_raw sorts.Other text behind some e = other_raw text e
-told_raw sort text behind some e =
+told_raw : (sort : Sort) (text behind : List ℕ) → (sort ≡ sorts.Url → is_unbroken text ≡ true → RawToken sorts.Url text)
+    → (sort ≡ sorts.Range → RawToken sorts.Range text) → is_some text ≡ true → is_at sort ≡ false → told_by sort text behind ≡ true
+    → RawToken sort text
+told_raw sorts.Url text behind url range some at e = url refl e
+told_raw sorts.Range text behind url range some at e = range refl
+told_raw sorts.Quoted text behind url range some at e =
+    string_raw sorts.Quoted text (record { unnamed = refl; unat = refl; unhex = refl; leaves = refl; literal = refl }) e
+told_raw sorts.Unnamed text behind url range some at e =
+    string_raw sorts.Unnamed text (record { unnamed = refl; unat = refl; unhex = refl; leaves = refl; literal = refl }) e
+told_raw sorts.Digits text behind url range some at e =
+    number_raw sorts.Digits text behind (record { unnamed = refl; unat = refl; unhex = refl; leaves = refl; literal = refl })
+    (λ after f. f) some e
+told_raw sorts.Number text behind url range some at e =
+    number_raw sorts.Number text behind (record { unnamed = refl; unat = refl; unhex = refl; leaves = refl; literal = refl })
+    (λ after f. f) some e
+told_raw sorts.Hex text behind url range some at e = colour_raw text behind some e
+told_raw sorts.Other text behind url range some at e = other_raw text e
+told_raw sort text behind url range some at e =
     let same = text_as text (sign_text sort) (and_left (bytes_eq text (sign_text sort)) _ e) in
     subst (RawToken sort) same (sign_raw sort (some_as text (sign_text sort) same some))
 
@@ -52,10 +62,17 @@ raw_token source was k lexeme there behind e = go (is_name sort) refl (and_right
     text : List ℕ
     text = bytes_at source k
 
-    go : (t : Bool) → is_name sort ≡ t → (if t then name_stays text (byte behind 0) else told_by sort text behind) ≡ true
+    other : (t : Bool) → is_at sort ≡ t → (if t then at_stays text behind else told_by sort text behind) ≡ true → RawToken sort text
+    other true a f = at_name_raw source was k lexeme there a
+    other false a f =
+        told_raw sort text behind (λ is. url_raw source was k lexeme there is) (λ is. range_raw source was k lexeme there is)
+        (and_left (is_some text) _ e) a f
+
+    go : (t : Bool) → is_name sort ≡ t
+        → (if t then name_stays text (byte behind 0) else (if is_at sort then at_stays text behind else told_by sort text behind)) ≡ true
         → RawToken sort text
     go true n f = name_raw source was k lexeme there n
-    go false n f = told_raw sort text behind (and_left (is_some text) _ e) f
+    go false n f = other (is_at sort) refl f
 
 -- ---- at the end of a text
 
@@ -125,9 +142,17 @@ end_number text b rest e f = go (is_digits text) f
     go true f = ap (λ (c : ℕ). not (goes_on c || ((c == sign "%") || (c == sign ".")))) (first_byte b rest) ∙ dark b e
     go false f = both (is_number_text text) _ (and_left (is_number_text text) _ f) (stop b e)
 
+end_stop : (b : ℕ) → is_end b ≡ true → is_stop b ≡ true
+end_stop b e = grind (arith, nat_tests)
+
+end_at : (text : List ℕ) (b : ℕ) (rest : List ℕ) → is_end b ≡ true → at_stays text [] ≡ true → at_stays text (b ∷ rest) ≡ true
+end_at text b rest e f = both (not (ends_unclosed text)) _ (and_left (not (ends_unclosed text)) _ f) (end_stop b e)
+
 end_told : (sort : Sort) (text : List ℕ) (b : ℕ) (rest : List ℕ) → is_end b ≡ true → told_by sort text [] ≡ true
     → told_by sort text (b ∷ rest) ≡ true
 unfolding byte
+end_told sorts.Url text b rest e f = f
+end_told sorts.Range text b rest e f = end_stop b e
 end_told sorts.Quoted text b rest e f = f
 end_told sorts.Unnamed text b rest e f = f
 end_told sorts.Digits text b rest e f = end_number text b rest e f
@@ -142,17 +167,22 @@ end_told sort text b rest e f =
 end_stays : (sort : Sort) (text : List ℕ) (b : ℕ) (rest : List ℕ) → is_end b ≡ true → token_stays sort text [] ≡ true
     → token_stays sort text (b ∷ rest) ≡ true
 end_stays sort text b rest e f =
-    both (is_some text) _ (and_left (is_some text) _ f) (go (is_name sort) (and_right (is_some text) _ f))
+    both (is_some text) _ (and_left (is_some text) _ f) (go (is_name sort) (is_at sort) (and_right (is_some text) _ f))
   where
-    go : (t : Bool) → (if t then name_stays text (byte [] 0) else told_by sort text []) ≡ true
-        → (if t then name_stays text (byte (b ∷ rest) 0) else told_by sort text (b ∷ rest)) ≡ true
-    go true f = ap (name_stays text) (first_byte b rest) ∙ end_name text (byte [] 0) b e f
-    go false f = end_told sort text b rest e f
+    go : (t u : Bool)
+        → (if t then name_stays text (byte [] 0) else (if u then at_stays text [] else told_by sort text [])) ≡ true
+        → (if t then name_stays text (byte (b ∷ rest) 0)
+        else (if u then at_stays text (b ∷ rest) else told_by sort text (b ∷ rest))) ≡ true
+    go true u f = ap (name_stays text) (first_byte b rest) ∙ end_name text (byte [] 0) b e f
+    go false true f = end_at text b rest e f
+    go false false f = end_told sort text b rest e f
 
 -- it is told by the first byte alone
 same_told : (sort : Sort) (text : List ℕ) (b : ℕ) (xs ys : List ℕ) → told_by sort text (b ∷ xs) ≡ true
     → told_by sort text (b ∷ ys) ≡ true
 unfolding byte
+same_told sorts.Url text b xs ys f = f
+same_told sorts.Range text b xs ys f = f
 same_told sorts.Quoted text b xs ys f = f
 same_told sorts.Unnamed text b xs ys f = f
 same_told sorts.Digits text b xs ys f = f
@@ -164,12 +194,16 @@ same_told sort text b xs ys f = f
 same_stays : (sort : Sort) (text : List ℕ) (b : ℕ) (xs ys : List ℕ) → token_stays sort text (b ∷ xs) ≡ true
     → token_stays sort text (b ∷ ys) ≡ true
 same_stays sort text b xs ys f =
-    both (is_some text) _ (and_left (is_some text) _ f) (go (is_name sort) (and_right (is_some text) _ f))
+    both (is_some text) _ (and_left (is_some text) _ f) (go (is_name sort) (is_at sort) (and_right (is_some text) _ f))
   where
-    go : (t : Bool) → (if t then name_stays text (byte (b ∷ xs) 0) else told_by sort text (b ∷ xs)) ≡ true
-        → (if t then name_stays text (byte (b ∷ ys) 0) else told_by sort text (b ∷ ys)) ≡ true
-    go true f = ap (name_stays text) (first_byte b ys ∙ sym (first_byte b xs)) ∙ f
-    go false f = same_told sort text b xs ys f
+    go : (t u : Bool)
+        → (if t then name_stays text (byte (b ∷ xs) 0)
+        else (if u then at_stays text (b ∷ xs) else told_by sort text (b ∷ xs))) ≡ true
+        → (if t then name_stays text (byte (b ∷ ys) 0)
+        else (if u then at_stays text (b ∷ ys) else told_by sort text (b ∷ ys))) ≡ true
+    go true u f = ap (name_stays text) (first_byte b ys ∙ sym (first_byte b xs)) ∙ f
+    go false true f = f
+    go false false f = same_told sort text b xs ys f
 
 -- what stands behind it in the text, or what stands behind the text
 pub stays_behind : (sort : Sort) (text behind after : List ℕ) → is_end (byte after 0) ≡ true → token_stays sort text behind ≡ true

@@ -20,6 +20,7 @@ use Rattle.sw_parse_lexemes.specs.Terminals.{loaded_url, goes_on, at_terminal}
 use Rattle.sw_text_scan.proofs.Bounds.{and_left}
 use Rattle.sw_convert_spelling.proofs.Choices.{both}
 use Rattle.sw_convert_passing.specs.Kinds.{is_part}
+use Rattle.sw_convert_texts.specs.RawKinds.{is_at}
 
 abbrev pub is_url : Sort → Bool
 is_url sorts.Url = true
@@ -72,33 +73,6 @@ is_hex _ = false
 abbrev pub is_text_sort : Sort → Bool
 is_text_sort sorts.Text = true
 is_text_sort _ = false
-
--- `@` with a name
-abbrev pub is_at : Sort → Bool
-is_at sorts.AtUse = true
-is_at sorts.AtForward = true
-is_at sorts.AtFunction = true
-is_at sorts.AtMixin = true
-is_at sorts.AtInclude = true
-is_at sorts.AtContent = true
-is_at sorts.AtReturn = true
-is_at sorts.AtWarn = true
-is_at sorts.AtDebug = true
-is_at sorts.AtError = true
-is_at sorts.AtIf = true
-is_at sorts.AtElse = true
-is_at sorts.AtElseIf = true
-is_at sorts.AtEach = true
-is_at sorts.AtFor = true
-is_at sorts.AtWhile = true
-is_at sorts.AtMedia = true
-is_at sorts.AtSupports = true
-is_at sorts.AtRoot = true
-is_at sorts.AtCharset = true
-is_at sorts.AtImport = true
-is_at sorts.AtExtend = true
-is_at sorts.AtName = true
-is_at _ = false
 
 -- a token of a sort may be a terminal, where it goes on with a word directly before it or not, and where a `#{` stands
 -- directly behind it or not; of the terminals that aren't named here nothing is said

@@ -23,7 +23,8 @@ use Rattle.sw_parse_table.specs.Sources.{bytes, lexeme_at}
 use Rattle.sw_convert_again.specs.Tokens.{Old}
 use Rattle.sw_convert_tokens.specs.Values.{WasRead}
 use Rattle.sw_convert_tokens.proofs.Words.{name_yes}
-use Rattle.sw_convert_texts.proofs.TerminalChoices.{comes, is_at, is_text_sort, is_template, is_template_end}
+use Rattle.sw_convert_texts.specs.RawKinds.{is_at}
+use Rattle.sw_convert_texts.proofs.TerminalChoices.{comes, is_text_sort, is_template, is_template_end}
 use Rattle.sw_convert_texts.proofs.TokenPairs.{Next, Pairs, pairs_at, at_yes}
 use Rattle.sw_convert_texts.proofs.TextPieces.{is_text, ends_text}
 use Rattle.sw_convert_texts.proofs.TemplatePieces.{is_template as is_template_kind, is_open}

@@ -23,7 +23,7 @@ use Rattle.sw_parse_lexemes.specs.Plains.{end_by, holds_slash, has_slash, plain_
 use Rattle.sw_parse_lexemes.specs.Sorts.{sort_of}
 use Rattle.sw_parse_lexemes.specs.Words.{at_one, at_three, at_four, at_five, at_six, at_seven, at_eight, at_nine, at_sort}
 use Rattle.sw_convert_tokens.proofs.Words.{name_yes}
-use Rattle.sw_convert_texts.proofs.TerminalChoices.{is_at}
+use Rattle.sw_convert_texts.specs.RawKinds.{is_at}
 
 -- each of a list and the next
 abbrev pub Next : {A : Type 0} → (A → A → Type 0) → A → List A → Type 0

@@ -34,7 +34,8 @@ use Rattle.sw_convert_tokens.proofs.Joins.{as_text, as_behind}
 use Rattle.sw_convert_tokens.proofs.Signs.{token_segment}
 use Rattle.sw_convert_tokens.proofs.Words.{name_yes, bytes_sit, parts_are}
 use Rattle.sw_convert_texts.specs.Urls.{is_unbroken, UrlsAreWritten}
-use Rattle.sw_convert_texts.proofs.TerminalChoices.{comes, is_at, is_url}
+use Rattle.sw_convert_texts.specs.RawKinds.{is_at}
+use Rattle.sw_convert_texts.proofs.TerminalChoices.{comes, is_url}
 use Rattle.sw_convert_texts.proofs.TokenPairs.{at_yes}
 use Rattle.sw_convert_texts.proofs.LexemePairs.{plains_in, comes_at}
 use Rattle.sw_convert_texts.proofs.OldPieces.{old_piece, Whole, whole_bytes}
@@ -56,7 +57,7 @@ quoted_no_url : (t : Bool) → is_url (if t then sorts.Quoted else sorts.Unnamed
 quoted_no_url true = refl
 quoted_no_url false = refl
 
-kind_of_url : (kind : TokenKind) (text : List ℕ) → is_url (sort_of kind text) ≡ true → kind ≡ kinds.Url
+pub kind_of_url : (kind : TokenKind) (text : List ℕ) → is_url (sort_of kind text) ≡ true → kind ≡ kinds.Url
 kind_of_url kinds.Url text e = refl
 kind_of_url kinds.Word text e =
     absurd (let no : true ≡ false = sym e ∙ name_no_url (sort_of kinds.Word text) (name_yes kinds.Word text refl) in cc)
@@ -68,7 +69,7 @@ kind_of_url (kinds.Quoted told) text e =
 kind_of_url _ text e = absurd (cc)
 
 -- with anything behind it no `}` stands in it, and no `#{`
-closed_at : (w xs : List ℕ) → is_unbroken w ≡ true → (k : ℕ) → k < length w → (byte (w ++ xs) k == sign "}") ≡ false
+pub closed_at : (w xs : List ℕ) → is_unbroken w ≡ true → (k : ℕ) → k < length w → (byte (w ++ xs) k == sign "}") ≡ false
 unfolding byte
 closed_at [] xs all k lt = absurd (omega (arith, lt))
 closed_at (b ∷ w) xs all zero lt = not_true (b == sign "}") (and_left (not (b == sign "}")) _ all)
@@ -76,7 +77,7 @@ closed_at (b ∷ w) xs all (suc k) lt =
     closed_at w xs
     (and_right (not ((b == sign "#") && (byte w 0 == sign "{"))) _ (and_right (not (b == sign "}")) _ all)) k (omega (arith, lt))
 
-shut_at : (w xs : List ℕ) → is_unbroken w ≡ true → (k : ℕ) → k + 1 < length w → opens_at (w ++ xs) k ≡ false
+pub shut_at : (w xs : List ℕ) → is_unbroken w ≡ true → (k : ℕ) → k + 1 < length w → opens_at (w ++ xs) k ≡ false
 unfolding byte
 shut_at [] xs all k lt = absurd (omega (arith, lt))
 shut_at (b ∷ []) xs all k lt = absurd (omega (arith, lt))

@@ -15,7 +15,8 @@ use Rattle.sw_parse_lexemes.specs.Words.{at_sort}
 use Rattle.sw_convert_passing.specs.Kinds.{is_part}
 use Rattle.sw_convert_tokens.specs.Joints.{text}
 use Rattle.sw_convert_tokens.proofs.Words.{name_yes}
-use Rattle.sw_convert_texts.proofs.TerminalChoices.{is_at, is_minus}
+use Rattle.sw_convert_texts.specs.RawKinds.{is_at}
+use Rattle.sw_convert_texts.proofs.TerminalChoices.{is_minus}
 use Rattle.sw_convert_texts.proofs.TokenPairs.{at_yes}
 
 pub only_word : (terminal : Terminal) → member (number_of terminal) (just terminals.Word) ≡ true → terminal ≡ terminals.Word

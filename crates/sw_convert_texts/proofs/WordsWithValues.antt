@@ -48,7 +48,8 @@ use Rattle.sw_convert_tokens.proofs.Unclosed.{Ends}
 use Rattle.sw_convert_texts.specs.Adjoining.{Adjoins}
 use Rattle.sw_convert_texts.specs.Inserted.{RowHasValues, WordHasValues, NameHasValues}
 use Rattle.sw_convert_texts.specs.Names.{joined, NameWritten, row_inserts, row_ends, is_plain, row_plain, word_plain, name_plain, is_mixed, AsWord, Opens, Followers, WordsWithValuesAreWritten, CalledWordsAreWritten, AsName, as_name, CustomNamesAreWritten, name_inserts, AsAtName, as_at, AtNamesAreWritten}
-use Rattle.sw_convert_texts.proofs.TerminalChoices.{comes, is_at}
+use Rattle.sw_convert_texts.specs.RawKinds.{is_at}
+use Rattle.sw_convert_texts.proofs.TerminalChoices.{comes}
 use Rattle.sw_convert_texts.proofs.LexemePairs.{plains_in, comes_at}
 use Rattle.sw_convert_texts.proofs.JoinedTexts.{slice_none, lone, Flat, flat_text, joined_pieces, value_more, text_more, mixed_text}
 use Rattle.sw_convert_texts.proofs.Stretches.{none, said_start, said_behind, start_is, behind_is}

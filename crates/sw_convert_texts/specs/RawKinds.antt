@@ -32,6 +32,7 @@ use Rattle.sw_convert_again.specs.RawTexts.{Brackets, parens, squares, braces, S
 use Rattle.sw_convert_texts.specs.Inserted.{RawTextHasValues}
 use Rattle.sw_convert_texts.specs.Names.{digits_and_unit}
 use Rattle.sw_convert_texts.specs.RawTexts.{IsText, IsSelector}
+use Rattle.sw_convert_texts.specs.Urls.{is_unbroken}
 
 -- ---- what is written of it
 
@@ -118,6 +119,33 @@ name_stays text b =
     && (not ((b == sign "+") && ((length text == 1) && is_u (byte text 0)))
     && not ((b == sign "(") && is_url text))))
 
+-- `@` with a name
+abbrev pub is_at : Sort → Bool
+is_at sorts.AtUse = true
+is_at sorts.AtForward = true
+is_at sorts.AtFunction = true
+is_at sorts.AtMixin = true
+is_at sorts.AtInclude = true
+is_at sorts.AtContent = true
+is_at sorts.AtReturn = true
+is_at sorts.AtWarn = true
+is_at sorts.AtDebug = true
+is_at sorts.AtError = true
+is_at sorts.AtIf = true
+is_at sorts.AtElse = true
+is_at sorts.AtElseIf = true
+is_at sorts.AtEach = true
+is_at sorts.AtFor = true
+is_at sorts.AtWhile = true
+is_at sorts.AtMedia = true
+is_at sorts.AtSupports = true
+is_at sorts.AtRoot = true
+is_at sorts.AtCharset = true
+is_at sorts.AtImport = true
+is_at sorts.AtExtend = true
+is_at sorts.AtName = true
+is_at _ = false
+
 -- a colour
 abbrev pub is_colour : List ℕ → Bool
 is_colour text = list_all is_hex_digit text && has_hex_length (length text)
@@ -153,7 +181,13 @@ number_stays text behind =
     if is_digits text then not (goes_on (byte behind 0) || ((byte behind 0 == sign "%") || (byte behind 0 == sign ".")))
     else (is_number_text text && ends_number behind)
 
+-- nor does an `@` with a name
+abbrev pub at_stays : List ℕ → List ℕ → Bool
+at_stays text behind = not (ends_unclosed text) && ends_number behind
+
 abbrev pub told_by : Sort → List ℕ → List ℕ → Bool
+told_by sorts.Url text behind = is_unbroken text
+told_by sorts.Range text behind = ends_number behind
 told_by sorts.Quoted text behind = is_string text
 told_by sorts.Unnamed text behind = is_string text
 told_by sorts.Digits text behind = number_stays text behind
@@ -165,7 +199,9 @@ told_by sort text behind = bytes_eq text (sign_text sort) && sign_stays sort (by
 -- a token stays what it is before this text
 abbrev pub token_stays : Sort → List ℕ → List ℕ → Bool
 token_stays sort text behind =
-    is_some text && (if is_name sort then name_stays text (byte behind 0) else told_by sort text behind)
+    is_some text
+    && (if is_name sort then name_stays text (byte behind 0)
+    else (if is_at sort then at_stays text behind else told_by sort text behind))
 
 abbrev pub is_hex : Sort → Bool
 is_hex sorts.Hex = true

@@ -38,10 +38,12 @@ item_sort (raw_token old) = sort_there old
 item_sort (raw_insert opens inner close) = sorts.OpenInsert
 item_sort (raw_brackets kind opens text close) = bracket_sort kind
 
--- names, colours, signs and brackets
+-- names, colours, urls, unicode ranges, signs and brackets
 abbrev pub is_begin : Sort → Bool
 is_begin sorts.Other = true
 is_begin sorts.Hex = true
+is_begin sorts.Url = true
+is_begin sorts.Range = true
 is_begin sorts.OpenInsert = true
 is_begin sorts.OpenParen = true
 is_begin sorts.OpenBracket = true
