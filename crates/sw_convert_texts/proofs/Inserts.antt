@@ -1,14 +1,16 @@
 -- A value in `#{}`, as it is written: two tokens around its own.
-use Rattle.std.proofs.Common.{◌≡◌, ◌<◌, ℕ, Bool, true, false, List, [], ◌∷◌, ◌++◌, length, refl, sym, subst, lit<}
-use Rattle.std.specs.Prelude.{codes}
-use Rattle.sw_text_scan.specs.Bytes.{byte}
+use Rattle.std.proofs.Common.{◌≡◌, ◌<◌, ℕ, Bool, true, false, List, [], ◌∷◌, ◌++◌, length, refl, sym, subst, arith, lit<}
+use Rattle.std.specs.Prelude.{◌==◌, codes}
+use Rattle.std.proofs.lemmas.Bool.Decides.{nat_tests}
+use Rattle.sw_text_scan.specs.Bytes.{sign, byte, is_quote}
+use Rattle.sw_text_scan.proofs.Bounds.{if_false}
 use Rattle.sw_tokens.specs.declared.pieces.Before.{Before}
 use Rattle.sw_tokens.specs.declared.pieces.Before.TheVariants as befores
 use Rattle.sw_tokens.specs.declared.pieces.Change.TheVariants as changes
 use Rattle.sw_tokens.specs.declared.skips.Inside.{Inside}
 use Rattle.sw_tokens.specs.declared.skips.Inside.TheVariants as insides
 use Rattle.sw_tokens.specs.declared.token.TokenKind.TheVariants as kinds
-use Rattle.sw_tokens.specs.Pieces.{made, piece, code_piece, url_piece, comment_piece}
+use Rattle.sw_tokens.specs.Pieces.{made, piece, code_piece, url_piece, comment_piece, text_piece}
 use Rattle.sw_tokens.specs.Tokens.{is_spaced}
 use Rattle.sw_parse_terminals.specs.declared.terminal.Terminal.{Terminal}
 use Rattle.sw_parse_terminals.specs.declared.terminal.Terminal.TheVariants as terminals
@@ -27,6 +29,7 @@ takes_insert insides.Interpolation = true
 takes_insert insides.Url = true
 takes_insert insides.UrlInside = true
 takes_insert insides.Comment = true
+takes_insert (insides.Quotes q) = is_quote q
 takes_insert _ = false
 
 pub code_inserts : (inside : Inside) → is_sheet_code inside ≡ true → takes_insert inside ≡ true
@@ -34,14 +37,18 @@ code_inserts insides.Sheet c = refl
 code_inserts insides.Interpolation c = refl
 code_inserts _ c = absurd (cc)
 
+hash_quote : (q : ℕ) → is_quote q ≡ true → (sign "#" == q) ≡ false
+hash_quote q e = grind (arith, nat_tests)
+
 open_token : (inside : Inside) (before : Before) (after : List ℕ) → takes_insert inside ≡ true
     → piece (codes "#{" ++ after) inside before 0 ≡ made kinds.OpenInterpolation 2 (changes.Push insides.Interpolation)
-unfolding code_piece url_piece comment_piece byte
+unfolding code_piece url_piece comment_piece text_piece byte
 open_token insides.Sheet before after t = refl
 open_token insides.Interpolation before after t = refl
 open_token insides.Url before after t = refl
 open_token insides.UrlInside before after t = refl
 open_token insides.Comment before after t = refl
+open_token (insides.Quotes q) before after t = if_false (sign "#" == q) _ _ (hash_quote q t)
 open_token _ before after t = absurd (cc)
 
 close_token : (before : Before) (after : List ℕ)

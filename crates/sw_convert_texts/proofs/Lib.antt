@@ -37,6 +37,7 @@ mod AroundTexts
 mod SeamedTexts
 mod RawOlds
 mod Levels
+mod RawStrings
 mod RawHeads
 mod RawNames
 mod RawSigns
@@ -45,6 +46,7 @@ mod RawWords
 mod RawTokens
 mod RawSits
 mod RawRows
+mod RawSingles
 mod RawBrackets
 mod RawJoined
 pub mod RawWritten

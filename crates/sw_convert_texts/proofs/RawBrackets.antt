@@ -1,5 +1,5 @@
 -- Brackets in raw text, as they are written around other raw text.
-use Rattle.std.proofs.Common.{◌≡◌, inl, ◌<◌, ℕ, suc, ◌+◌, ◌-◌, Bool, true, false, List, [], ◌∷◌, ◌++◌, length, Some, refl, sym, ◌∙◌, ap, subst, arith, append_assoc, append-nil, length-append, lit<}
+use Rattle.std.proofs.Common.{◌≡◌, inl, ◌<◌, ℕ, suc, ◌+◌, ◌-◌, Bool, true, false, List, [], ◌∷◌, ◌++◌, length, Some, None, refl, sym, ◌∙◌, ap, subst, arith, append_assoc, append-nil, length-append, lit<}
 use Rattle.std.specs.List.{list_all}
 use Rattle.sw_parse_lexemes.specs.declared.state.Walk.TheVariants as walks
 use Rattle.sw_convert_heads_passing.specs.Rules.{walked}
@@ -44,7 +44,7 @@ use Rattle.sw_convert_texts.specs.RawKinds.{gap_before, row_text, opening_text, 
 use Rattle.sw_convert_texts.proofs.AroundTexts.{lones, around_texts, CutFrom, cut_token, first_token}
 use Rattle.sw_convert_texts.proofs.RawOlds.{row_cut, AreBrackets}
 use Rattle.sw_convert_texts.proofs.RawSits.{shifted_twice, ends_append, at_next, own_sits, step_sits, sit_right, sit_end, sit_first}
-use Rattle.sw_convert_texts.proofs.RawRows.{Begun, IsRaw, ItemIs, Placed, RowIs, StandBefore, TellBefore, row_leaves, spelt_one, white_gap}
+use Rattle.sw_convert_texts.proofs.RawRows.{Begun, IsRaw, ItemIs, Placed, RowIs, StandBefore, onward, TellBefore, row_leaves, spelt_one, white_gap}
 
 -- a bracket, a token whatever stands behind it
 record Lone (own : List ℕ) (kind : TokenKind) : Type 0 where
@@ -180,7 +180,7 @@ module _ (source : Source) (mode : Mode) {i c : ℕ} {opening closing : Terminal
     {extents : List Extent} (kind : Brackets opening closing) (are : AreBrackets source mode i c kind)
     (row : SpellsRawText source (suc i) c parts tokens extents) (behind_text : List ℕ) (before : Before) (gap : List ℕ)
     (said : Said) (inner_white : list_all is_white (gap_before source c) ≡ true)
-    (inner : RowIs source mode row befores.Other (gap_before source c ++ (bytes_at source c ++ behind_text))) where
+    (inner : RowIs source mode row None befores.Other (gap_before source c ++ (bytes_at source c ++ behind_text))) where
   first : Lone (bytes_at source i) (opening_kind kind)
   first = subst (λ (own : List ℕ). Lone own (opening_kind kind)) (sym are.opening_is) (opening_lone kind)
 
@@ -356,7 +356,7 @@ module _ (source : Source) (mode : Mode) {i c : ℕ} {opening closing : Terminal
       ∙ ap (λ (t : List ℕ). gap_before source c ++ t) (append_assoc (bytes_at source c) behind_text after)
       ∙ sym (spelt_one (gap_before source c) (bytes_at source c) (behind_text ++ after))
 
-  all_stand : list_all is_white gap ≡ true → StandBefore before all_joints behind_text
+  all_stand : list_all is_white gap ≡ true → StandBefore None before all_joints None behind_text
   all_stand white after ends = (
     white_gap gap (bytes_at source i) white first.black,
     first.some,
@@ -370,7 +370,7 @@ module _ (source : Source) (mode : Mode) {i c : ℕ} {opening closing : Terminal
   )
 
   pub brackets_is : (opens : Old source i (just opening)) (close : Old source c (just closing)) → list_all is_white gap ≡ true
-      → ItemIs source mode (raw_brackets kind opens row close) behind_text before gap said
+      → ItemIs source mode (raw_brackets kind opens row close) None behind_text before gap said
   brackets_is opens close white = record {
     joints = all_joints;
     spelling = all_spelling;
@@ -396,5 +396,7 @@ module _ (source : Source) (mode : Mode) {i c : ℕ} {opening closing : Terminal
     walks = all_walks;
     placed = all_placed;
     first = all_first;
-    stand = all_stand white;
+    near = λ e others. e;
+    stand = onward None before all_joints None befores.Other behind_text (all_stand white)
+        (behind_append (before_of (Some (opening_kind kind))) list (Token closed ∷ []) ∙ last.other);
   }

@@ -1,5 +1,5 @@
 -- Raw text without comments is written as its tokens: items one behind the other, through any number of brackets.
-use Rattle.std.proofs.Common.{◌≡◌, ℕ, suc, ◌+◌, Bool, true, false, ◌&&◌, List, [], ◌++◌, length, refl, sym, ◌∙◌, ap, subst, arith, append_assoc, length-append}
+use Rattle.std.proofs.Common.{◌≡◌, ℕ, suc, ◌+◌, Bool, true, false, not, ◌&&◌, ◌||◌, Option, Some, None, List, [], ◌∷◌, ◌++◌, length, refl, sym, ◌∙◌, ap, subst, arith, append_assoc, length-append}
 use Rattle.std.specs.List.{list_all}
 use Rattle.sw_tokens.specs.Tokens.{is_spaced}
 use Rattle.sw_parse_lexemes.specs.declared.sort.Sort.{Sort}
@@ -19,18 +19,23 @@ use Rattle.sw_convert_spelling.specs.Spelt.{behind_gap}
 use Rattle.sw_convert_passing.specs.Written.{Written}
 use Rattle.sw_convert_written.specs.Expressions.{expr_text}
 use Rattle.sw_convert_heads_passing.specs.RawTexts.{RawText}
-use Rattle.sw_convert_again.specs.Tokens.{Said, Nothing, Extent, shifted, Tok, saying}
+use Rattle.sw_tree.specs.declared.expr.Expr.{Expr}
+use Rattle.sw_parse_terminals.specs.declared.terminal.Terminal.TheVariants as terminals
+use Rattle.sw_parse_terminals.specs.Numbers.{just}
+use Rattle.sw_convert_again.specs.Spells.{Spells}
+use Rattle.sw_convert_again.specs.Tokens.{Said, Nothing, Extent, shifted, Tok, Old, saying}
 use Rattle.sw_convert_again.specs.RawTexts.{SpellsRawItem, SpellsRawText, raw_token, raw_insert, raw_brackets, raw_end, raw_more}
-use Rattle.sw_convert_tokens.specs.Joints.{Joint, text, toks, writtens, behind, Stand, Sit}
+use Rattle.sw_convert_tokens.specs.Joints.{Joint, text, toks, writtens, behind, Sit}
 use Rattle.sw_convert_tokens.specs.Values.{WasRead}
-use Rattle.sw_convert_tokens.proofs.Joins.{text_behind, toks_append, writtens_append, behind_append, stand_append, sit_left}
+use Rattle.sw_convert_tokens.proofs.Joins.{text_behind, toks_append, writtens_append, behind_append, sit_left}
 use Rattle.sw_convert_texts.specs.Inserted.{RawItemHasValues, RawTextHasValues}
-use Rattle.sw_convert_texts.specs.RawKinds.{leaves, gap_before, row_text, is_bracketed, is_beside, item_known, row_known}
+use Rattle.sw_convert_texts.specs.RawKinds.{leaves, gap_before, row_text, is_some, is_bracketed, is_beside, is_closed, is_next, string_behind, item_known, row_known}
 use Rattle.sw_convert_texts.proofs.AroundTexts.{CutFrom}
 use Rattle.sw_convert_texts.proofs.Inserts.{inner_of}
 use Rattle.sw_convert_texts.proofs.RawOlds.{item_cut, row_cut, beside_told, brackets_told}
 use Rattle.sw_convert_texts.proofs.RawSits.{shifted_append, shifted_twice, ends_apart, ends_append, sit_right, sit_end}
-use Rattle.sw_convert_texts.proofs.RawRows.{Placed, StandBefore, IsRaw, ItemIs, RowIs, token_is, insert_is}
+use Rattle.sw_convert_texts.proofs.RawRows.{Placed, IsRaw, ItemIs, RowIs, is_quoted, insert_is}
+use Rattle.sw_convert_texts.proofs.RawSingles.{token_is}
 use Rattle.sw_convert_texts.proofs.RawBrackets.{brackets_is}
 
 -- the first token of an item says nothing of its own
@@ -39,16 +44,6 @@ nothing_said : {source : Source} {i k : ℕ} {parts : List Part} {tokens : List 
 nothing_said (raw_token old) = refl
 nothing_said (raw_insert opens inner close) = refl
 nothing_said (raw_brackets kind opens text close) = refl
-
--- behind an item as it is written
-pub row_stand : (before mid : Before) (xs ys : List Joint) (behind_text whole : List ℕ) → StandBefore before xs whole
-    → behind before xs ≡ mid → text ys ++ behind_text ≡ whole → StandBefore mid ys behind_text
-    → StandBefore before (xs ++ ys) behind_text
-row_stand before mid xs ys behind_text whole one last same more after ends =
-    stand_append [] [] [] before xs ys (behind_text ++ after)
-    (subst (Stand [] before xs [])
-    (ap (λ (t : List ℕ). t ++ after) (sym same) ∙ append_assoc (text ys) behind_text after) (one after ends))
-    (subst (λ (b : Before). Stand [] b ys [] (behind_text ++ after)) (sym last) (more after ends))
 
 pub row_raw : (mode : Mode) (xs ys : List Joint) → IsRaw mode xs → IsRaw mode ys → IsRaw mode (xs ++ ys)
 row_raw mode xs ys one more around rest told =
@@ -101,10 +96,11 @@ row_over sort tail ys over e more =
 module _ (source : Source) (was : WasRead source) (mode : Mode) where
   more_is : {i k j : ℕ} {parts more : List Part} {tokens others : List Tok} {extents further : List Extent}
       (item : SpellsRawItem source i k parts tokens extents) (row : SpellsRawText source k j more others further)
-      (start : Before) (behind_text : List ℕ)
-      → ItemIs source mode item (row_text source row behind_text) start (gap_before source i) Nothing
-      → RowIs source mode row (leaves item) behind_text → RowIs source mode (raw_more item row) start behind_text
-  more_is {i} {tokens = tokens} {others = others} {extents = extents} {further = further} item row start behind_text one rest =
+      (quotes : Option ℕ) (start : Before) (behind_text : List ℕ) → (is_closed quotes ≡ false → gap_before source i ≡ [])
+      → ItemIs source mode item quotes (row_text source row behind_text) start (gap_before source i) Nothing
+      → RowIs source mode row (string_behind item quotes) (leaves item) behind_text
+      → RowIs source mode (raw_more item row) quotes start behind_text
+  more_is {i} {tokens = tokens} {others = others} {extents = extents} {further = further} item row quotes start behind_text none one rest =
       let xs = one.joints in
       let ys = rest.joints in record {
         joints = xs ++ ys;
@@ -131,33 +127,51 @@ module _ (source : Source) (was : WasRead source) (mode : Mode) where
             (λ cuts. begun (gap_before source i) (item_cut source item cuts)) (row_cut source row) one.counted (one.ended false)
             one.placed rest.placed new at front after to end list cuts here sit
             (subst (λ (n : ℕ). CutFrom new to end (at + n) list cuts) (length-append tokens others) cut);
-        stand = row_stand start (leaves item) xs ys behind_text (row_text source row behind_text) one.stand one.last
-            (rest.spelling behind_text) rest.stand;
+        near = λ e. one.near (none e) ys;
+        stand = λ after ends. one.stand ys behind_text after (rest.spelling behind_text) ends rest.near (rest.stand after ends);
       }
+
+  no_gap : (quotes : Option ℕ) (gap : List ℕ) → (is_closed quotes || not (is_some gap)) ≡ true → is_closed quotes ≡ false → gap ≡ []
+  no_gap None gap e f = absurd (let wrong : true ≡ false = f in cc)
+  no_gap (Some q) [] e f = refl
+  no_gap (Some q) (b ∷ gap) e f = absurd (let wrong : false ≡ true = e in cc)
+
+  -- a value in a string is in one by a quote
+  quoted : {i c : ℕ} {value : Expr} {tokens : List Tok} (opens : Old source i (just terminals.Insert))
+      (inner : Spells source (suc i) c value tokens) (close : Old source c (just terminals.InsertEnd)) (quotes : Option ℕ)
+      (before : Before) (behind_text : List ℕ) → item_known source mode (raw_insert opens inner close) quotes before behind_text ≡ true
+      → is_closed quotes ≡ false → is_quoted quotes ≡ true
+  quoted opens inner close None before behind_text known e = absurd (let wrong : true ≡ false = e in cc)
+  quoted opens inner close (Some q) before behind_text known e = known
 
   mutual
     -- an item behind white space, and its first token says this
     pub item_is : {i k : ℕ} {parts : List Part} {tokens : List Tok} {extents : List Extent}
-        (item : SpellsRawItem source i k parts tokens extents) (behind_text : List ℕ) (before : Before) (gap : List ℕ) (said : Said)
-        → item_known source mode item (behind_gap before gap) behind_text ≡ true → list_all is_white gap ≡ true
-        → RawItemHasValues item
-        → ItemIs source mode item behind_text before gap said
-    item_is (raw_token old) behind_text before gap said known white has =
-        token_is source was mode old behind_text before gap said known white
-    item_is (raw_insert {value = value} {tokens = tokens} opens inner close) behind_text before gap said known white has =
-        insert_is source was mode opens inner close (inner_of (expr_text value) tokens has) before gap said behind_text white
-    item_is (raw_brackets {i = i} {c = c} kind opens row close) behind_text before gap said known white has =
+        (item : SpellsRawItem source i k parts tokens extents) (quotes : Option ℕ) (behind_text : List ℕ) (before : Before)
+        (gap : List ℕ) (said : Said) → item_known source mode item quotes (behind_gap before gap) behind_text ≡ true
+        → list_all is_white gap ≡ true → (is_closed quotes ≡ false → gap ≡ []) → RawItemHasValues item
+        → ItemIs source mode item quotes behind_text before gap said
+    item_is (raw_token old) quotes behind_text before gap said known white none has =
+        token_is source was mode old behind_text before gap said quotes known white none
+    item_is (raw_insert {value = value} {tokens = tokens} opens inner close) quotes behind_text before gap said known white none has =
+        insert_is source was mode opens inner close (inner_of (expr_text value) tokens has) before gap said quotes behind_text white none
+        (quoted opens inner close quotes (behind_gap before gap) behind_text known)
+    item_is (raw_brackets kind opens row close) (Some q) behind_text before gap said known white none has =
+        absurd (let wrong : false ≡ true = known in cc)
+    item_is (raw_brackets {i = i} {c = c} kind opens row close) None behind_text before gap said known white none has =
         let are = brackets_told source mode i c kind (and_left (is_bracketed mode kind && _) _ known) in
         let inner = and_right (is_bracketed mode kind && _) _ known in
         let beside = beside_told source c (and_left (is_beside source c) _ inner) in
         brackets_is source mode kind are row behind_text before gap said beside.white
-        (row_is row befores.Other (gap_before source c ++ (bytes_at source c ++ behind_text)) (and_right (is_beside source c) _ inner) has)
+        (row_is row None befores.Other (gap_before source c ++ (bytes_at source c ++ behind_text)) (and_right (is_beside source c) _ inner) has)
         opens close white
 
     pub row_is : {i j : ℕ} {parts : List Part} {tokens : List Tok} {extents : List Extent}
-        (row : SpellsRawText source i j parts tokens extents) (start : Before) (behind_text : List ℕ)
-        → row_known source mode row start behind_text ≡ true → RawTextHasValues row → RowIs source mode row start behind_text
-    row_is raw_end start behind_text known has = record {
+        (row : SpellsRawText source i j parts tokens extents) (quotes : Option ℕ) (start : Before) (behind_text : List ℕ)
+        → row_known source mode row quotes start behind_text ≡ true → RawTextHasValues row
+        → RowIs source mode row quotes start behind_text
+    row_is raw_end (Some q) start behind_text known has = absurd (let wrong : false ≡ true = known in cc)
+    row_is raw_end None start behind_text known has = record {
       joints = [];
       spelling = λ rest. refl;
       seen = refl;
@@ -169,14 +183,17 @@ module _ (source : Source) (was : WasRead source) (mode : Mode) where
       walks = λ e count rest. refl;
       placed = λ new at front after to end more cuts here sit rest.
           subst (λ (n : ℕ). CutFrom new to end n more cuts) (let z : at + 0 ≡ at = omega arith in z) rest;
+      near = λ e. absurd (let wrong : true ≡ false = e in cc);
       stand = λ after ends. refl;
     }
-    row_is (raw_more {i = i} item row) start behind_text known (has, more) =
-        let rest = and_right (is_beside source i) _ known in
-        let beside = beside_told source i (and_left (is_beside source i) _ known) in
-        more_is item row start behind_text
-        (item_is item (row_text source row behind_text) start (gap_before source i) Nothing
-        (and_left (item_known source mode item (behind_gap start (gap_before source i)) (row_text source row behind_text)) _ rest)
-        beside.white has)
-        (row_is row (leaves item) behind_text
-        (and_right (item_known source mode item (behind_gap start (gap_before source i)) (row_text source row behind_text)) _ rest) more)
+    row_is (raw_more {i = i} item row) quotes start behind_text known (has, more) =
+        let next = and_left (is_next source quotes i) _ known in
+        let rest = and_right (is_next source quotes i) _ known in
+        let beside = beside_told source i (and_left (is_beside source i) _ next) in
+        let none = no_gap quotes (gap_before source i) (and_right (is_beside source i) _ next) in
+        more_is item row quotes start behind_text none
+        (item_is item quotes (row_text source row behind_text) start (gap_before source i) Nothing
+        (and_left (item_known source mode item quotes (behind_gap start (gap_before source i)) (row_text source row behind_text)) _ rest)
+        beside.white none has)
+        (row_is row (string_behind item quotes) (leaves item) behind_text
+        (and_right (item_known source mode item quotes (behind_gap start (gap_before source i)) (row_text source row behind_text)) _ rest) more)

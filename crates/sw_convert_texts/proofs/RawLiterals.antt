@@ -30,7 +30,6 @@ use Rattle.sw_convert_spelling.proofs.MovedRuns.{first_byte}
 use Rattle.sw_convert_spelling.proofs.Choices.{left_no, right_no, both}
 use Rattle.sw_convert_written.specs.Escapes.{ends_unclosed}
 use Rattle.sw_convert_passing.specs.Kinds.{is_raw}
-use Rattle.sw_convert_heads_passing.specs.RawTexts.{Around, RawText}
 use Rattle.sw_convert_heads_passing.specs.RawTexts as told
 use Rattle.sw_convert_tokens.specs.Written.{Follows, is_calm, is_stop, stops, begins_white}
 use Rattle.sw_convert_tokens.proofs.Counted.{is_counted}

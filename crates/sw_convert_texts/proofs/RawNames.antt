@@ -26,7 +26,7 @@ use Rattle.sw_parse_lexemes.specs.Classes.{is_name, is_number, is_comment}
 use Rattle.sw_parse_lexemes.specs.Sorts.{sort_of}
 use Rattle.sw_parse_table.specs.declared.source.Source.{Source}
 use Rattle.sw_parse_table.specs.Sources.{lexeme_at, bytes_at}
-use Rattle.sw_convert_spelling.proofs.Choices.{left_no, right_no, both, neither}
+use Rattle.sw_convert_spelling.proofs.Choices.{left_no, right_no}
 use Rattle.sw_convert_spelling.proofs.Choices as names
 use Rattle.sw_convert_written.specs.Escapes.{takes_white, behind_text, ends_unclosed}
 use Rattle.sw_convert_written.specs.Expressions.{is_url}

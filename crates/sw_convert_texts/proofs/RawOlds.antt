@@ -1,16 +1,18 @@
 -- Raw text that was read, item by item: the texts around its values, and what is written of it.
-use Rattle.std.proofs.Common.{◌≡◌, ◌≤◌, ◌<◌, ℕ, suc, ◌-◌, true, not, ◌&&◌, List, [], ◌∷◌, ◌++◌, length, refl, sym, ◌∙◌, ap, subst, arith, append_assoc}
+use Rattle.std.proofs.Common.{◌≡◌, ◌≤◌, ◌<◌, ℕ, suc, ◌-◌, Bool, true, false, not, ◌&&◌, if◌then◌else◌, Option, Some, None, List, [], ◌∷◌, ◌++◌, length, refl, sym, ◌∙◌, ap, subst, arith, append_assoc}
 use Rattle.std.specs.Prelude.{nat_le, nat_lt, bytes_eq, slice_range}
 use Rattle.std.specs.List.{list_all}
 use Rattle.std.proofs.lemmas.Bool.Decides.{nat_tests}
 use Rattle.std.proofs.lemmas.Slice.Eq.{bytes_eq-Decides}
-use Rattle.sw_text_scan.specs.Bytes.{is_white}
+use Rattle.sw_text_scan.specs.Bytes.{byte, is_white, is_quote}
 use Rattle.sw_text_scan.proofs.Bounds.{and_left, and_right, not_true}
 use Rattle.sw_tokens.specs.declared.pieces.Before.{Before}
 use Rattle.sw_tokens.specs.declared.pieces.Before.TheVariants as befores
 use Rattle.sw_parse_terminals.specs.declared.terminal.Terminal.{Terminal}
 use Rattle.sw_parse_terminals.specs.declared.terminal.Terminal.TheVariants as terminals
 use Rattle.sw_parse_terminals.specs.Numbers.{just}
+use Rattle.sw_parse_lexemes.specs.declared.sort.Sort.{Sort}
+use Rattle.sw_parse_lexemes.specs.declared.sort.Sort.TheVariants as sorts
 use Rattle.sw_parse_lexemes.specs.declared.state.Mode.{Mode}
 use Rattle.sw_parse_table.specs.declared.source.Source.{Source}
 use Rattle.sw_parse_table.specs.Parts.{Part, Inserts}
@@ -19,7 +21,7 @@ use Rattle.sw_convert_spelling.specs.Spelt.{behind_gap}
 use Rattle.sw_convert_again.specs.Tokens.{Old, Tok, Extent, extent}
 use Rattle.sw_convert_again.specs.Spells.{extents_of}
 use Rattle.sw_convert_again.specs.RawTexts.{Brackets, parens, squares, braces, SpellsRawItem, SpellsRawText, raw_token, raw_insert, raw_brackets, raw_end, raw_more}
-use Rattle.sw_convert_texts.specs.RawKinds.{closing_text, gap_before, is_beside, is_bracketed, is_some, item_known, item_text, leaves, opening_text, row_known, row_text, sort_there, token_stays}
+use Rattle.sw_convert_texts.specs.RawKinds.{closing_text, gap_before, is_beside, is_bracketed, is_some, item_known, item_text, leaves, opening_text, row_known, row_text, sort_there, token_stays, stands_behind, is_opening, is_next, opens_string, token_known, string_behind}
 use Rattle.sw_convert_texts.proofs.JoinedTexts.{slice_some}
 use Rattle.sw_convert_texts.proofs.AroundTexts.{lones, cut_before, around_texts, CutFrom, Step, Beside, cut_token, cut_insert, first_token, first_insert}
 use Rattle.sw_convert_texts.proofs.SeamedTexts.{in_insert, IsSeamed, SeamedFrom, seamed_token, seamed_value, seamed_first, value_first}
@@ -132,10 +134,23 @@ module _ (source : Source) (mode : Mode) where
 
   -- ---- item by item
 
-  some_token : {i : ℕ} (old : Old source i (just terminals.Raw)) (before : Before) (behind : List ℕ)
-      → item_known source mode (raw_token old) before behind ≡ true → is_some (bytes_at source i) ≡ true
-  some_token {i} old before behind e =
-      and_left (is_some (bytes_at source i)) _ (and_left (token_stays (sort_there old) (bytes_at source i) behind) _ e)
+  -- in a string and outside
+  known_some : (quotes : Option ℕ) (sort : Sort) (before : Before) (text behind : List ℕ)
+      → token_known quotes sort before text behind ≡ true → is_some text ≡ true
+  known_some None sort before text behind e = go (is_opening sort) e
+    where
+      go : (t : Bool)
+          → (if t then opens_string text behind else (token_stays sort text behind && stands_behind before sort text)) ≡ true
+          → is_some text ≡ true
+      go true f = some_as text (byte text 0 ∷ []) (and_left (bytes_eq text (byte text 0 ∷ [])) _ f) refl
+      go false f = and_left (is_some text) _ (and_left (token_stays sort text behind) _ f)
+  known_some (Some q) sorts.Text before text behind e = and_left (is_some text) _ (and_right (is_quote q) _ e)
+  known_some (Some q) sorts.TemplateEnd before text behind e = some_as text (q ∷ []) (and_right (is_quote q) _ e) refl
+  known_some (Some q) sort before text behind e = absurd (let wrong : false ≡ true = and_right (is_quote q) false e in cc)
+
+  some_token : {i : ℕ} (old : Old source i (just terminals.Raw)) (quotes : Option ℕ) (before : Before) (behind : List ℕ)
+      → item_known source mode (raw_token old) quotes before behind ≡ true → is_some (bytes_at source i) ≡ true
+  some_token {i} old quotes before behind e = known_some quotes (sort_there old) before (bytes_at source i) behind e
 
   module _ (to end : ℕ) where
     -- from the token at a place on
@@ -156,14 +171,14 @@ module _ (source : Source) (mode : Mode) where
 
     mutual
       pub old_item : {i k : ℕ} {parts : List Part} {tokens : List Tok} {extents : List Extent}
-          (item : SpellsRawItem source i k parts tokens extents) (before : Before) (behind : List ℕ) → is_beside source i ≡ true
-          → item_known source mode item before behind ≡ true → (more : List Part) (cuts : Texts) → From (k - 1) more cuts behind
+          (item : SpellsRawItem source i k parts tokens extents) (quotes : Option ℕ) (before : Before) (behind : List ℕ) → is_beside source i ≡ true
+          → item_known source mode item quotes before behind ≡ true → (more : List Part) (cuts : Texts) → From (k - 1) more cuts behind
           → From (i - 1) (parts ++ more) (begun (gap_before source i) (item_cut source item cuts))
           (gap_before source i ++ item_text source item behind)
-      old_item (raw_token {i = i} old) before behind b e more cuts rest =
-          token_from i (suc i - 1) more cuts behind (beside_told source i b) (some_token old before behind e)
+      old_item (raw_token {i = i} old) quotes before behind b e more cuts rest =
+          token_from i (suc i - 1) more cuts behind (beside_told source i b) (some_token old quotes before behind e)
           (let z : suc i - 1 ≡ i = omega arith in z) rest
-      old_item (raw_insert {i = i} {c = c} {value = value} opens inner close) before behind b e more cuts rest =
+      old_item (raw_insert {i = i} {c = c} {value = value} opens inner close) quotes before behind b e more cuts rest =
           let it = beside_told source i b in
           let here : From c more cuts behind =
           subst (λ (m : ℕ). From m more cuts behind) (let z : suc c - 1 ≡ c = omega arith in z) rest in record {
@@ -172,7 +187,9 @@ module _ (source : Source) (mode : Mode) where
             seamed = subst (λ (m : ℕ). SeamedFrom source to end (i - 1) (Inserts m (suc c) value ∷ more) (gap_before source i ++ in_insert value behind))
                 it.place (seamed_value source to end (i - 1) c (gap_before source i) value more behind it.beside here.seamed);
           }
-      old_item (raw_brackets {i = i} {c = c} {parts = parts} kind opens text close) before behind b e more cuts rest =
+      old_item (raw_brackets kind opens text close) (Some q) before behind b e more cuts rest =
+          absurd (let wrong : false ≡ true = e in cc)
+      old_item (raw_brackets {i = i} {c = c} {parts = parts} kind opens text close) None before behind b e more cuts rest =
           let it = brackets_told i c kind (and_left (is_bracketed mode kind && _) _ e) in
           let inner = and_right (is_bracketed mode kind && _) _ e in
           let known = and_right (is_beside source c) _ inner in
@@ -182,25 +199,26 @@ module _ (source : Source) (mode : Mode) where
           (row_cut source text (begun (gap_before source c) (begun (bytes_at source c) cuts)))
           (row_text source text (gap_before source c ++ (bytes_at source c ++ behind)))
           (beside_told source i b) it.opening_some (let z : suc i - 1 ≡ i = omega arith in z)
-          (old_row text befores.Other (gap_before source c ++ (bytes_at source c ++ behind)) known more
+          (old_row text None befores.Other (gap_before source c ++ (bytes_at source c ++ behind)) known more
           (begun (gap_before source c) (begun (bytes_at source c) cuts)) last)
 
       pub old_row : {i j : ℕ} {parts : List Part} {tokens : List Tok} {extents : List Extent}
-          (row : SpellsRawText source i j parts tokens extents) (start : Before) (behind : List ℕ)
-          → row_known source mode row start behind ≡ true
+          (row : SpellsRawText source i j parts tokens extents) (quotes : Option ℕ) (start : Before) (behind : List ℕ)
+          → row_known source mode row quotes start behind ≡ true
           → (more : List Part) (cuts : Texts) → From (j - 1) more cuts behind
           → From (i - 1) (parts ++ more) (row_cut source row cuts) (row_text source row behind)
-      old_row raw_end start behind e more cuts rest = rest
-      old_row (raw_more {i = i} {parts = parts} {more = others} item text) start behind e more cuts rest =
-          let known = and_right (is_beside source i) _ e in
+      old_row raw_end quotes start behind e more cuts rest = rest
+      old_row (raw_more {i = i} {parts = parts} {more = others} item text) quotes start behind e more cuts rest =
+          let known = and_right (is_next source quotes i) _ e in
           subst (λ (list : List Part). From (i - 1) list (begun (gap_before source i) (item_cut source item (row_cut source text cuts)))
           (gap_before source i ++ item_text source item (row_text source text behind)))
           (sym (append_assoc parts others more))
-          (old_item item (behind_gap start (gap_before source i)) (row_text source text behind) (and_left (is_beside source i) _ e)
-          (and_left (item_known source mode item (behind_gap start (gap_before source i)) (row_text source text behind)) _ known)
+          (old_item item quotes (behind_gap start (gap_before source i)) (row_text source text behind)
+          (and_left (is_beside source i) _ (and_left (is_next source quotes i) _ e))
+          (and_left (item_known source mode item quotes (behind_gap start (gap_before source i)) (row_text source text behind)) _ known)
           (others ++ more) (row_cut source text cuts)
-          (old_row text (leaves item) behind
-          (and_right (item_known source mode item (behind_gap start (gap_before source i)) (row_text source text behind)) _ known)
+          (old_row text (string_behind item quotes) (leaves item) behind
+          (and_right (item_known source mode item quotes (behind_gap start (gap_before source i)) (row_text source text behind)) _ known)
           more cuts rest))
 
     -- ---- from the first token on
@@ -220,20 +238,22 @@ module _ (source : Source) (mode : Mode) where
         }
 
     pub old_whole : {i k : ℕ} {parts : List Part} {tokens : List Tok} {extents : List Extent}
-        (item : SpellsRawItem source i k parts tokens extents) (before : Before) (behind : List ℕ)
-        → item_known source mode item before behind ≡ true
+        (item : SpellsRawItem source i k parts tokens extents) (quotes : Option ℕ) (before : Before) (behind : List ℕ)
+        → item_known source mode item quotes before behind ≡ true
         → (more : List Part) (cuts : Texts) → From (k - 1) more cuts behind
         → Whole i (parts ++ more) (item_cut source item cuts) (item_text source item behind)
-    old_whole (raw_token {i = i} old) before behind e more cuts rest =
-        token_whole i (suc i - 1) more cuts behind (some_token old before behind e)
+    old_whole (raw_token {i = i} old) quotes before behind e more cuts rest =
+        token_whole i (suc i - 1) more cuts behind (some_token old quotes before behind e)
         (let z : suc i - 1 ≡ i = omega arith in z) rest
-    old_whole (raw_insert {i = i} {c = c} {value = value} opens inner close) before behind e more cuts rest =
+    old_whole (raw_insert {i = i} {c = c} {value = value} opens inner close) quotes before behind e more cuts rest =
         let here : From c more cuts behind =
         subst (λ (m : ℕ). From m more cuts behind) (let z : suc c - 1 ≡ c = omega arith in z) rest in record {
           cut = first_insert source to end i c (extents_of more) cuts here.cut;
           seamed = value_first source to end i c value more behind here.seamed;
         }
-    old_whole (raw_brackets {i = i} {c = c} {parts = parts} kind opens text close) before behind e more cuts rest =
+    old_whole (raw_brackets kind opens text close) (Some q) before behind e more cuts rest =
+        absurd (let wrong : false ≡ true = e in cc)
+    old_whole (raw_brackets {i = i} {c = c} {parts = parts} kind opens text close) None before behind e more cuts rest =
         let it = brackets_told i c kind (and_left (is_bracketed mode kind && _) _ e) in
         let inner = and_right (is_bracketed mode kind && _) _ e in
         let known = and_right (is_beside source c) _ inner in
@@ -243,5 +263,5 @@ module _ (source : Source) (mode : Mode) where
         (row_cut source text (begun (gap_before source c) (begun (bytes_at source c) cuts)))
         (row_text source text (gap_before source c ++ (bytes_at source c ++ behind)))
         it.opening_some (let z : suc i - 1 ≡ i = omega arith in z)
-        (old_row text befores.Other (gap_before source c ++ (bytes_at source c ++ behind)) known more
+        (old_row text None befores.Other (gap_before source c ++ (bytes_at source c ++ behind)) known more
         (begun (gap_before source c) (begun (bytes_at source c) cuts)) last)

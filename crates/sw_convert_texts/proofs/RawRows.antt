@@ -1,32 +1,28 @@
 -- Raw text without comments is written as its tokens, item by item.
-use Rattle.std.proofs.Common.{◌≡◌, inl, inr, ℕ, suc, ◌+◌, ◌-◌, Bool, true, false, not, List, [], ◌∷◌, ◌++◌, length, refl, sym, ◌∙◌, ap, subst, arith, append_assoc, append-nil, length-append}
+use Rattle.std.proofs.Common.{◌≡◌, inl, ℕ, suc, ◌+◌, ◌-◌, Bool, true, false, not, List, [], ◌∷◌, ◌++◌, length, Option, Some, None, refl, sym, ◌∙◌, ap, subst, arith, append_assoc, append-nil, length-append}
 use Rattle.std.specs.Prelude.{codes}
 use Rattle.std.specs.List.{list_all}
 use Rattle.sw_parse_lexemes.specs.declared.state.Walk.TheVariants as walks
 use Rattle.sw_parse_lexemes.specs.Brackets.{is_custom}
 use Rattle.sw_parse_lexemes.specs.Classes.{same}
-use Rattle.sw_parse_lexemes.specs.Sorts.{sort_of}
 use Rattle.sw_convert_heads_passing.specs.Rules.{walked}
 use Rattle.sw_convert_texts.specs.RuleTexts.{item_sort, item_digits}
 use Rattle.sw_convert_texts.proofs.Levels.{sign_over, word_over}
-use Rattle.sw_convert_texts.proofs.RawHeads.{ToldSort, Head, Walks, is_neutral, one_walks, is_one, IsOver, RowHead}
-use Rattle.sw_text_scan.proofs.Bounds.{and_left, and_right}
-use Rattle.sw_text_scan.specs.Bytes.{sign, byte, is_white}
+use Rattle.sw_convert_texts.proofs.RawHeads.{Head, Walks, is_one, IsOver, RowHead}
+use Rattle.sw_text_scan.specs.Bytes.{sign, byte, is_white, is_quote}
 use Rattle.sw_tree.specs.declared.expr.Expr.{Expr}
 use Rattle.sw_tokens.specs.declared.pieces.Before.{Before}
 use Rattle.sw_tokens.specs.declared.pieces.Before.TheVariants as befores
-use Rattle.sw_tokens.specs.declared.pieces.Change.TheVariants as changes
 use Rattle.sw_tokens.specs.declared.skips.Inside.TheVariants as insides
 use Rattle.sw_tokens.specs.Tokens.{is_spaced}
 use Rattle.sw_parse_terminals.specs.declared.terminal.Terminal.TheVariants as terminals
 use Rattle.sw_parse_terminals.specs.Numbers.{just}
-use Rattle.sw_parse_lexemes.specs.declared.sort.Sort.{Sort}
 use Rattle.sw_parse_lexemes.specs.declared.sort.Sort.TheVariants as sorts
 use Rattle.sw_parse_lexemes.specs.declared.state.Mode.{Mode}
 use Rattle.sw_parse_table.specs.declared.source.Source.{Source}
 use Rattle.sw_parse_table.specs.Parts.{Part}
-use Rattle.sw_parse_table.specs.Sources.{Texts, begun, from_at, to_at, bytes_at}
-use Rattle.sw_convert_spelling.specs.Spelt.{behind_gap, is_gap}
+use Rattle.sw_parse_table.specs.Sources.{Texts, begun, from_at, to_at}
+use Rattle.sw_convert_spelling.specs.Spelt.{behind_gap, innermost, is_gap}
 use Rattle.sw_convert_spelling.proofs.Choices.{both}
 use Rattle.sw_convert_spelling.proofs.MovedRuns.{first_byte}
 use Rattle.sw_convert_written.specs.Expressions.{expr_text}
@@ -36,18 +32,17 @@ use Rattle.sw_convert_heads_passing.specs.RawTexts as told
 use Rattle.sw_convert_again.specs.Tokens.{Said, Nothing, Says, Extent, extent, shifted, Tok, tok, Old, saying}
 use Rattle.sw_convert_again.specs.Tokens as again
 use Rattle.sw_convert_again.specs.Spells.{Spells, within}
-use Rattle.sw_convert_again.specs.RawTexts.{SpellsRawItem, SpellsRawText, raw_token, raw_insert, raw_end, raw_more}
-use Rattle.sw_convert_tokens.specs.Joints.{Seen, Joint, Token, text, toks, writtens, behind, Stand, Sit, Tell, written_of}
+use Rattle.sw_convert_again.specs.RawTexts.{SpellsRawItem, SpellsRawText, raw_insert, raw_end, raw_more}
+use Rattle.sw_convert_tokens.specs.Joints.{Seen, Joint, Token, text, toks, writtens, behind, Direct, Stand, Sit, Tell, written_of}
 use Rattle.sw_convert_tokens.specs.Values.{WasRead}
-use Rattle.sw_convert_tokens.proofs.Joins.{text_append, toks_append, writtens_append, behind_append, tell_append}
-use Rattle.sw_convert_texts.specs.RawKinds.{item_known, item_text, leaves, row_text, sort_there, token_stays}
-use Rattle.sw_convert_texts.proofs.AroundTexts.{lones, cut_before, around_texts, CutFrom, cut_token, cut_insert, first_token, first_insert}
-use Rattle.sw_convert_texts.proofs.Inserts.{Inner, inner_items, opening_behind, closing, value_stand}
+use Rattle.sw_convert_tokens.proofs.Joins.{text_append, toks_append, writtens_append, behind_append, tell_append, stand_append}
+use Rattle.sw_convert_texts.specs.RawKinds.{item_text, leaves, row_text, is_closed, string_behind}
+use Rattle.sw_convert_texts.proofs.AroundTexts.{lones, cut_before, around_texts, CutFrom, cut_insert, first_insert}
+use Rattle.sw_convert_texts.proofs.Inserts.{takes_insert, Inner, inner_items, opening_behind, closing, value_stand}
 use Rattle.sw_convert_texts.proofs.RawOlds.{item_cut, row_cut}
-use Rattle.sw_convert_texts.proofs.RawSits.{ends_apart, ends_append, beside_sits, own_sits, step_sits, sit_first}
-use Rattle.sw_convert_texts.proofs.RawNames.{RawToken}
-use Rattle.sw_convert_texts.proofs.RawTokens.{is_end, stays_behind}
-use Rattle.sw_convert_texts.proofs.RawTokens as raw_tokens
+use Rattle.sw_convert_texts.proofs.RawSits.{ends_apart, ends_append, beside_sits, sit_first}
+use Rattle.sw_convert_texts.proofs.RawTokens.{is_end}
+use Rattle.sw_convert_texts.proofs.RawStrings.{inside_of}
 
 -- where the tokens stand in a text, its texts around values are cut so
 abbrev pub Placed : List Joint → ℕ → List Extent → (Texts → Texts) → Type 0
@@ -64,10 +59,25 @@ Begun joints count extents cut =
     → around_texts new (record { from = from_at new at; to = to; first = at; end = end }) (shifted at extents ++ more)
     ≡ lones (cut cuts)
 
--- at the level of a sheet they stand before this text and what ends a statement
-abbrev pub StandBefore : Before → List Joint → List ℕ → Type 0
-StandBefore before joints behind =
-    (after : List ℕ) → is_end (byte after 0) ≡ true → Stand [] before joints [] (behind ++ after)
+-- at the level of a sheet, or in a string by a quote, they stand before this text and what ends a statement
+abbrev pub StandBefore : Option ℕ → Before → List Joint → Option ℕ → List ℕ → Type 0
+StandBefore quotes before joints end behind =
+    (after : List ℕ) → is_end (byte after 0) ≡ true → Stand (inside_of quotes) before joints (inside_of end) (behind ++ after)
+
+-- and so they do with those that stand behind them up to a text
+abbrev pub StandOnward : Option ℕ → Before → List Joint → Option ℕ → Before → List ℕ → Type 0
+StandOnward quotes before joints end mid behind =
+    (others : List Joint) (rest after : List ℕ) → text others ++ rest ≡ behind → is_end (byte after 0) ≡ true
+    → (is_closed end ≡ false → Direct others) → Stand (inside_of end) mid others [] (rest ++ after)
+    → Stand (inside_of quotes) before (joints ++ others) [] (rest ++ after)
+
+pub onward : (quotes : Option ℕ) (before : Before) (xs : List Joint) (end : Option ℕ) (mid : Before) (behind_text : List ℕ)
+    → StandBefore quotes before xs end behind_text → behind before xs ≡ mid → StandOnward quotes before xs end mid behind_text
+onward quotes before xs end mid behind_text one last others rest after same ends direct more =
+    stand_append (inside_of quotes) (inside_of end) [] before xs others (rest ++ after)
+    (subst (Stand (inside_of quotes) before xs (inside_of end))
+    (ap (λ (t : List ℕ). t ++ after) (sym same) ∙ append_assoc (text others) rest after) (one after ends))
+    (subst (λ (b : Before). Stand (inside_of end) b others [] (rest ++ after)) (sym last) more)
 
 -- text among other raw text
 abbrev pub IsRaw : Mode → List Joint → Type 0
@@ -91,8 +101,8 @@ EndThere joints count =
 
 -- an item as it is written, behind this white space; its first token says this
 pub record ItemIs (source : Source) (mode : Mode) {i k : ℕ} {parts : List Part} {tokens : List Tok} {extents : List Extent}
-    (item : SpellsRawItem source i k parts tokens extents) (behind_text : List ℕ) (before : Before) (gap : List ℕ) (said : Said) :
-    Type 0 where
+    (item : SpellsRawItem source i k parts tokens extents) (quotes : Option ℕ) (behind_text : List ℕ) (before : Before)
+    (gap : List ℕ) (said : Said) : Type 0 where
   pub joints : List Joint
   pub spelling : (rest : List ℕ) → text joints ++ rest ≡ gap ++ item_text source item rest
   pub seen : toks joints ≡ saying said tokens
@@ -108,7 +118,8 @@ pub record ItemIs (source : Source) (mode : Mode) {i k : ℕ} {parts : List Part
   pub walks : is_custom mode ≡ false → Walks (writtens joints)
   pub placed : Placed joints (length tokens) extents (λ cuts. begun gap (item_cut source item cuts))
   pub first : Begun joints (length tokens) extents (item_cut source item)
-  pub stand : StandBefore before joints behind_text
+  pub near : gap ≡ [] → (others : List Joint) → Direct (joints ++ others)
+  pub stand : StandOnward quotes before joints (string_behind item quotes) (leaves item) behind_text
 
 -- what stands directly before the token behind items
 abbrev pub row_leaves : {source : Source} {i j : ℕ} {parts : List Part} {tokens : List Tok} {extents : List Extent}
@@ -118,7 +129,7 @@ row_leaves start (raw_more item row) = row_leaves (leaves item) row
 
 -- items
 pub record RowIs (source : Source) (mode : Mode) {i j : ℕ} {parts : List Part} {tokens : List Tok} {extents : List Extent}
-    (row : SpellsRawText source i j parts tokens extents) (start : Before) (behind_text : List ℕ) : Type 0 where
+    (row : SpellsRawText source i j parts tokens extents) (quotes : Option ℕ) (start : Before) (behind_text : List ℕ) : Type 0 where
   pub joints : List Joint
   pub spelling : (rest : List ℕ) → text joints ++ rest ≡ row_text source row rest
   pub seen : toks joints ≡ tokens
@@ -129,13 +140,8 @@ pub record RowIs (source : Source) (mode : Mode) {i j : ℕ} {parts : List Part}
   pub head : RowHead mode start row (writtens joints)
   pub walks : is_custom mode ≡ false → Walks (writtens joints)
   pub placed : Placed joints (length tokens) extents (row_cut source row)
-  pub stand : StandBefore start joints behind_text
-
--- no token alone is a `#{`
-no_insert : (sort new : Sort) → ToldSort sort new → is_neutral new ≡ true → same sort sorts.OpenInsert ≡ true → ⊥
-no_insert sorts.OpenInsert new (inl e) neutral f = let wrong : true ≡ false = sym neutral ∙ ap is_neutral e in cc
-no_insert sorts.OpenInsert new (inr (l, m)) neutral f = let wrong : false ≡ true = l in cc
-no_insert _ new told_new neutral f = let wrong : false ≡ true = f in cc
+  pub near : is_closed quotes ≡ false → Direct joints
+  pub stand : StandBefore quotes start joints None behind_text
 
 -- white space before what begins with none
 pub white_gap : (gap own : List ℕ) → list_all is_white gap ≡ true → is_white (byte own 0) ≡ false
@@ -147,67 +153,22 @@ pub spelt_one : (gap own rest : List ℕ) → (gap ++ (own ++ [])) ++ rest ≡ g
 spelt_one gap own rest =
     append_assoc gap (own ++ []) rest ∙ ap (λ (t : List ℕ). gap ++ (t ++ rest)) (append-nil own)
 
+-- by a quote
+abbrev pub is_quoted : Option ℕ → Bool
+is_quoted None = false
+is_quoted (Some q) = is_quote q
+
+-- what opens a value there, where it may stand
+takes_there : (quotes : Option ℕ) → (is_closed quotes ≡ false → is_quoted quotes ≡ true) → takes_insert (innermost (inside_of quotes)) ≡ true
+takes_there None e = refl
+takes_there (Some q) e = e refl
+
+gap_there : (quotes : Option ℕ) (gap own : List ℕ) → (is_closed quotes ≡ false → gap ≡ []) → list_all is_white gap ≡ true
+    → is_white (byte own 0) ≡ false → is_gap (innermost (inside_of quotes)) gap own ≡ true
+gap_there None gap own none white black = white_gap gap own white black
+gap_there (Some q) gap own none white black = ap (λ (t : List ℕ). is_gap (insides.Quotes q) t own) (none refl)
+
 module _ (source : Source) (was : WasRead source) (mode : Mode) where
-  -- ---- tokens
-
-  abbrev raw_seen : {sort : Sort} {own : List ℕ} → RawToken sort own → Before → List ℕ → Said → Seen
-  raw_seen {own = own} token before gap said = record {
-    gap = gap;
-    kind = token.kind;
-    bytes = own;
-    change = changes.Keep;
-    spaced = is_spaced (behind_gap before gap);
-    may_be = terminals.Raw ∷ [];
-    said = said;
-  }
-
-  pub token_is : {i : ℕ} (old : Old source i (just terminals.Raw)) (behind_text : List ℕ) (before : Before) (gap : List ℕ)
-      (said : Said) → item_known source mode (raw_token old) (behind_gap before gap) behind_text ≡ true
-      → list_all is_white gap ≡ true → ItemIs source mode (raw_token old) behind_text before gap said
-  token_is {i} old behind_text before gap said known white =
-      let stays = and_left (token_stays (sort_there old) (bytes_at source i) behind_text) _ known in
-      let stands = and_right (token_stays (sort_there old) (bytes_at source i) behind_text) _ known in
-      let token = raw_tokens.raw_token source was i old.lexeme old.there behind_text stays in
-      let seen = raw_seen token before gap said in record {
-        joints = Token seen ∷ [];
-        spelling = spelt_one gap (bytes_at source i);
-        seen = refl;
-        counted = refl;
-        last = token.other;
-        ended = λ b. refl;
-        raw = λ around rest more. token.raw mode around seen.spaced rest more;
-        tells = λ others more says. (says, more);
-        ends = λ new commented at front after sit. sit_first new commented at front seen [] after sit refl;
-        head = record {
-          head = written_of (Token seen);
-          tail = [];
-          is = refl;
-          told = token.told;
-          digits_is = token.digits;
-          spaced_is = refl;
-        };
-        one = λ e. refl;
-        over = λ e more. absurd (no_insert (sort_there old) (sort_of token.kind (bytes_at source i)) token.told token.neutral e);
-        walks = λ e. one_walks (written_of (Token seen)) token.neutral;
-        placed = λ new at front after to end more cuts here sit rest.
-            cut_token new to end at gap (bytes_at source i) more cuts (step_sits new at front seen after here sit.0)
-            (subst (λ (n : ℕ). CutFrom new to end n more cuts) (let z : at + 1 ≡ suc at = omega arith in z) rest);
-        first = λ new commented at front after to end more cuts sit rest.
-            let own = own_sits new at (front ++ gap) seen after commented sit.0 in
-            first_token new to end at more cuts own.high
-            (subst (λ (n : ℕ). CutFrom new to end n more cuts) (let z : (at + 1) - 1 ≡ at = omega arith in z) rest)
-            ∙ ap (λ (t : List ℕ). lones (begun t cuts)) own.text_is;
-        stand = λ after ends. (
-          white_gap gap (bytes_at source i) white token.black,
-          token.some,
-          (refl, token.seen),
-          λ e. absurd (let no : true ≡ false = sym e ∙ token.closed in cc),
-          token.token (behind_text ++ after) (stays_behind (sort_there old) (bytes_at source i) behind_text after ends stays)
-              (behind_gap before gap) stands,
-          refl,
-        );
-      }
-
   -- ---- values in `#{}`
 
   module _ {i c : ℕ} {value : Expr} {tokens : List Tok} (opens : Old source i (just terminals.Insert))
@@ -287,9 +248,10 @@ module _ (source : Source) (was : WasRead source) (mode : Mode) where
         (let z : at + (2 + length tokens) ≡ suc ((at + length insert_tokens) - 1) = omega (arith, long) in z)
         ∙ first_insert new to end at last more cuts rest
 
-    pub insert_is : (behind_text : List ℕ) → list_all is_white gap ≡ true
-        → ItemIs source mode (raw_insert opens value_is close) behind_text before gap said
-    insert_is behind_text white = record {
+    pub insert_is : (quotes : Option ℕ) (behind_text : List ℕ) → list_all is_white gap ≡ true → (is_closed quotes ≡ false → gap ≡ [])
+        → (is_closed quotes ≡ false → is_quoted quotes ≡ true)
+        → ItemIs source mode (raw_insert opens value_is close) quotes behind_text before gap said
+    insert_is quotes behind_text white none quoted = record {
       joints = insert_joints;
       spelling = insert_spelling;
       seen = insert_seen;
@@ -317,7 +279,11 @@ module _ (source : Source) (was : WasRead source) (mode : Mode) where
           ∙ sign_over inner.passed (inner_items inner) opened.spaced terminals.Insert count more;
       placed = insert_placed;
       first = insert_first;
-      stand = λ after ends.
-          value_stand [] before gap terminals.Insert said Nothing inner [] (behind_text ++ after) refl
-          (white_gap gap (codes "#{") white (ap is_white (first_byte (sign "#") (codes "{")))) refl;
+      near = λ e others. e;
+      stand = onward quotes before insert_joints quotes befores.Other behind_text
+          (λ after ends.
+          value_stand (inside_of quotes) before gap terminals.Insert said Nothing inner [] (behind_text ++ after)
+          (takes_there quotes quoted)
+          (gap_there quotes gap (codes "#{") none white (ap is_white (first_byte (sign "#") (codes "{")))) refl)
+          (behind_append befores.Other list (closed ∷ []));
     }

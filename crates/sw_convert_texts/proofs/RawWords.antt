@@ -1,9 +1,9 @@
 -- Urls, unicode ranges and `@` with a name in raw text are the tokens that they were.
-use Rattle.std.proofs.Common.{◌≡◌, ◌<◌, inl, ℕ, ◌+◌, Bool, true, false, not, ◌&&◌, ◌||◌, if◌then◌else◌, List, [], ◌∷◌, ◌++◌, length, Option, Some, None, refl, sym, ◌∙◌, ap, subst, arith}
+use Rattle.std.proofs.Common.{◌≡◌, ◌<◌, inl, ℕ, ◌+◌, Bool, true, false, not, ◌||◌, if◌then◌else◌, List, [], ◌∷◌, ◌++◌, length, Option, Some, refl, sym, ◌∙◌, ap, subst, arith}
 use Rattle.std.specs.Prelude.{◌==◌}
 use Rattle.std.proofs.lemmas.Bool.Decides.{nat_tests}
 use Rattle.sw_text_scan.specs.declared.runs.Class.TheVariants as classes
-use Rattle.sw_text_scan.specs.Bytes.{sign, byte, is_digit, is_name_byte, starts_plainly, opens_at}
+use Rattle.sw_text_scan.specs.Bytes.{sign, byte, is_name_byte, starts_plainly, opens_at}
 use Rattle.sw_text_scan.specs.Runs.{run_end}
 use Rattle.sw_text_scan.specs.Words.{begins_range, unit_start}
 use Rattle.sw_text_scan.proofs.Bounds.{and_left, and_right, not_true}
@@ -33,7 +33,7 @@ use Rattle.sw_convert_heads_passing.specs.RawTexts as told
 use Rattle.sw_convert_tokens.specs.Values.{WasRead}
 use Rattle.sw_convert_tokens.specs.Written.{is_stop, is_dots, stops, begins_white}
 use Rattle.sw_convert_tokens.proofs.OriginChoices.{is_range}
-use Rattle.sw_convert_tokens.proofs.Ranges.{range_black, range_some, range_token}
+use Rattle.sw_convert_tokens.proofs.Ranges.{range_black, range_token}
 use Rattle.sw_convert_tokens.proofs.Stops.{stopped}
 use Rattle.sw_convert_tokens.proofs.Words.{kind_of_range}
 use Rattle.sw_convert_texts.specs.RawKinds.{is_at, is_digits, is_hex, sort_behind, ends_number, at_stays}

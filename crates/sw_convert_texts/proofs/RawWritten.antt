@@ -1,5 +1,5 @@
 -- Raw text without comments that was read is written as its tokens.
-use Rattle.std.proofs.Common.{◌≡◌, ◌⊎◌, ◌<◌, ℕ, suc, ◌+◌, ◌-◌, Bool, true, false, inl, inr, List, [], ◌∷◌, ◌++◌, map, length, refl, sym, ◌∙◌, ap, subst, arith, append-nil, length-append, ◌&&◌}
+use Rattle.std.proofs.Common.{◌≡◌, ◌⊎◌, ◌<◌, ℕ, suc, ◌+◌, ◌-◌, Bool, true, false, inl, inr, List, [], ◌∷◌, ◌++◌, map, length, refl, sym, ◌∙◌, ap, subst, arith, append-nil, length-append, ◌&&◌, None}
 use Rattle.std.specs.Prelude.{◌==◌, ◌||◌, codes}
 use Rattle.std.specs.List.{list_all}
 use Rattle.sw_convert_spelling.specs.Spelt.{behind_gap}
@@ -31,7 +31,7 @@ use Rattle.sw_convert_tokens.specs.Values.{WasRead}
 use Rattle.sw_convert_tokens.specs.Written.{gap_of, is_calm}
 use Rattle.sw_convert_tokens.proofs.Joins.{text_behind, toks_append, behind_append, sit_left}
 use Rattle.sw_convert_texts.specs.Inserted.{RawItemHasValues, RawTextHasValues}
-use Rattle.sw_convert_texts.specs.RawKinds.{is_uncut, SelectorsAreWritten, leaves, item_text, row_text, item_known, row_known, RawTextsAreWritten}
+use Rattle.sw_convert_texts.specs.RawKinds.{is_uncut, SelectorsAreWritten, string_behind, leaves, item_text, row_text, item_known, row_known, RawTextsAreWritten}
 use Rattle.sw_convert_texts.specs.RawTexts.{ends_statement, EndsText, IsText, RawWritten, SheetSegment}
 use Rattle.sw_convert_texts.proofs.JoinedTexts.{lone}
 use Rattle.sw_convert_texts.proofs.AroundTexts.{lones, around_texts, around_is, CutFrom, cut_end}
@@ -40,7 +40,7 @@ use Rattle.sw_convert_texts.proofs.RawOlds.{item_cut, row_cut, From, Whole, old_
 use Rattle.sw_convert_texts.proofs.RawSits.{shifted_append, shifted_twice, ends_apart, sit_right}
 use Rattle.sw_convert_texts.proofs.RawTokens.{is_end}
 use Rattle.sw_convert_texts.proofs.RawRows.{row_leaves, Begun, EndThere, FirstSays, Placed, ItemIs, RowIs}
-use Rattle.sw_convert_texts.proofs.RawJoined.{row_stand, row_raw, item_is, row_is}
+use Rattle.sw_convert_texts.proofs.RawJoined.{row_raw, item_is, row_is}
 
 -- ---- what was read
 
@@ -167,7 +167,7 @@ ends_first own after f = go f.ends
 -- what is told of an item behind a sign is told of it behind white space
 calm_item : (mode : Mode) {source : Source} {i k : ℕ} {parts : List Part} {tokens : List Tok} {extents : List Extent}
     (item : SpellsRawItem source i k parts tokens extents) (b : Before) → is_calm b ≡ true → (behind_text : List ℕ)
-    → item_known source mode item befores.Other behind_text ≡ true → item_known source mode item b behind_text ≡ true
+    → item_known source mode item None befores.Other behind_text ≡ true → item_known source mode item None b behind_text ≡ true
 calm_item mode item befores.Other calm behind_text e = e
 calm_item mode (raw_token old) befores.White calm behind_text e = e
 calm_item mode (raw_insert opens inner close) befores.White calm behind_text e = e
@@ -183,9 +183,9 @@ module _ (source : Source) (was : WasRead source) (mode : Mode) {i k j : ℕ} {p
 
   -- the first item says it
   abbrev One : Before → Bool → Type 0
-  One before spaced = ItemIs source mode item (row_text source row []) before (gap_of spaced) said
+  One before spaced = ItemIs source mode item None (row_text source row []) before (gap_of spaced) said
 
-  old_is : item_known source mode item befores.Other (row_text source row []) ≡ true → row_known source mode row (leaves item) [] ≡ true
+  old_is : item_known source mode item None befores.Other (row_text source row []) ≡ true → row_known source mode row (string_behind item None) (leaves item) [] ≡ true
       → Whole source mode (to_at source (j - 1)) (j - 1) i (parts ++ more) (item_cut source item (row_cut source row (lone [])))
       (item_text source item (row_text source row []))
   old_is first then =
@@ -197,10 +197,10 @@ module _ (source : Source) (was : WasRead source) (mode : Mode) {i k j : ℕ} {p
       subst (λ (list : List Part). Whole source mode to (j - 1) i (parts ++ list) (item_cut source item (row_cut source row (lone [])))
       (item_text source item (row_text source row [])))
       (append-nil more)
-      (old_whole source mode to (j - 1) item befores.Other (row_text source row []) first (more ++ []) (row_cut source row (lone []))
-      (old_row source mode to (j - 1) row (leaves item) [] then [] (lone []) last))
+      (old_whole source mode to (j - 1) item None befores.Other (row_text source row []) first (more ++ []) (row_cut source row (lone []))
+      (old_row source mode to (j - 1) row (string_behind item None) (leaves item) [] then [] (lone []) last))
 
-  says : (before : Before) (spaced : Bool) (one : One before spaced) (rest : RowIs source mode row (leaves item) [])
+  says : (before : Before) (spaced : Bool) (one : One before spaced) (rest : RowIs source mode row (string_behind item None) (leaves item) [])
       → around_texts source (stretch_between source i j) (extents_of (parts ++ more)) ≡ lones (item_cut source item (row_cut source row (lone [])))
       → FirstSays said (one.joints ++ rest.joints)
   says before spaced one rest old new commented at front after sit =
@@ -221,7 +221,7 @@ module _ (source : Source) (was : WasRead source) (mode : Mode) {i k j : ℕ} {p
   -- the whole text as it is written
   pub record WholeText (before : Before) (spaced : Bool) : Type 0 where
     pub one : One before spaced
-    pub rest : RowIs source mode row (leaves item) []
+    pub rest : RowIs source mode row (string_behind item None) (leaves item) []
     pub segment : SheetSegment before (gap_of spaced ++ own_text) own_tokens (writtens (one.joints ++ rest.joints))
         (row_leaves (leaves item) row) (EndsText own_text)
 
@@ -229,15 +229,16 @@ module _ (source : Source) (was : WasRead source) (mode : Mode) {i k j : ℕ} {p
   white_gap_of true = refl
   white_gap_of false = refl
 
-  pub whole_text : item_known source mode item befores.Other (row_text source row []) ≡ true
-      → row_known source mode row (leaves item) [] ≡ true → RawItemHasValues item → RawTextHasValues row
+  pub whole_text : item_known source mode item None befores.Other (row_text source row []) ≡ true
+      → row_known source mode row (string_behind item None) (leaves item) [] ≡ true → RawItemHasValues item → RawTextHasValues row
       → (before : Before) (spaced : Bool) → is_calm (behind_gap before (gap_of spaced)) ≡ true → WholeText before spaced
   whole_text first then has values before spaced calm =
       let old = old_is first then in
       let one : One before spaced =
-      item_is source was mode item (row_text source row []) before (gap_of spaced) said
-      (calm_item mode item (behind_gap before (gap_of spaced)) calm (row_text source row []) first) (white_gap_of spaced) has in
-      let rest = row_is source was mode row (leaves item) [] then values in
+      item_is source was mode item None (row_text source row []) before (gap_of spaced) said
+      (calm_item mode item (behind_gap before (gap_of spaced)) calm (row_text source row []) first) (white_gap_of spaced)
+      (λ e. absurd (let wrong : true ≡ false = e in cc)) has in
+      let rest = row_is source was mode row (string_behind item None) (leaves item) [] then values in
       let xs = one.joints in
       let ys = rest.joints in record {
         one = one;
@@ -254,8 +255,7 @@ module _ (source : Source) (was : WasRead source) (mode : Mode) {i k j : ℕ} {p
           last = behind_append before xs ys ∙ ap (λ (b : Before). behind b ys) one.last ∙ rest.last;
           tells = one.tells ys rest.tells (says before spaced one rest old.cut);
           stand = λ after ok.
-              row_stand before (leaves item) xs ys [] (row_text source row []) one.stand one.last (rest.spelling []) rest.stand after
-              (ends_first _ after ok);
+              one.stand ys [] after (rest.spelling []) (ends_first _ after ok) rest.near (rest.stand after (ends_first _ after ok));
         };
       }
 
@@ -264,8 +264,8 @@ module _ (source : Source) (was : WasRead source) (mode : Mode) {i k j : ℕ} {p
       → RawText mode around others → RawText mode around (writtens (it.one.joints ++ it.rest.joints) ++ others)
   whole_raw it around others told = row_raw mode it.one.joints it.rest.joints it.one.raw it.rest.raw around others told
 
-  whole_written : item_known source mode item befores.Other (row_text source row []) ≡ true
-      → row_known source mode row (leaves item) [] ≡ true → RawItemHasValues item → RawTextHasValues row
+  whole_written : item_known source mode item None befores.Other (row_text source row []) ≡ true
+      → row_known source mode row (string_behind item None) (leaves item) [] ≡ true → RawItemHasValues item → RawTextHasValues row
       → IsText source mode i j (parts ++ more) (extents ++ shifted (length tokens) further) (tokens ++ others)
   whole_written first then has values before spaced calm =
       let it = whole_text first then has values before spaced calm in record {
@@ -279,8 +279,8 @@ module _ (source : Source) (was : WasRead source) (mode : Mode) {i k j : ℕ} {p
 pub raw_texts_written : RawTextsAreWritten
 raw_texts_written source mode i j values tokens extents was raw_end known has = absurd (cc)
 raw_texts_written source mode i j values tokens extents was (raw_more item row) known (has, more) =
-    whole_written source was mode item row (and_left (item_known source mode item befores.Other (row_text source row [])) _ known)
-    (and_right (item_known source mode item befores.Other (row_text source row [])) _ known) has more
+    whole_written source was mode item row (and_left (item_known source mode item None befores.Other (row_text source row [])) _ known)
+    (and_right (item_known source mode item None befores.Other (row_text source row [])) _ known) has more
 
 -- ---- before the block of a rule
 

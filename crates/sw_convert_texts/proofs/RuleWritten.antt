@@ -1,5 +1,5 @@
 -- What stands before the block of a rule is written as its tokens, and these begin a rule.
-use Rattle.std.proofs.Common.{◌≡◌, ◌⊎◌, ℕ, Bool, true, false, not, ◌&&◌, ◌||◌, inl, inr, List, [], ◌∷◌, ◌++◌, refl, sym, ◌∙◌, ap, subst, append_assoc}
+use Rattle.std.proofs.Common.{◌≡◌, ◌⊎◌, ℕ, Bool, true, false, not, ◌&&◌, ◌||◌, inl, inr, None, List, [], ◌∷◌, ◌++◌, refl, sym, ◌∙◌, ap, subst, append_assoc}
 use Rattle.std.specs.Prelude.{if◌then◌else◌}
 use Rattle.sw_text_scan.proofs.Bounds.{and_left, and_right, not_true}
 use Rattle.sw_tokens.specs.declared.pieces.Before.{Before}
@@ -345,8 +345,8 @@ pub rule_texts_written : RuleTextsAreWritten
 rule_texts_written source i j values tokens extents was raw_end known uncut begins has before calm = absurd (cc)
 rule_texts_written source i j values tokens extents was (raw_more item row) known uncut begins (has, more) before calm =
     let it = whole_text source was modes.Raw item row
-    (and_left (item_known source modes.Raw item befores.Other (row_text source row [])) _ known)
-    (and_right (item_known source modes.Raw item befores.Other (row_text source row [])) _ known) has more before false calm in
+    (and_left (item_known source modes.Raw item None befores.Other (row_text source row [])) _ known)
+    (and_right (item_known source modes.Raw item None befores.Other (row_text source row [])) _ known) has more before false calm in
     let xs = it.one.joints in
     let ys = it.rest.joints in record {
       passed = writtens (xs ++ ys);

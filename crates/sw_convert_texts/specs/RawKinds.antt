@@ -1,9 +1,9 @@
 -- Raw text of which it is proved that it is written as its tokens, told by what was read.
-use Rattle.std.specs.Prelude.{◌≡◌, ℕ, ◌+◌, ◌-◌, Bool, true, false, not, ◌&&◌, ◌||◌, ◌==◌, nat_le, nat_lt, if◌then◌else◌, List, [], ◌∷◌, ◌++◌, length, codes, bytes_eq}
+use Rattle.std.specs.Prelude.{◌≡◌, ℕ, ◌+◌, ◌-◌, Bool, true, false, not, ◌&&◌, ◌||◌, ◌==◌, nat_le, nat_lt, if◌then◌else◌, List, [], ◌∷◌, ◌++◌, length, codes, bytes_eq, Option, Some, None}
 use Rattle.std.specs.List.{list_all}
 use Rattle.sw_text_scan.specs.declared.runs.Class.TheVariants as classes
 use Rattle.sw_text_scan.specs.declared.signs.TheConstants.{END, CARRIAGE_RETURN, LINE_FEED}
-use Rattle.sw_text_scan.specs.Bytes.{sign, byte, is_white, is_digit, is_hex_digit, is_quote, is_name_byte, starts_plainly}
+use Rattle.sw_text_scan.specs.Bytes.{sign, byte, is_break, is_white, is_digit, is_hex_digit, is_quote, is_name_byte, starts_plainly, opens_at}
 use Rattle.sw_text_scan.specs.Runs.{run_end}
 use Rattle.sw_text_scan.specs.Words.{is_u, begins_number, unit_start, unit_end}
 use Rattle.sw_tokens.specs.declared.pieces.Before.{Before}
@@ -218,6 +218,58 @@ sort_behind sorts.Hash = befores.Hash
 sort_behind sorts.Dollar = befores.Dollar
 sort_behind _ = befores.Other
 
+-- ---- strings with `#{}`
+
+-- a byte of text in a string by this quote, without escapes
+abbrev pub holds : ℕ → ℕ → Bool
+holds q b = not ((b == q) || ((b == sign "\\") || (is_break b || (b == END))))
+
+-- such text
+abbrev pub is_held : ℕ → List ℕ → Bool
+is_held q [] = true
+is_held q (b ∷ text) = (holds q b && not ((b == sign "#") && (byte text 0 == sign "{"))) && is_held q text
+
+-- a `#{` stands behind such text, or at the begin
+abbrev pub reaches_insert : ℕ → List ℕ → Bool
+reaches_insert q [] = false
+reaches_insert q (b ∷ text) = ((b == sign "#") && (byte text 0 == sign "{")) || (holds q b && reaches_insert q text)
+
+-- the end of the string, or a `#{`
+abbrev pub ends_held : ℕ → List ℕ → Bool
+ends_held q behind = (byte behind 0 == q) || opens_at behind 0
+
+abbrev pub is_opening : Sort → Bool
+is_opening sorts.Template = true
+is_opening _ = false
+
+-- the quote before one
+abbrev pub opens_string : List ℕ → List ℕ → Bool
+opens_string text behind =
+    bytes_eq text (byte text 0 ∷ []) && (is_quote (byte text 0) && reaches_insert (byte text 0) behind)
+
+-- a token in one
+abbrev pub told_in : ℕ → Sort → List ℕ → List ℕ → Bool
+told_in q sorts.Text text behind = is_some text && (is_held q text && ends_held q behind)
+told_in q sorts.TemplateEnd text behind = bytes_eq text (q ∷ [])
+told_in q _ text behind = false
+
+-- a token where a string by this quote is open, or none
+abbrev pub token_known : Option ℕ → Sort → Before → List ℕ → List ℕ → Bool
+token_known None sort before text behind =
+    if is_opening sort then opens_string text behind
+    else (token_stays sort text behind && stands_behind before sort text)
+token_known (Some q) sort before text behind = is_quote q && told_in q sort text behind
+
+-- which string is open behind it
+abbrev pub open_behind : Sort → List ℕ → Option ℕ → Option ℕ
+open_behind sorts.Template text quotes = Some (byte text 0)
+open_behind sorts.TemplateEnd text quotes = None
+open_behind _ text quotes = quotes
+
+abbrev pub is_closed : Option ℕ → Bool
+is_closed None = true
+is_closed (Some q) = false
+
 -- ---- texts
 
 abbrev pub opening_text : {opening closing : Terminal} → Brackets opening closing → List ℕ
@@ -242,40 +294,53 @@ is_beside source i =
     && (not (is_commented source i)
     && (nat_le (to_at source (i - 1)) (from_at source i) && list_all is_white (gap_before source i)))
 
+-- in a string nothing does
+abbrev pub is_next : Source → Option ℕ → ℕ → Bool
+is_next source quotes i = is_beside source i && (is_closed quotes || not (is_some (gap_before source i)))
+
 -- what stands directly before the token behind an item
 abbrev pub leaves : {source : Source} {i k : ℕ} {parts : List Part} {tokens : List Tok} {extents : List Extent}
     → SpellsRawItem source i k parts tokens extents → Before
 leaves (raw_token old) = sort_behind (sort_there old)
 leaves _ = befores.Other
 
--- an item, and items, behind what stands before them, and behind which this is written: without comments, names, numbers,
--- strings and signs that stay what they are there, values in `#{}`, and brackets
+-- the string that is open behind an item
+abbrev pub string_behind : {source : Source} {i k : ℕ} {parts : List Part} {tokens : List Tok} {extents : List Extent}
+    → SpellsRawItem source i k parts tokens extents → Option ℕ → Option ℕ
+string_behind {source} (raw_token {i = i} old) quotes = open_behind (sort_there old) (bytes_at source i) quotes
+string_behind _ quotes = quotes
+
+-- an item, and items, where this string is open and behind what stands before them, and behind which this is written:
+-- without comments, tokens that stay what they are there, strings with `#{}`, values in `#{}`, and brackets
 abbrev mutual
   pub item_known : (source : Source) → Mode → {i k : ℕ} {parts : List Part} {tokens : List Tok} {extents : List Extent}
-      → SpellsRawItem source i k parts tokens extents → Before → List ℕ → Bool
-  item_known source mode (raw_token {i = i} old) before behind =
-      token_stays (sort_there old) (bytes_at source i) behind && stands_behind before (sort_there old) (bytes_at source i)
-  item_known source mode (raw_insert opens inner close) before behind = true
-  item_known source mode (raw_brackets {i = i} {c = c} kind opens text close) before behind =
+      → SpellsRawItem source i k parts tokens extents → Option ℕ → Before → List ℕ → Bool
+  item_known source mode (raw_token {i = i} old) quotes before behind =
+      token_known quotes (sort_there old) before (bytes_at source i) behind
+  item_known source mode (raw_insert opens inner close) None before behind = true
+  item_known source mode (raw_insert opens inner close) (Some q) before behind = is_quote q
+  item_known source mode (raw_brackets kind opens text close) (Some q) before behind = false
+  item_known source mode (raw_brackets {i = i} {c = c} kind opens text close) None before behind =
       (is_bracketed mode kind
       && (bytes_eq (bytes_at source i) (opening_text kind) && bytes_eq (bytes_at source c) (closing_text kind)))
       && (is_beside source c
-      && row_known source mode text befores.Other (gap_before source c ++ (bytes_at source c ++ behind)))
+      && row_known source mode text None befores.Other (gap_before source c ++ (bytes_at source c ++ behind)))
 
   pub row_known : (source : Source) → Mode → {i j : ℕ} {parts : List Part} {tokens : List Tok} {extents : List Extent}
-      → SpellsRawText source i j parts tokens extents → Before → List ℕ → Bool
-  row_known source mode raw_end start behind = true
-  row_known source mode (raw_more {i = i} item text) start behind =
-      is_beside source i
-      && (item_known source mode item (behind_gap start (gap_before source i)) (row_text source text behind)
-      && row_known source mode text (leaves item) behind)
+      → SpellsRawText source i j parts tokens extents → Option ℕ → Before → List ℕ → Bool
+  row_known source mode raw_end quotes start behind = is_closed quotes
+  row_known source mode (raw_more {i = i} item text) quotes start behind =
+      is_next source quotes i
+      && (item_known source mode item quotes (behind_gap start (gap_before source i)) (row_text source text behind)
+      && row_known source mode text (string_behind item quotes) (leaves item) behind)
 
 -- a whole text isn't empty; before its first token anything may stand but a `#` or a `$`
 abbrev pub raw_known : (source : Source) → Mode → {i j : ℕ} {parts : List Part} {tokens : List Tok} {extents : List Extent}
     → SpellsRawText source i j parts tokens extents → Bool
 raw_known source mode raw_end = false
 raw_known source mode (raw_more item text) =
-    item_known source mode item befores.Other (row_text source text []) && row_known source mode text (leaves item) []
+    item_known source mode item None befores.Other (row_text source text [])
+    && row_known source mode text (string_behind item None) (leaves item) []
 
 -- what is written of such a text is its tokens, where this is so of the values in it
 abbrev pub RawTextsAreWritten : Type 0
