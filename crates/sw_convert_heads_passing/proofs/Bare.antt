@@ -10,7 +10,7 @@ use Rattle.sw_parse_lexemes.specs.Classes.{is_name, is_number}
 use Rattle.sw_parse_lexemes.specs.Ahead.{over_comment, walk_from}
 use Rattle.sw_convert_passing.specs.Written.{Written, Stand}
 use Rattle.sw_convert_passing.specs.Kinds.{is_quoted, is_hash_name, is_constant, is_part, is_lone_value, is_operator, is_prefix, is_separator, is_raw, is_raw_sign, is_sign, is_plus_or_minus}
-use Rattle.sw_convert_passing.specs.Values.{Value, number, negative, quoted, template, hash, constant, lone_value, url_template, variable, owned_variable, owned_call, word, call, important, in_parens, in_brackets, negated, prefixed, linked, divided, beside, special, seamed, Word, named, begun, begun_minus, Parts, no_part, part, part_insert, Call, arguments, Pieces, no_piece, text_piece, piece_insert, Items, no_items, items, seamed_items, Row, first, separated, further, Special, text_end, text_token, text_brace, text_name, text_dollar, text_sign, text_comma, text_number, text_signed, text_variable, text_owned_variable, text_call, text_owned_call, text_insert, text_parens, text_brackets, text_seam, enclosed, inserted, Settles, settled}
+use Rattle.sw_convert_passing.specs.Values.{Value, number, negative, positive, quoted, template, hash, constant, lone_value, url_template, variable, owned_variable, owned_call, word, call, important, in_parens, in_brackets, negated, prefixed, linked, divided, beside, special, seamed, Word, named, begun, begun_minus, Parts, no_part, part, part_insert, Call, arguments, Pieces, no_piece, text_piece, piece_insert, Items, no_items, items, seamed_items, Row, first, separated, further, Special, text_end, text_token, text_brace, text_name, text_dollar, text_sign, text_comma, text_number, text_signed, text_variable, text_owned_variable, text_call, text_owned_call, text_insert, text_parens, text_brackets, text_seam, enclosed, inserted, Settles, settled}
 use Rattle.sw_convert_passing.proofs.Settling.{stand_loose}
 use Rattle.sw_convert_passing.proofs.Entries.{split}
 use Rattle.sw_convert_heads_passing.proofs.Selectors.{goes}
@@ -75,6 +75,7 @@ mutual
       → Bare tokens
   value (number sort n) = still _ [] (bare_by is_number refl refl sort n) nothing
   value (negative sort n) = still _ _ refl (still _ [] (bare_by is_number refl refl sort n) nothing)
+  value (positive sort n) = still _ _ refl (still _ [] (bare_by is_number refl refl sort n) nothing)
   value (quoted sort q) = still _ [] (bare_by is_quoted refl refl sort q) nothing
   value (template {inner = inner} inside) = round _ inner _ [] refl (pieces refl inside) refl nothing
   value (hash sort h) = still _ _ refl (still _ [] (bare_by is_hash_name refl refl sort h) nothing)

@@ -12,7 +12,7 @@ use Rattle.sw_parse_lexemes.specs.declared.state.State.{State}
 use Rattle.sw_parse_lexemes.specs.Classes.{same, is_name, is_number, is_comment}
 use Rattle.sw_parse_lexemes.specs.Ahead.{sort_at, spaced_at, is_direct}
 use Rattle.sw_parse_lexemes.specs.Names.{is, is_bang, is_special_name, continues, behind_dollar, behind_bang, constant_or_word}
-use Rattle.sw_parse_lexemes.specs.Signs.{ends_operand, minus_signs}
+use Rattle.sw_parse_lexemes.specs.Signs.{ends_operand, minus_signs, plus_signs}
 use Rattle.sw_parse_lexemes.specs.Terminals.{terminal_of}
 use Rattle.sw_parse_lexemes.specs.Steps.{in_word, after}
 use Rattle.sw_convert_passing.specs.Written.{Written, written, direct, IsThere, Stand, Within}
@@ -23,7 +23,7 @@ use Rattle.sw_convert_passing.proofs.Facts.{no_and, and_no, both, value_mode, Fr
 use Rattle.sw_convert_passing.proofs.Steps.{Reads, join, step, next}
 use Rattle.sw_convert_passing.proofs.Walks.{next_code}
 use Rattle.sw_convert_passing.proofs.BySort.{lone_here}
-use Rattle.sw_convert_passing.proofs.Tokens.{code_here, number_here, sign_here, quoted_here, dollar_here, owner_dollar_here, owner_dot_here, bang_here, variable_name_here, hash_name_here, flag_here, owner_here, name_here}
+use Rattle.sw_convert_passing.proofs.Tokens.{code_here, number_here, sign_here, positive_here, quoted_here, dollar_here, owner_dollar_here, owner_dot_here, bang_here, variable_name_here, hash_name_here, flag_here, owner_here, name_here}
 use Rattle.sw_convert_passing.proofs.Entries.{Entry, Calm, calm, Result, result, one_of, Plainly, last, IsTold}
 
 -- no word goes on where a value begins
@@ -167,6 +167,40 @@ module _ {mode : Mode} {spaced : Bool} where
           ∙ number_no_insert (spaced_at plains (at + 1)) sort n in
           let told = sign_here entry.value state entry.within plains at there.sort
           (no_further plains at entry there.spaced) no_insert signs in
+          let n1 = next state entry.within (value_mode mode entry.value).steady terminals.Sign refl refl in
+          let second = number_here (value_mode mode entry.value).raw (after state terminals.Sign) n1.within plains
+          (at + 1) sort n number.sort
+          (never (after state terminals.Sign) plains (at + 1) n1.word) in
+          let (t, operand) = last (direct sort terminals.Number) terminals.Number entry.value n1.within number e
+          (number_code sort n)
+          second one_of (record { goes = refl; begins = refl }) refl in
+          result t.end
+          (join (step plains state at one terminals.Sign entry.within there refl told one_of) (t.lexemes, t.passed))
+          t.within operand
+
+  pub positive_told : (sort : Sort) → is_number sort ≡ true
+      → IsTold mode spaced true (written sorts.Plus spaced terminals.Sign ∷ direct sort terminals.Number ∷ [])
+  positive_told sort n = record {
+    begins = refl;
+    told = λ plains frames state at to entry stand closed. go plains frames state at to entry stand;
+  }
+    where
+      behind_none : (operand blank : Bool) → (operand && (not blank || true)) ≡ false → operand ≡ false
+      behind_none true true e = e
+      behind_none true false e = e
+      behind_none false blank e = refl
+
+      go : (plains : List Plain) (frames : List Frame) (state : State) (at to : ℕ)
+          → Entry mode frames state spaced true
+          → Stand plains at (written sorts.Plus spaced terminals.Sign ∷ direct sort terminals.Number ∷ []) to
+          → Result plains mode frames state at
+          (written sorts.Plus spaced terminals.Sign ∷ direct sort terminals.Number ∷ []) to
+      go plains frames state at to entry (there, (number, e)) =
+          let one = written sorts.Plus spaced terminals.Sign in
+          let signs : plus_signs state plains at ≡ true = both _ _
+          (both _ _ (ap not number.spaced) (ap is_number number.sort ∙ n))
+          (ap not (behind_none (ends_operand state.before) spaced entry.ready.operand)) in
+          let told = positive_here entry.value state entry.within plains at there.sort signs in
           let n1 = next state entry.within (value_mode mode entry.value).steady terminals.Sign refl refl in
           let second = number_here (value_mode mode entry.value).raw (after state terminals.Sign) n1.within plains
           (at + 1) sort n number.sort

@@ -198,6 +198,12 @@ module _ {mode : Mode} {frames : List Frame} (value : is_value mode ≡ true) (s
       ∙ if_false (is_direct plains (at + 1) sorts.OpenInsert) _ _ i
       ∙ if_true (minus_signs state plains at) terminals.Sign _ s
 
+  pub positive_here : sort_at plains at ≡ sorts.Plus → plus_signs state plains at ≡ true
+      → terminal_of state plains at ≡ terminals.Sign
+  positive_here e s =
+      by_plus state plains at e ∙ if_false (is_text state.mode) _ _ facts.text
+      ∙ if_true (plus_signs state plains at) terminals.Sign _ s
+
   pub quoted_here : (sort : Sort) → is_quoted sort ≡ true → sort_at plains at ≡ sort → may_precede state.before ≡ true
       → terminal_of state plains at ≡ terminals.Quoted
   quoted_here sorts.Quoted q e b =

@@ -4,10 +4,10 @@ use Rattle.sw_parse_lexemes.specs.declared.sort.Sort.{Sort}
 use Rattle.sw_parse_lexemes.specs.declared.sort.Sort.TheVariants as sorts
 use Rattle.sw_parse_lexemes.specs.declared.state.Mode.{Mode}
 use Rattle.sw_convert_passing.specs.Written.{Written}
-use Rattle.sw_convert_passing.specs.Values.{Value, number, negative, quoted, template, hash, constant, lone_value, url_template, variable, owned_variable, owned_call, word, call, important, in_parens, in_brackets, negated, prefixed, linked, divided, beside, special, seamed, Word, named, begun, begun_minus, Parts, no_part, part, part_insert, Call, arguments, Pieces, no_piece, text_piece, piece_insert, Items, no_items, items, seamed_items, Row, first, separated, further, Special, text_end, text_token, text_brace, text_name, text_dollar, text_sign, text_comma, text_number, text_signed, text_variable, text_owned_variable, text_call, text_owned_call, text_insert, text_parens, text_brackets, text_seam, Settles, settled}
+use Rattle.sw_convert_passing.specs.Values.{Value, number, negative, positive, quoted, template, hash, constant, lone_value, url_template, variable, owned_variable, owned_call, word, call, important, in_parens, in_brackets, negated, prefixed, linked, divided, beside, special, seamed, Word, named, begun, begun_minus, Parts, no_part, part, part_insert, Call, arguments, Pieces, no_piece, text_piece, piece_insert, Items, no_items, items, seamed_items, Row, first, separated, further, Special, text_end, text_token, text_brace, text_name, text_dollar, text_sign, text_comma, text_number, text_signed, text_variable, text_owned_variable, text_call, text_owned_call, text_insert, text_parens, text_brackets, text_seam, Settles, settled}
 use Rattle.sw_convert_passing.specs.Laws.{ValuesAreTold, RowsAreTold}
 use Rattle.sw_convert_passing.proofs.Entries.{IsTold}
-use Rattle.sw_convert_passing.proofs.Leaves.{number_told, negative_told, quoted_told, hash_told, constant_told, lone_value_told, variable_told, owned_variable_told, important_told}
+use Rattle.sw_convert_passing.proofs.Leaves.{number_told, negative_told, positive_told, quoted_told, hash_told, constant_told, lone_value_told, variable_told, owned_variable_told, important_told}
 use Rattle.sw_convert_passing.proofs.Enclosed.{IsInner, IsCall, in_parens_told, in_brackets_told, call_told}
 use Rattle.sw_convert_passing.proofs.Words.{IsWord, IsParts, Going, no_part_told, part_told, part_insert_told, begun_told, begun_minus_told, named_told, going_end, going_part, going_insert, word_told, CallBegins, called_told, owned_call_told}
 use Rattle.sw_convert_passing.proofs.Settling.{settle, stand_loose}
@@ -43,6 +43,7 @@ mutual
       → IsTold mode spaced signed tokens
   value_told (number sort n) = number_told sort n
   value_told (negative sort n) = negative_told sort n
+  value_told (positive sort n) = positive_told sort n
   value_told (quoted sort q) = quoted_told sort q
   value_told (template {inner = inner} pieces) =
       template_told sorts.Template sorts.TemplateEnd inner

@@ -85,6 +85,9 @@ mutual
         → Value mode spaced false (written sort spaced terminals.Number ∷ [])
     negative : {mode : Mode} {spaced : Bool} → (sort : Sort) → is_number sort ≡ true
         → Value mode spaced false (written sorts.Minus spaced terminals.Sign ∷ direct sort terminals.Number ∷ [])
+    -- a number that stays with its `+`
+    positive : {mode : Mode} {spaced : Bool} → (sort : Sort) → is_number sort ≡ true
+        → Value mode spaced true (written sorts.Plus spaced terminals.Sign ∷ direct sort terminals.Number ∷ [])
     quoted : {mode : Mode} {spaced : Bool} → (sort : Sort) → is_quoted sort ≡ true
         → Value mode spaced false (written sort spaced terminals.Quoted ∷ [])
     template : {mode : Mode} {spaced : Bool} {inner : List Written} → Pieces sorts.Text inner

@@ -200,6 +200,7 @@ rebound : {spaced signed : Bool} {tokens : List Written} → Value modes.Express
     → Value modes.Bounds spaced signed tokens
 rebound (values.number sort n) f = values.number sort n
 rebound (values.negative sort n) f = values.negative sort n
+rebound (values.positive sort n) f = values.positive sort n
 rebound (values.quoted sort q) f = values.quoted sort q
 rebound (values.template pieces) f = values.template pieces
 rebound (values.hash sort h) f = values.hash sort h

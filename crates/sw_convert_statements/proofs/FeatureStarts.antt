@@ -141,6 +141,7 @@ pub value_starts : {spaced signed : Bool} {passed : List Written} → Value mode
     → Starts passed
 value_starts (values.number sort n) = starts_calm _ _ (number_calm sort n)
 value_starts (values.negative sort n) = starts_calm _ _ refl
+value_starts (values.positive sort n) = starts_calm _ _ refl
 value_starts (values.quoted sort q) = starts_calm _ _ (quoted_calm sort q)
 value_starts (values.template pieces) = starts_calm _ _ refl
 value_starts (values.hash sort h) = starts_calm _ _ refl

@@ -14,7 +14,7 @@ use Rattle.sw_parse_lexemes.specs.Classes.{is_name, is_number}
 use Rattle.sw_parse_lexemes.specs.Ahead.{in_insert, over_word, to_sign, walk_step}
 use Rattle.sw_convert_passing.specs.Written.{Written, direct}
 use Rattle.sw_convert_passing.specs.Kinds.{is_quoted, is_hash_name, is_constant, is_part, is_lone_value, is_operator, is_prefix, is_separator, is_raw, is_raw_sign, is_sign, is_plus_or_minus}
-use Rattle.sw_convert_passing.specs.Values.{Value, number, negative, quoted, template, hash, constant, lone_value, url_template, variable, owned_variable, owned_call, word, call, important, in_parens, in_brackets, negated, prefixed, linked, divided, beside, special, seamed, Word, named, begun, begun_minus, Parts, no_part, part, part_insert, Call, arguments, Pieces, no_piece, text_piece, piece_insert, Items, no_items, items, seamed_items, Row, first, separated, further, Special, text_end, text_token, text_brace, text_name, text_dollar, text_sign, text_comma, text_number, text_signed, text_variable, text_owned_variable, text_call, text_owned_call, text_insert, text_parens, text_brackets, text_seam, enclosed, inserted, Settles, settled, settled_end, settled_same, settled_dollar, settled_named}
+use Rattle.sw_convert_passing.specs.Values.{Value, number, negative, positive, quoted, template, hash, constant, lone_value, url_template, variable, owned_variable, owned_call, word, call, important, in_parens, in_brackets, negated, prefixed, linked, divided, beside, special, seamed, Word, named, begun, begun_minus, Parts, no_part, part, part_insert, Call, arguments, Pieces, no_piece, text_piece, piece_insert, Items, no_items, items, seamed_items, Row, first, separated, further, Special, text_end, text_token, text_brace, text_name, text_dollar, text_sign, text_comma, text_number, text_signed, text_variable, text_owned_variable, text_call, text_owned_call, text_insert, text_parens, text_brackets, text_seam, enclosed, inserted, Settles, settled, settled_end, settled_same, settled_dollar, settled_named}
 use Rattle.sw_convert_heads_passing.specs.Rules.{walked}
 
 -- ---- how many brackets are open behind tokens
@@ -267,6 +267,7 @@ mutual
   value : {mode : Mode} {spaced signed : Bool} {tokens : List Written} → Value mode spaced signed tokens → Level tokens
   value (number sort n) = still _ [] (one_number sort n) nothing
   value (negative sort n) = still _ _ refl (still _ [] (one_number sort n) nothing)
+  value (positive sort n) = still _ _ refl (still _ [] (one_number sort n) nothing)
   value (quoted sort q) = still _ [] (level_by is_quoted refl sort q) nothing
   value (template {inner = inner} inside) = round _ inner _ [] refl (pieces refl inside) refl nothing
   value (hash sort h) = still _ _ refl (still _ [] (level_by is_hash_name refl sort h) nothing)

@@ -29,7 +29,7 @@ use Rattle.sw_convert_spelling.proofs.MovedRuns as moved
 use Rattle.sw_convert_spelling.proofs.Choices.{left_no, both, neither}
 use Rattle.sw_convert_written.specs.Escapes.{ends_unclosed}
 use Rattle.sw_convert_passing.specs.Written.{written, direct}
-use Rattle.sw_convert_passing.specs.Values.{number, negative}
+use Rattle.sw_convert_passing.specs.Values.{number, negative, positive}
 use Rattle.sw_convert_again.specs.Tokens.{Bytes, tok}
 use Rattle.sw_convert_again.specs.Tokens as again
 use Rattle.sw_convert_again.proofs.Tokens.{one_byte}
@@ -55,6 +55,11 @@ is_counted text =
 abbrev pub is_minus_counted : List ℕ → Bool
 is_minus_counted [] = false
 is_minus_counted (b ∷ text) = (b == sign "-") && is_counted text
+
+-- and behind a `+`
+abbrev pub is_plus_counted : List ℕ → Bool
+is_plus_counted [] = false
+is_plus_counted (b ∷ text) = (b == sign "+") && is_counted text
 
 equal : (a b : ℕ) → (a == b) ≡ true → a ≡ b
 equal a b e = grind (arith, nat_tests)
@@ -177,6 +182,9 @@ loosen false false d e = e
 
 minus_ends : Ends (sign "-")
 minus_ends = record { slash = refl; digit = refl }
+
+plus_ends : Ends (sign "+")
+plus_ends = record { slash = refl; digit = refl }
 
 quiet_all : (xs : List ℕ) → list_all (λ b. not (b == sign "\\")) xs ≡ true → Quiet xs
 quiet_all [] e = tt
@@ -373,6 +381,26 @@ module _ (w : List ℕ) (counts : is_counted w ≡ true) where
         told = λ mode free. negative (sort_of kind w) (numeric_sort kind w numeric);
       }
 
+  positive_stays : WrittenAs (AsValue true) (codes "+" ++ w)
+      (tok terminals.Sign (Bytes 2 (codes "+" ++ w)) ∷ again.sign terminals.Number ∷ [])
+  unfolding byte
+  positive_stays before spaced calm =
+      let text = codes "+" ++ w in record {
+        passed = _;
+        segment = subst
+            (λ (end : Before). Segment before (gap_of spaced ++ text) (tok terminals.Sign (Bytes 2 text) ∷ again.sign terminals.Number ∷ []) (written (sort_of kinds.Plus (codes "+")) (is_spaced (behind_gap before (gap_of spaced))) terminals.Sign ∷ direct (sort_of kind w) terminals.Number ∷ []) end (Follows text))
+            (numeric_behind kind numeric)
+            (pair_segment kinds.Plus kind (codes "+") w (terminals.Sign ∷ []) (terminals.Number ∷ []) (Bytes 2 text) before spaced
+            (Follows text) refl (numeric_opens kind numeric) refl (numeric_seen kind w numeric) refl (lit< tt) some
+            (λ new at same. ap (bytes_between new at) (let z : at + 2 ≡ suc (suc at) = omega arith in z) ∙ same)
+            (λ inside after code f.
+            sign_token kinds.Plus (w ++ after) inside (behind_gap before (gap_of spaced)) refl code calm refl)
+            (λ inside after code f.
+            let g = follows_end [] w (sign "+") plus_ends after f in
+            counted_token after g.stop (unit_closed after g) inside befores.Other code refl));
+        told = λ mode free. positive (sort_of kind w) (numeric_sort kind w numeric);
+      }
+
 pub minus_stays : (text : List ℕ) → is_minus_counted text ≡ true
     → WrittenAs (AsValue false) text (tok terminals.Sign (Bytes 2 text) ∷ again.sign terminals.Number ∷ [])
 minus_stays [] e = absurd (cc)
@@ -383,3 +411,14 @@ minus_stays (b ∷ w) e =
   where
     is_minus : (c : ℕ) → (c == sign "-") ≡ true → sign "-" ≡ c
     is_minus c f = grind (arith, nat_tests)
+
+pub plus_stays : (text : List ℕ) → is_plus_counted text ≡ true
+    → WrittenAs (AsValue true) text (tok terminals.Sign (Bytes 2 text) ∷ again.sign terminals.Number ∷ [])
+plus_stays [] e = absurd (cc)
+plus_stays (b ∷ w) e =
+    subst
+    (λ (x : ℕ). WrittenAs (AsValue true) (x ∷ w) (tok terminals.Sign (Bytes 2 (x ∷ w)) ∷ again.sign terminals.Number ∷ []))
+    (is_plus b (and_left (b == sign "+") _ e)) (positive_stays w (and_right (b == sign "+") _ e))
+  where
+    is_plus : (c : ℕ) → (c == sign "+") ≡ true → sign "+" ≡ c
+    is_plus c f = grind (arith, nat_tests)

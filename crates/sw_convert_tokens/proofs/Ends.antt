@@ -24,6 +24,7 @@ use Rattle.sw_parse_table.specs.Sources.{bytes, lexeme_at}
 use Rattle.sw_parse_table.specs.Values.{comma_list}
 use Rattle.sw_convert_passing.specs.Standing.{SignStands}
 use Rattle.sw_convert_passing.proofs.SignsStand.{signs_stand}
+use Rattle.sw_convert_tokens.proofs.PlusSigns.{PlusStands, pluses_stand}
 use Rattle.sw_convert_again.specs.Bare.{is_bare, is_bare_by}
 use Rattle.sw_convert_again.specs.Tokens.{Tok, Old}
 use Rattle.sw_convert_again.specs.Spells.{Spells, SpellsPlain, SpellsLinks, SpellsItems, SpellsWord, SpellsRow, unlisted, unsigned, signed, no_links, more_links, no_items, more_items, named, begun, begun_minus, row_end, row_part, row_insert}
@@ -183,11 +184,19 @@ module _ (source : Source) where
       → OldSign source k → ⊥
   no_sign_behind are bare spelt sign =
       let end = value_ends spelt bare in
-      let plains = plains_of (bytes source) source.tokens.now.list in
-      let law = behind (SignStands plains) terminals.Semicolon source.lexemes.now end.at end.lexeme sign.lexeme
-      (subst (λ (l : List Lexeme). EachBehind (SignStands plains) terminals.Semicolon l) (sym are)
-      (signs_stand (bytes source) source.tokens.now.list))
-      end.there (ap (lexeme_at source) (sym end.is) ∙ sign.there) in
-      let dark = law.prefix sign.is in
+      let text = bytes source in
+      let tokens = source.tokens.now.list in
+      let plains = plains_of text tokens in
+      let there = ap (lexeme_at source) (sym end.is) ∙ sign.there in
+      let signs = behind (SignStands plains) terminals.Semicolon source.lexemes.now end.at end.lexeme sign.lexeme
+      (subst (λ (l : List Lexeme). EachBehind (SignStands plains) terminals.Semicolon l) (sym are) (signs_stand text tokens))
+      end.there there in
+      let pluses = behind (PlusStands plains) terminals.Semicolon source.lexemes.now end.at end.lexeme sign.lexeme
+      (subst (λ (l : List Lexeme). EachBehind (PlusStands plains) terminals.Semicolon l) (sym are) (pluses_stand text tokens))
+      end.there there in
       let ends = end.ends in
+      let dark : ends_operand end.lexeme.terminal ≡ false = elim sign.is [
+        | inl prefix ↦ signs.prefix prefix
+        | inr plus ↦ pluses.number plus.0 plus.1
+      ] in
       (let wrong : true ≡ false = sym ends ∙ dark in cc)

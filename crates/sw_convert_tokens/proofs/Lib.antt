@@ -1,4 +1,5 @@
 pub mod Joins
+pub mod PlusSigns
 pub mod Ends
 pub mod Signs
 pub mod Unclosed

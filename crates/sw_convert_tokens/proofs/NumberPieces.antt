@@ -1,5 +1,5 @@
 -- A number that was read: where its digits end, and the unit behind them.
-use Rattle.std.proofs.Common.{◌≡◌, ◌≤◌, ◌<◌, ℕ, zero, suc, ◌+◌, ◌-◌, Bool, true, false, not, ◌&&◌, ◌||◌, if◌then◌else◌, List, ◌++◌, length, take, drop, Option, None, inl, inr, refl, sym, ◌∙◌, ap, arith, append_assoc, take-append-drop, length-drop, length-append}
+use Rattle.std.proofs.Common.{◌≡◌, ◌≤◌, ◌<◌, ℕ, zero, suc, ◌+◌, ◌-◌, Bool, true, false, not, ◌&&◌, ◌||◌, if◌then◌else◌, List, ◌++◌, length, take, drop, Option, Some, None, inl, inr, refl, sym, ◌∙◌, ap, arith, append_assoc, take-append-drop, length-drop, length-append}
 use Prim.Native.String.{String}
 use Rattle.std.specs.Prelude.{◌==◌}
 use Rattle.sw_text_scan.specs.declared.runs.Class.TheVariants as classes
@@ -39,9 +39,19 @@ pub record NumberHere (bs : List ℕ) (n : ℕ) : Type 0 where
   pub begins : begins_number bs 0 ≡ true
   pub ends : unit_end bs (unit_start bs 0) ≡ n
 
-pub record SignHere (bs : List ℕ) (n : ℕ) : Type 0 where
+pub record SignHere (kind : TokenKind) (bs : List ℕ) (n : ℕ) : Type 0 where
   pub is : is_plus_or_minus (byte bs 0) ≡ true
+  pub kind_is : sign_of (byte bs 0) ≡ kind
   pub one : n ≡ 1
+
+-- the token of a piece
+abbrev token_kind : Option TokenKind → TokenKind
+token_kind None = kinds.Other
+token_kind (Some kind) = kind
+
+abbrev kind_in : Option Piece → TokenKind
+kind_in None = kinds.Other
+kind_in (Some p) = token_kind p.token
 
 pick_no : (f : TokenKind → Bool) (t : Bool) (x y : TokenKind) → f x ≡ false → f y ≡ false → f (if t then x else y) ≡ false
 pick_no f true x y e g = e
@@ -144,7 +154,7 @@ module _ (kind : TokenKind) (n : ℕ) (change : Change) (k : is_numeric kind ≡
 
 module _ (kind : TokenKind) (n : ℕ) (change : Change) (k : is_signed kind ≡ true) where
   abbrev Sign : List ℕ → Option Piece → Type 0
-  Sign bs o = o ≡ made kind n change → SignHere bs n
+  Sign bs o = o ≡ made kind n change → SignHere kind bs n
 
   bare_sign : (other : TokenKind) → is_bare other ≡ true → is_signed other ≡ false
   bare_sign kinds.Plus e = sym e
@@ -163,6 +173,7 @@ module _ (kind : TokenKind) (n : ℕ) (change : Change) (k : is_signed kind ≡ 
     name = name_has bs 0 (Sign bs) (λ other o m c e. not_so is_signed kind n change k other m c e (bare_sign other o))
         (λ e. record {
           is = signed_byte (byte bs 0) (sym (unlike is_signed (sign_of (byte bs 0)) _ changes.Keep e) ∙ k);
+          kind_is = ap kind_in e;
           one = sym (ap to_of e);
         });
     number = λ b e.
@@ -173,7 +184,7 @@ module _ (kind : TokenKind) (n : ℕ) (change : Change) (k : is_signed kind ≡ 
   }
 
   pub sign_in : (bs : List ℕ) (inside : Inside) (before : Before) → piece bs inside before 0 ≡ made kind n change
-      → SignHere bs n
+      → SignHere kind bs n
   sign_in bs inside before = piece_has bs 0 (Sign bs) (sign_cases bs) inside before
 
 -- ---- by itself

@@ -1,6 +1,6 @@
 -- Numbers of a sheet that was read: their bytes, with a sign before them or none.
 use Rattle.std.proofs.Common.{◌≡◌, ◌<◌, ℕ, zero, suc, ◌+◌, Bool, true, false, not, ◌&&◌, ◌||◌, if◌then◌else◌, List, [], ◌∷◌, ◌++◌, length, Option, Some, refl, sym, ◌∙◌, ap, subst, arith}
-use Rattle.std.specs.Prelude.{◌==◌, slice_get, unwrap_or}
+use Rattle.std.specs.Prelude.{◌==◌, slice_get, unwrap_or, codes}
 use Rattle.std.proofs.lemmas.Bool.Decides.{nat_tests}
 use Rattle.sw_text_scan.specs.Bytes.{sign, byte, is_digit}
 use Rattle.sw_text_scan.specs.Words.{is_plus_or_minus as pm_byte, begins_number, unit_start, unit_end}
@@ -8,6 +8,7 @@ use Rattle.sw_text_scan.proofs.Bounds.{if_true, if_false, and_left, and_right, n
 use Rattle.sw_tokens.specs.declared.token.TokenKind.{TokenKind}
 use Rattle.sw_tokens.specs.declared.token.TokenKind.TheVariants as kinds
 use Rattle.sw_tokens.specs.Ends.{opens}
+use Rattle.sw_tokens.specs.Pieces.{sign_of}
 use Rattle.sw_tree.specs.declared.expr.Number.{Number}
 use Rattle.sw_parse_grammar.specs.Grammar.{member}
 use Rattle.sw_parse_terminals.specs.declared.lexeme.Lexeme.{Lexeme}
@@ -122,7 +123,7 @@ each_at Law before (x ∷ xs) zero a (l, each) got =
     (before, subst (Law before) (ap (λ (o : Option Lexeme). unwrap_or o x) got) l)
 each_at Law before (x ∷ xs) (suc n) a (l, each) got = each_at Law x.terminal xs n a each got
 
-only_sign : (terminal : Terminal) → member (number_of terminal) (just terminals.Sign) ≡ true → terminal ≡ terminals.Sign
+pub only_sign : (terminal : Terminal) → member (number_of terminal) (just terminals.Sign) ≡ true → terminal ≡ terminals.Sign
 only_sign terminals.Sign m = refl
 only_sign _ m = absurd (cc)
 
@@ -226,6 +227,20 @@ module _ (source : Source) (was : WasRead source) where
         is = own.bytes_are ∙ e;
         sign_is = ap (λ (t : List ℕ). pm_byte (byte (t ++ own.after) 0)) (sym e) ∙ here.is;
       }
+
+  -- a `+` has its own sort
+  pub plus_sort : (k : ℕ) (old : Old source k (just terminals.Sign)) → bytes_at source k ≡ codes "+"
+      → sort_at (plains_of (bytes source) source.tokens.now.list) old.lexeme.token ≡ sorts.Plus
+  unfolding byte
+  plus_sort k old e =
+      let it = old_token source was k old.lexeme old.there in
+      let kind = kind_of_sign it.kind it.text
+      (ap (λ (t : Terminal). fits t (sort_of it.kind it.text)) (sym (only_sign old.lexeme.terminal old.kind)) ∙ it.fit) in
+      let own = it.own (signed_opens it.kind kind) in
+      let here = sign_in it.kind (length it.text) own.change kind (it.text ++ own.after) own.inside own.before own.is in
+      let plus : kinds.Plus ≡ it.kind =
+      ap (λ (t : List ℕ). sign_of (byte (t ++ own.after) 0)) (sym e ∙ own.bytes_are) ∙ here.kind_is in
+      it.sort ∙ ap (λ (x : TokenKind). sort_of x it.text) (sym plus)
 
   -- a sign and its number
   pub signed_bytes : (k : ℕ) → Old source k (just terminals.Sign) → Old source (suc k) (just terminals.Number)

@@ -17,7 +17,7 @@ use Rattle.sw_convert_again.specs.Tokens.{Bytes, tok, Old}
 use Rattle.sw_convert_again.specs.Tokens as again
 use Rattle.sw_convert_tokens.specs.Values.{WasRead}
 use Rattle.sw_convert_tokens.specs.Written.{AsValue, WrittenAs}
-use Rattle.sw_convert_tokens.proofs.Counted.{is_counted, is_minus_counted, number_stays, minus_stays}
+use Rattle.sw_convert_tokens.proofs.Counted.{is_counted, is_minus_counted, is_plus_counted, number_stays, minus_stays, plus_stays}
 use Rattle.sw_convert_tokens.proofs.CountedBytes.{quiet_front, begins_alone}
 use Rattle.sw_convert_tokens.proofs.NumberEnds.{unit_ends}
 use Rattle.sw_convert_tokens.proofs.NumberPieces.{number_in, OldUnit, old_unit}
@@ -92,4 +92,14 @@ module _ (source : Source) (was : WasRead source) where
       minus_stays (bytes_between source i (suc (suc i)))
       (subst (λ (t : List ℕ). is_minus_counted t ≡ true)
       (sym (signed_bytes source was i one two ∙ ap (λ (t : List ℕ). t ++ bytes_at source (suc i)) dash))
+      (old_counted (suc i) two))
+
+  pub plus_kept : (i : ℕ) → Old source i (just terminals.Sign) → Old source (suc i) (just terminals.Number)
+      → bytes_at source i ≡ codes "+"
+      → WrittenAs (AsValue true) (bytes_between source i (suc (suc i)))
+      (tok terminals.Sign (Bytes 2 (bytes_between source i (suc (suc i)))) ∷ again.sign terminals.Number ∷ [])
+  plus_kept i one two plus =
+      plus_stays (bytes_between source i (suc (suc i)))
+      (subst (λ (t : List ℕ). is_plus_counted t ≡ true)
+      (sym (signed_bytes source was i one two ∙ ap (λ (t : List ℕ). t ++ bytes_at source (suc i)) plus))
       (old_counted (suc i) two))

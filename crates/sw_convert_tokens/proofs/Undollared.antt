@@ -62,6 +62,7 @@ value_dark : {mode : Mode} {spaced signed : Bool} {ws : List Written} → Value 
     → begins_dark ws ≡ true
 value_dark (passing.number sort e) = dark is_number refl refl refl refl sort e
 value_dark (passing.negative sort e) = refl
+value_dark (passing.positive sort e) = refl
 value_dark (passing.quoted sort e) = dark is_quoted refl refl refl refl sort e
 value_dark (passing.template inner) = refl
 value_dark (passing.hash sort e) = refl
@@ -142,6 +143,7 @@ longer left tail first none it rest more e s =
 value_told : {mode : Mode} {spaced signed : Bool} {ws : List Written} → Value mode spaced signed ws → IsTold ws
 value_told {ws = ws} (passing.number sort e) = told_same ws refl
 value_told {ws = ws} (passing.negative sort e) = told_same ws refl
+value_told {ws = ws} (passing.positive sort e) = told_same ws refl
 value_told {ws = ws} (passing.quoted sort e) = told_same ws refl
 value_told {ws = ws} (passing.template inner) = told_same ws refl
 value_told {ws = ws} (passing.hash sort e) = told_same ws refl

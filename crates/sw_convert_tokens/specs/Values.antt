@@ -1,12 +1,15 @@
 -- A sheet that was read, and what is written of a value that stood in it.
-use Rattle.std.specs.Prelude.{◌≡◌, ℕ, Bool, true, List, Some, Ok}
+use Rattle.std.specs.Prelude.{◌≡◌, ◌⊎◌, ℕ, Bool, true, List, Some, Ok}
 use Rattle.sw_parse_terminals.specs.declared.lexeme.Lexeme.{Lexeme}
 use Rattle.sw_parse_table.specs.declared.source.Source.{Source}
 use Rattle.sw_tokens.specs.Ends.{tokens_of}
+use Rattle.sw_parse_lexemes.specs.declared.sort.Sort.TheVariants as sorts
+use Rattle.sw_parse_lexemes.specs.Ahead.{sort_at}
+use Rattle.sw_parse_lexemes.specs.Plains.{plains_of}
 use Rattle.sw_parse_lexemes.specs.Lexemes.{lexemes_of}
 use Rattle.sw_parse_table.specs.Sources.{bytes, lexeme_at}
 use Rattle.sw_convert_spelling.specs.Strings.{are_bytes}
-use Rattle.sw_convert_passing.specs.Standing.{is_prefix_sign}
+use Rattle.sw_convert_passing.specs.Standing.{is_prefix_sign, is_number_sign}
 use Rattle.sw_convert_again.specs.Tokens.{Tok}
 use Rattle.sw_convert_tokens.specs.Written.{AsValue, WrittenAs}
 
@@ -16,11 +19,13 @@ pub record WasRead (source : Source) : Type 0 where
   pub tokens : tokens_of (bytes source) ≡ Ok source.tokens.now.list
   pub lexemes : source.lexemes.now ≡ lexemes_of (bytes source) source.tokens.now.list
 
--- a sign before a value stood there
+-- a sign before a value stood there, or the `+` of a number
 pub record OldSign (source : Source) (at : ℕ) : Type 0 where
   pub lexeme : Lexeme
   pub there : lexeme_at source at ≡ Some lexeme
-  pub is : is_prefix_sign lexeme.terminal ≡ true
+  pub is : (is_prefix_sign lexeme.terminal ≡ true)
+      ⊎ ((is_number_sign lexeme.terminal ≡ true)
+      × (sort_at (plains_of (bytes source) source.tokens.now.list) lexeme.token ≡ sorts.Plus))
 
 -- a text is the tokens of a value, and where these begin with a sign, one stood there
 pub record IsValueWritten (source : Source) (at : ℕ) (text : List ℕ) (tokens : List Tok) : Type 0 where

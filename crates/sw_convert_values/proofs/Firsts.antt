@@ -61,6 +61,7 @@ word_begins (passing.begun_minus inner parts) = (refl, refl)
 value_begins : {mode : Mode} {spaced signed : Bool} {ws : List Written} → Value mode spaced signed ws → Begins spaced ws
 value_begins (passing.number sort e) = (refl, chosen is_number refl refl sort e)
 value_begins (passing.negative sort e) = (refl, refl)
+value_begins (passing.positive sort e) = (refl, refl)
 value_begins (passing.quoted sort e) = (refl, chosen is_quoted refl refl sort e)
 value_begins (passing.template inner) = (refl, refl)
 value_begins (passing.hash sort e) = (refl, refl)

@@ -36,14 +36,14 @@ use Rattle.sw_convert_written.specs.Pieces.{Written, piece_text, pieces_text}
 use Rattle.sw_convert_written.specs.Signs.{operator_text, sign_text}
 use Rattle.sw_convert_written.specs.Expressions.{ShownLink, expr_text, expr_shown, link_shown, links_text, is_quotient, is_divide, is_number, items_behind, signs_text, pair_text, with_commas, quoted_text, of_argument, argument_text, piece_written}
 use Rattle.sw_convert_written.proofs.Unrolled as unrolled
-use Rattle.sw_convert_passing.specs.Standing.{is_prefix_sign}
+use Rattle.sw_convert_passing.specs.Standing.{is_prefix_sign, is_number_sign}
 use Rattle.sw_convert_again.specs.Tokens.{Tok, tok, Old}
 use Rattle.sw_convert_again.specs.Tokens as again
 use Rattle.sw_convert_again.specs.Spells.{from_start, is_named, without_named, undollared, call_tokens, Spells, SpellsWord, SpellsPlain, SpellsLinks, SpellsItems, SpellsCommas, SpellsPairs, SpellsSigns, SpellsArgument, SpellsMore, SpellsArguments, SpellsPieces, SpellsRow, unlisted, no_links, more_links, no_items, more_items, no_commas, more_commas, no_pairs, more_pairs, no_signs, more_signs, within, paren}
 use Rattle.sw_convert_again.specs.Spells as spells
 use Rattle.sw_convert_tokens.specs.Written.{AsValue, AsRow, WrittenAs}
 use Rattle.sw_convert_tokens.specs.Values.{WasRead, IsValueWritten}
-use Rattle.sw_convert_values.specs.Values.{is_led, is_called, is_url_called, has_arguments, is_text, are_some, begins_plus, SinglesAreWritten, ValuesAreWritten, PlainsAreWritten}
+use Rattle.sw_convert_values.specs.Values.{is_led, is_called, is_url_called, has_arguments, is_text, are_some, SinglesAreWritten, ValuesAreWritten, PlainsAreWritten}
 use Rattle.sw_convert_tokens.proofs.Ends.{bare_list, no_sign_behind}
 use Rattle.sw_convert_tokens.proofs.Signs.{Fits}
 use Rattle.sw_convert_tokens.proofs.Unclosed.{slash_ends, unclosed_behind}
@@ -51,7 +51,7 @@ use Rattle.sw_convert_tokens.proofs.Spaces.{unclosed_spaced}
 use Rattle.sw_convert_tokens.proofs.Between.{operators_are, binary_by, beside_written, linked_written, divided_written, unclosed_linked, prefix_by, prefix_written}
 use Rattle.sw_convert_values.proofs.Quotients.{number_begun}
 use Rattle.sw_convert_spelling.proofs.Choices.{by_test, neither}
-use Rattle.sw_convert_tokens.proofs.Staying.{number_kept, sign_bytes, minus_kept}
+use Rattle.sw_convert_tokens.proofs.Staying.{number_kept, sign_bytes, minus_kept, plus_kept}
 use Rattle.sw_convert_texts.proofs.OldHashes.{hash_written}
 use Rattle.sw_convert_tokens.proofs.Undollared.{placed_argument, spaced_argument}
 use Rattle.sw_convert_tokens.proofs.Arguments.{IsItems, AreArguments, ArgumentsBehind, value_argument, name_argument, first_argument, further_argument, colon_argument, dots_behind, no_arguments_written, arguments_written, guarded_written}
@@ -59,7 +59,7 @@ use Rattle.sw_convert_tokens.proofs.Templates.{IsText, nothing_more, text_more, 
 use Rattle.sw_convert_texts.specs.Inserted.{RowHasValues, WordHasValues}
 use Rattle.sw_convert_texts.specs.Urls.{is_unbroken}
 use Rattle.sw_convert_texts.proofs.Urls.{urls_written}
-use Rattle.sw_convert_tokens.proofs.OldNumbers.{numbers_written}
+use Rattle.sw_convert_tokens.proofs.OldNumbers.{only_sign, plus_sort, numbers_written}
 use Rattle.sw_convert_tokens.proofs.Variables.{variable_written, qualified_written}
 use Rattle.sw_convert_tokens.proofs.Rows.{row_of, comma_written, comma_ended, colon_written, parens_none, parens_written, brackets_none, brackets_written}
 use Rattle.sw_convert_tokens.proofs.Leaves.{constant_by, constant_written, parent_written, important_written, quoted_written}
@@ -110,7 +110,15 @@ module _ (source : Source) (was : WasRead source) (known : SinglesAreWritten sou
         by_sign : (bytes_at source i ≡ codes "+") ⊎ (bytes_at source i ≡ codes "-")
             → IsWritten i (expr_text (expression (exprs.Special (PlainParts (bytes_between source i (suc (suc i))))) span))
             (tok terminals.Sign (again.Bytes 2 (bytes_between source i (suc (suc i)))) ∷ again.sign terminals.Number ∷ [])
-        by_sign (inl e) = single source was known led (spells.stays_signed span one two) (ap begins_plus e)
+        by_sign (inl e) = record {
+          signed = true;
+          written = same (sym (stays_as (bytes_between source i (suc (suc i))) span)) refl (plus_kept source was i one two e);
+          sign = λ s. record {
+            lexeme = one.lexeme;
+            there = one.there;
+            is = inr (ap is_number_sign (only_sign one.lexeme.terminal one.kind), plus_sort source was i one e);
+          };
+        }
         by_sign (inr e) =
             unsigned (same (sym (stays_as (bytes_between source i (suc (suc i))) span)) refl (minus_kept source was i one two e))
     either led (spells.variable {i} span one two) =
@@ -214,7 +222,7 @@ module _ (source : Source) (was : WasRead source) (known : SinglesAreWritten sou
               (sym (append_assoc (sign_text (sign_of terminal)) (signs_text signs) text)
               ∙ ap (λ (s : Sign). (sign_text s ++ signs_text signs) ++ text) (sym (ap sign_in old.there))) refl
               (prefix_written inner.written (prefix_by terminal old.kind));
-          sign = λ e. record { lexeme = old.lexeme; there = old.there; is = e };
+          sign = λ e. record { lexeme = old.lexeme; there = old.there; is = inl e };
         }
 
     -- operators, and what stands behind each

@@ -1,6 +1,5 @@
 -- What is written of each value that was read is its tokens, where that of some kinds in it is.
-use Rattle.std.specs.Prelude.{◌≡◌, ◌==◌, ℕ, zero, suc, Bool, true, false, if◌then◌else◌, not, ◌&&◌, ◌||◌, List, [], ◌∷◌, Option, Some, None}
-use Rattle.sw_text_scan.specs.Bytes.{sign}
+use Rattle.std.specs.Prelude.{◌≡◌, ℕ, zero, suc, Bool, true, false, if◌then◌else◌, not, ◌&&◌, ◌||◌, List, [], ◌∷◌, Option, Some, None}
 use Rattle.sw_tree.specs.declared.expr.Argument.{Argument}
 use Rattle.sw_tree.specs.declared.expr.Expr.{Expr}
 use Rattle.sw_tree.specs.declared.text.Parts.{Parts}
@@ -104,11 +103,7 @@ are_some spells.no_pieces = true
 are_some {source = source} (spells.text_piece {i} old more) = is_text (decoded_at source i) && are_some more
 are_some (spells.inserted_piece opens inner closes more) = are_some more
 
-abbrev pub begins_plus : List ℕ → Bool
-begins_plus [] = false
-begins_plus (b ∷ text) = b == sign "+"
-
--- words told by `is_single_word`, numbers that stay with a `+`, urls with `#{}`, or with a `}`, special functions, strings with
+-- words told by `is_single_word`, urls with `#{}`, or with a `}`, special functions, strings with
 -- `#{}` in which a text is empty, and calls by other names
 abbrev pub is_single : {source : Source} {i j : ℕ} {value : Expr} {tokens : List Tok} → Spells source i j value tokens
     → Bool
@@ -116,7 +111,6 @@ is_single (spells.template span opens inner close) = not (are_some inner)
 is_single {source = source} (spells.url {i} span old) = not (is_unbroken (bytes_at source i))
 is_single (spells.url_template span opens inner close) = true
 is_single (spells.special span name opens inner close) = true
-is_single {source = source} (spells.stays_signed {i} span one two) = begins_plus (bytes_at source i)
 is_single {source = source} (spells.word span word) = is_single_word source word
 is_single {source = source} (spells.call {args = arguments} span name_span name opens inner close) =
     not (is_call source false arguments name)
