@@ -43,7 +43,7 @@ use Rattle.sw_convert_heads_passing.specs.Heads.{is_keyword, TextHead, named_hea
 use Rattle.sw_convert_heads_passing.specs.Properties.{colon, is_dashed, PropertyHead, named_property, begun_property, minus_property, CustomHead, custom_head}
 use Rattle.sw_convert_heads_passing.specs.Statements.{begins_else}
 use Rattle.sw_convert_texts.specs.Inserted.{RowHasValues, WordHasValues, NameHasValues}
-use Rattle.sw_convert_texts.specs.Names.{joined, is_mixed, word_plain, name_plain, AsName, as_name, AsAtName, as_at}
+use Rattle.sw_convert_texts.specs.Names.{joined, is_mixed, AsName, as_name, AsAtName, as_at}
 use Rattle.sw_convert_texts.specs.RawTexts.{SheetSegment}
 use Rattle.sw_convert_texts.proofs.WordsWithValues.{words_written, custom_names_written, at_names_written}
 use Rattle.sw_convert_statements.specs.Fronts.{ValuesAreKnown}
@@ -163,10 +163,10 @@ module _ (source : Source) (was : WasRead source) where
 
   module _ (values : ValuesAreKnown source) where
     mixed_written : {i j : ℕ} {parts : Parts} {tokens : List Tok} → (word : SpellsWord source i j parts tokens)
-        → is_mixed word ≡ true → word_plain source word ≡ true → begins_white (joined parts) ≡ false
+        → is_mixed word ≡ true → begins_white (joined parts) ≡ false
         → begins_dashed (joined parts) ≡ false → NamedAs AsProperty (joined parts) tokens
-    mixed_written {i} {j} {parts} {tokens} word mixed plain black none before calm =
-        let it = words_written source i j parts tokens was word mixed plain (word_values values word) before false calm in
+    mixed_written {i} {j} {parts} {tokens} word mixed black none before calm =
+        let it = words_written source i j parts tokens was word mixed (word_values values word) before false calm in
         let is = word_head (it.told modes.Expression false false) (sheet it.segment) black none in record {
           passed = it.passed;
           head = is.head;
@@ -184,13 +184,13 @@ module _ (source : Source) (was : WasRead source) where
             → begins_white (joined ps) ≡ false → begins_dashed (joined ps) ≡ false → NamedAs AsProperty (joined ps) ks
         go (spells.named old spells.row_end) free black none = name_written old (not_true _ free) black none
         go (spells.named old (spells.row_part part row)) plain black none =
-            mixed_written (spells.named old (spells.row_part part row)) refl plain black none
+            mixed_written (spells.named old (spells.row_part part row)) refl black none
         go (spells.named old (spells.row_insert opens inner close row)) plain black none =
-            mixed_written (spells.named old (spells.row_insert opens inner close row)) refl plain black none
+            mixed_written (spells.named old (spells.row_insert opens inner close row)) refl black none
         go (spells.begun opens inner close row) plain black none =
-            mixed_written (spells.begun opens inner close row) refl plain black none
+            mixed_written (spells.begun opens inner close row) refl black none
         go (spells.begun_minus minus opens inner close row) plain black none =
-            mixed_written (spells.begun_minus minus opens inner close row) refl plain black none
+            mixed_written (spells.begun_minus minus opens inner close row) refl black none
 
 -- ---- custom properties
 
@@ -255,9 +255,8 @@ module _ (source : Source) (was : WasRead source) (values : ValuesAreKnown sourc
       → (name : SpellsName source terminals.Custom i j parts tokens) → is_custom source name ≡ true
       → NamedAs AsCustom (joined parts) tokens
   customs_written {i} {j} {parts} {tokens} name t before calm =
-      let it = custom_names_written source i j parts tokens was name (and_left (name_plain source name) _ t)
-      (name_values values name) before false calm in
-      let is = custom_is it.told (sheet it.segment) (and_right (name_plain source name) _ t) in record {
+      let it = custom_names_written source i j parts tokens was name (name_values values name) before false calm in
+      let is = custom_is it.told (sheet it.segment) t in record {
         passed = it.passed;
         head = is.head;
         first = is.first;
@@ -273,9 +272,8 @@ module _ (source : Source) (was : WasRead source) (values : ValuesAreKnown sourc
   pub at_rules_written : {i j : ℕ} {parts : Parts} {tokens : List Tok} → (name : SpellsAtName source i j parts tokens)
       → is_at_rule source name ≡ true → NamedAs TextHead (joined parts) tokens
   at_rules_written {j = j} {parts} {tokens} (at_word {i} name) t before calm =
-      let it = at_names_written source i j parts tokens was name (and_left (name_plain source name) _ t)
-      (name_values values name) before false calm in
-      let (head, first) = at_named it.told (and_right (name_plain source name) _ t) in record {
+      let it = at_names_written source i j parts tokens was name (name_values values name) before false calm in
+      let (head, first) = at_named it.told t in record {
         passed = it.passed;
         head = head;
         first = first;

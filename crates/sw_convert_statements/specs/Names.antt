@@ -29,7 +29,7 @@ use Rattle.sw_convert_tokens.specs.Values.{WasRead}
 use Rattle.sw_convert_tokens.specs.Written.{Follows, is_calm, begins_white}
 use Rattle.sw_convert_heads_passing.specs.Heads.{is_keyword}
 use Rattle.sw_convert_heads_passing.specs.Statements.{begins_else}
-use Rattle.sw_convert_texts.specs.Names.{joined, word_plain, name_plain, name_inserts}
+use Rattle.sw_convert_texts.specs.Names.{joined, name_inserts}
 use Rattle.sw_convert_texts.specs.RawKinds.{raw_known, is_uncut}
 use Rattle.sw_convert_texts.specs.RawTexts.{SheetSegment}
 use Rattle.sw_convert_texts.specs.RuleTexts.{begins_rule}
@@ -70,11 +70,11 @@ SelectorsAreKnown source =
 
 -- ---- names of which it is proved, told by their bytes
 
--- a name that is no constant and no operator by itself, or a word with more in it, whose numbers are plain
+-- a name that is no constant and no operator by itself, or a word with more in it
 abbrev pub is_free_word : (source : Source) {i j : ℕ} {parts : Parts} {tokens : List Tok}
     → SpellsWord source i j parts tokens → Bool
 is_free_word source (spells_values.named {i} old spells_values.row_end) = not (is_reserved (word_sort (bytes_at source i)))
-is_free_word source word = word_plain source word
+is_free_word source word = true
 
 -- and that begins neither with white space nor with `--`
 abbrev pub is_property : (source : Source) {i j : ℕ} {parts : Parts} {tokens : List Tok}
@@ -84,7 +84,7 @@ is_property source {parts = parts} word =
 
 abbrev pub is_custom : (source : Source) {i j : ℕ} {parts : Parts} {tokens : List Tok}
     → SpellsName source terminals.Custom i j parts tokens → Bool
-is_custom source {parts = parts} name = name_plain source name && begins_dashed (joined parts)
+is_custom source {parts = parts} name = begins_dashed (joined parts)
 
 -- `@` and a name that is no keyword, or that begins with a keyword directly before a `#{}`
 abbrev pub names_rule : Sort → Bool → Bool
@@ -93,8 +93,7 @@ names_rule sort inserts = is_keyword sort && (not (is_else sort) && inserts)
 
 abbrev pub is_at_rule : (source : Source) {i j : ℕ} {parts : Parts} {tokens : List Tok}
     → SpellsAtName source i j parts tokens → Bool
-is_at_rule source (at_word {i} name) =
-    name_plain source name && names_rule (at_sort (bytes_at source i)) (name_inserts name)
+is_at_rule source (at_word {i} name) = names_rule (at_sort (bytes_at source i)) (name_inserts name)
 is_at_rule source _ = false
 
 -- declarations with a value, a block or both, custom properties and at-rules of CSS with such names, and such rules

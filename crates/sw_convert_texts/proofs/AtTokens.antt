@@ -255,7 +255,9 @@ module _ (source : Source) (k : ℕ) (lexeme : Lexeme) (there : lexeme_at source
           whole = it.whole ∙ sym (append_assoc it.front text it.after);
           ends = end_there;
           long = false;
+          power = false;
           bare = λ e. absurd (cc);
+          sharp = λ e. absurd (cc);
           more = λ next rest same some next_is. absurd (no_next it.after bars digit next rest same some next_is);
           named = true;
           alone = λ e next rest same some next_is. no_next it.after bars digit next rest same some next_is;

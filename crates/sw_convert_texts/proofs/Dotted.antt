@@ -16,7 +16,7 @@ use Rattle.sw_convert_tokens.specs.Values.{WasRead}
 use Rattle.sw_convert_tokens.proofs.Calls.{Dotted, name_dotted}
 use Rattle.sw_convert_tokens.proofs.Signs.{Fits}
 use Rattle.sw_convert_texts.specs.Inserted.{WordHasValues}
-use Rattle.sw_convert_texts.specs.Names.{joined, word_plain, Opens}
+use Rattle.sw_convert_texts.specs.Names.{joined, Opens}
 use Rattle.sw_convert_texts.proofs.TerminalChoices.{comes}
 use Rattle.sw_convert_texts.proofs.LexemePairs.{plains_in, comes_at}
 use Rattle.sw_convert_texts.proofs.OldRows.{row_text, started_is}
@@ -27,9 +27,9 @@ use Rattle.sw_convert_texts.proofs.WordsWithValues.{first_there, begun_text, min
 
 module _ (source : Source) (was : WasRead source) where
   pub mixed_dotted : {i j : ℕ} {parts : Parts} {tokens : List Tok} (spelt : SpellsWord source i j parts tokens)
-      → word_plain source spelt ≡ true → WordHasValues spelt → Dotted (joined parts)
+      → WordHasValues spelt → Dotted (joined parts)
   unfolding byte
-  mixed_dotted (spells.named {i} old row) u has after =
+  mixed_dotted (spells.named {i} old row) has after =
       let it = comes_at source was i old.lexeme old.there in
       let n : is_name (sort_at (plains_in source) old.lexeme.token) ≡ true =
       ap
@@ -40,10 +40,10 @@ module _ (source : Source) (was : WasRead source) where
       subst (λ (t : List ℕ). Fits kinds.Dot (t ++ after)) (sym (started_is source was row first.lexeme first.there first.low))
       (subst (λ (t : List ℕ). Fits kinds.Dot t) (sym (append_assoc (bytes_at source i) (row_text source row) after))
       (name_dotted source i was old (row_text source row ++ after)))
-  mixed_dotted (spells.begun {i = i} {value = value} opens inner close row) u (written_so, has) after =
+  mixed_dotted (spells.begun {i = i} {value = value} opens inner close row) (written_so, has) after =
       subst (λ (t : List ℕ). Fits kinds.Dot (t ++ after))
-      (sym (begun_text Opens opens_ending source was i value close row u written_so has)) refl
-  mixed_dotted (spells.begun_minus {i = i} {value = value} minus opens inner close row) u (written_so, has) after =
+      (sym (begun_text Opens opens_ending source was i value close row written_so has)) refl
+  mixed_dotted (spells.begun_minus {i = i} {value = value} minus opens inner close row) (written_so, has) after =
       let it = minus_there source was i minus opens in
       subst (λ (t : List ℕ). Fits kinds.Dot (t ++ after))
-      (sym (minus_text Opens opens_ending source was i value close row u written_so has it.dash it.sticks)) refl
+      (sym (minus_text Opens opens_ending source was i value close row written_so has it.dash it.sticks)) refl

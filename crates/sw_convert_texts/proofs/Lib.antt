@@ -12,6 +12,7 @@ mod JoinedTexts
 mod OldPieces
 mod DigitTokens
 mod UnitTokens
+mod UnitRuns
 mod Stretches
 mod HashPieces
 mod HexPieces

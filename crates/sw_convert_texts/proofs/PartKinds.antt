@@ -4,7 +4,8 @@ use Rattle.std.specs.Prelude.{◌==◌}
 use Rattle.sw_text_scan.specs.declared.runs.Class.TheVariants as classes
 use Rattle.sw_text_scan.specs.Bytes.{sign, byte, is_digit, is_letter}
 use Rattle.sw_text_scan.specs.Runs.{run_end, begins_name}
-use Rattle.sw_text_scan.specs.Words.{unit_start, unit_end}
+use Rattle.sw_text_scan.specs.Words.{unit_start, unit_end, begins_number}
+use Rattle.sw_text_scan.proofs.Bounds.{and_left, and_right, not_true}
 use Rattle.sw_text_locality.proofs.Lexical.{split, equal}
 use Rattle.sw_tokens.specs.declared.pieces.Before.{Before}
 use Rattle.sw_tokens.specs.declared.pieces.Change.{Change}
@@ -27,7 +28,6 @@ use Rattle.sw_convert_tokens.proofs.Words.{kind_of_name, name_yes}
 use Rattle.sw_convert_texts.specs.RawKinds.{is_at}
 use Rattle.sw_convert_texts.proofs.TokenPairs.{at_yes}
 use Rattle.sw_convert_texts.proofs.Pieces.{is_frame, Cases, piece_has}
-use Rattle.sw_convert_texts.specs.Names.{begins_digits}
 
 -- ---- kinds
 
@@ -96,6 +96,13 @@ part_comment sorts.CommentTemplate n = absurd (cc)
 part_comment _ n = refl
 
 -- ---- digits and `-`
+
+digits_by : {t : Bool} → is_sign (if t then kinds.Digits else kinds.Number) ≡ true → t ≡ true
+digits_by {t} = go t
+  where
+    go : (u : Bool) → is_sign (if u then kinds.Digits else kinds.Number) ≡ true → u ≡ true
+    go true e = refl
+    go false e = absurd (cc)
 
 number_no : (t : Bool) → is_minus (if t then kinds.Digits else kinds.Number) ≡ false
 number_no true = refl
@@ -185,8 +192,11 @@ module _ (kind : TokenKind) (n : ℕ) (change : Change) (k : is_sign kind ≡ tr
 
   -- it is a number
   pub record IsDigits (xs : List ℕ) : Type 0 where
-    pub begins : begins_digits xs ≡ true
+    pub begins : begins_number xs 0 ≡ true
     pub other : is_minus kind ≡ false
+    -- its unit begins where its digits end
+    pub whole : run_end classes.Digit xs 0 ≡ unit_start xs 0
+    pub percent : (byte xs (unit_start xs 0) == sign "%") ≡ false
     pub ends : unit_end xs (unit_start xs 0) ≡ n
 
   -- a `-`, or it begins with a digit or a `.`
@@ -203,19 +213,23 @@ module _ (kind : TokenKind) (n : ℕ) (change : Change) (k : is_sign kind ≡ tr
     text = λ i j m e. not_so (kinds.Text _) m changes.Keep e refl;
     name = λ e. inr (dash_in xs e);
     number = λ b e. inl (record {
-      begins = or_first (is_digit (byte xs 0)) (byte xs 0 == sign ".") (is_digit (byte xs (0 + 1))) b;
+      begins = b;
       other = unlike is_minus (number_kind xs (run_end classes.Digit xs 0) (unit_start xs 0)) (unit_end xs (unit_start xs 0)) changes.Keep e
           ∙ number_no _;
+      whole = equal (run_end classes.Digit xs 0) (unit_start xs 0)
+          (and_left (run_end classes.Digit xs 0 == unit_start xs 0) _ (digits_by (told e)));
+      percent = not_true (byte xs (unit_start xs 0) == sign "%")
+          (and_right (run_end classes.Digit xs 0 == unit_start xs 0) _ (digits_by (told e)));
       ends = ends_here (number_kind xs (run_end classes.Digit xs 0) (unit_start xs 0)) (unit_end xs (unit_start xs 0)) changes.Keep e;
     });
     range = λ b e. not_so kinds.UnicodeRange _ changes.Keep e refl;
     url = λ top b c e. not_so kinds.Url _ changes.Keep e refl;
   }
     where
-      or_first : (a b c : Bool) → (a || (b && c)) ≡ true → (a || b) ≡ true
-      or_first true b c e = refl
-      or_first false true c e = refl
-      or_first false false c e = e
+      told : made (number_kind xs (run_end classes.Digit xs 0) (unit_start xs 0)) (unit_end xs (unit_start xs 0)) changes.Keep ≡ result
+          → is_sign (number_kind xs (run_end classes.Digit xs 0) (unit_start xs 0)) ≡ true
+      told e =
+          sym (unlike is_sign (number_kind xs (run_end classes.Digit xs 0) (unit_start xs 0)) (unit_end xs (unit_start xs 0)) changes.Keep e) ∙ k
 
   pub sign_told : (xs : List ℕ) (inside : Inside) (before : Before) → piece xs inside before 0 ≡ result → Told xs
   sign_told xs inside before = piece_has xs 0 (λ o. o ≡ result → Told xs) (cases xs) inside before

@@ -6,6 +6,7 @@ use Rattle.std.proofs.lemmas.Bool.Decides.{nat_tests}
 use Rattle.sw_text_scan.specs.declared.runs.Class.TheVariants as classes
 use Rattle.sw_text_scan.specs.Bytes.{sign, byte, is_white, is_digit, is_letter, is_name_byte, starts_plainly}
 use Rattle.sw_text_scan.specs.Runs.{next, run_end, escape_end, starts_at, begins_name}
+use Rattle.sw_text_scan.specs.Words.{is_plus_or_minus}
 use Rattle.sw_text_scan.proofs.Bounds.{if_false, and_left, and_right, or_left, or_right}
 use Rattle.sw_text_scan.proofs.Progress.{run_stops}
 use Rattle.sw_text_locality.proofs.Written.{no_name, byte_before}
@@ -107,13 +108,18 @@ NextIs next after =
     (((is_letter (byte (next ++ after) 0) || begins_name (next ++ after) 0) ≡ true) × ((byte next 0 == sign ".") ≡ false))
     ⊎ ((byte next 0 ≡ sign "-") ⊎ (is_digit (byte next 0) ≡ true))
 
--- a token is the same before a part that stood directly behind it, and has no escape; one with a unit where no unit goes
--- on behind a `-`
-pub record Goes (long : Bool) (kind : TokenKind) (text next : List ℕ) : Type 0 where
-  pub stays : (rest : List ℕ) → (long && ((byte next 0 == sign "-") && ((length next == 1) && starts_plainly (byte rest 0)))) ≡ false
+-- behind a unit and a `-` no unit goes on, and behind an `e` and a `-` no digits
+abbrev pub rejoins : Bool → Bool → List ℕ → List ℕ → Bool
+rejoins long power next rest =
+    long && ((byte next 0 == sign "-") && ((length next == 1) && (starts_plainly (byte rest 0) || (power && is_digit (byte rest 0)))))
+
+-- a token is the same before a part that stood directly behind it, one with a unit where it isn't joined with that; it has
+-- no escape, or that part begins with a `-`
+pub record Goes (long power : Bool) (kind : TokenKind) (text next : List ℕ) : Type 0 where
+  pub stays : (rest : List ℕ) → rejoins long power next rest ≡ false
       → (inside : Inside) → is_sheet_code inside ≡ true → (before : Before) → is_calm before ≡ true
       → piece (text ++ (next ++ rest)) inside before 0 ≡ made kind (length text) changes.Keep
-  pub slashless : list_all no_slash text ≡ true
+  pub apart : (list_all no_slash text ≡ true) ⊎ ((0 < length next) × (byte next 0 ≡ sign "-"))
   -- that part begins with a digit or a `-`
   pub unbegun : (rest : List ℕ) → starts_plainly (byte (next ++ rest) 0) ≡ false
 
@@ -132,9 +138,12 @@ pub record PartToken (source : Source) (k : ℕ) (text : List ℕ) : Type 0 wher
   pub after : List ℕ
   pub whole : bytes source ≡ front ++ after
   pub ends : to_at source k ≡ length front
+  -- it has a unit, and this is an `e` alone
   pub long : Bool
+  pub power : Bool
   pub bare : long ≡ true → next classes.Unit after 0 ≤ 0
-  pub more : (next rest : List ℕ) → next ++ rest ≡ after → 0 < length next → NextIs next rest → Goes long kind text next
+  pub sharp : power ≡ true → (is_plus_or_minus (byte after 0) && is_digit (byte after 1)) ≡ false
+  pub more : (next rest : List ℕ) → next ++ rest ≡ after → 0 < length next → NextIs next rest → Goes long power kind text next
   pub named : Bool
   pub alone : named ≡ true → (next rest : List ℕ) → next ++ rest ≡ after → 0 < length next → NextIs next rest → ⊥
 
@@ -154,7 +163,7 @@ no_next after bars digit next rest same some (inr (inr digits)) =
     ap (λ (t : List ℕ). is_digit (byte t 0)) (sym same) ∙ ap is_digit (byte_before next rest 0 some) ∙ digits in
     (let no : true ≡ false = sym here ∙ digit in cc)
 
-pub no_goes : {long : Bool} {kind : TokenKind} {text next : List ℕ} → ⊥ → Goes long kind text next
+pub no_goes : {long power : Bool} {kind : TokenKind} {text next : List ℕ} → ⊥ → Goes long power kind text next
 no_goes e = absurd e
 
 -- digits behind a `-`
@@ -177,7 +186,7 @@ dash_fits after d =
     digit_dash c e = grind (arith, nat_tests)
 
 pub dash_goes : (after : List ℕ) → Bars after → (next rest : List ℕ) → next ++ rest ≡ after → 0 < length next → NextIs next rest
-    → Goes false kinds.Minus (codes "-") next
+    → Goes false false kinds.Minus (codes "-") next
 dash_goes after bars next rest same some (inl (name, dot)) =
     let none = ap (λ (t : List ℕ). is_letter (byte t 0) || begins_name t 0) same ∙ bars_name after bars in
     no_goes (let no : true ≡ false = sym name ∙ none in cc)
@@ -190,7 +199,7 @@ dash_goes after bars next rest same some (inr (inr digits)) = record {
   stays = λ others clear inside code before calm.
       sign_token kinds.Minus (next ++ others) inside before refl code calm
       (dash_fits (next ++ others) (ap is_digit (byte_before next others 0 some) ∙ digits));
-  slashless = refl;
+  apart = inl refl;
   unbegun = λ others. ap starts_plainly (byte_before next others 0 some) ∙ digit_plain (byte next 0) digits;
 }
   where
@@ -206,7 +215,7 @@ digits_slashless (d ∷ w) all =
     digit_no c e = grind (arith, nat_tests)
 
 pub digits_goes : (text after : List ℕ) → list_all is_digit text ≡ true → 0 < length text → Ended after
-    → (next rest : List ℕ) → next ++ rest ≡ after → 0 < length next → NextIs next rest → Goes false kinds.Digits text next
+    → (next rest : List ℕ) → next ++ rest ≡ after → 0 < length next → NextIs next rest → Goes false false kinds.Digits text next
 digits_goes text after all long ended next rest same some is = record {
   stays = λ others clear inside code before calm.
       digit_token text (next ++ others) all long
@@ -216,7 +225,7 @@ digits_goes text after all long ended next rest same some is = record {
         percent = ap (λ (b : ℕ). b == sign "%") (first others) ∙ ended.percent;
         point = left_no (byte (next ++ others) 0 == sign ".") _ (ap (λ (b : ℕ). b == sign ".") (byte_before next others 0 some) ∙ no_dot is);
       }) inside before code calm;
-  slashless = digits_slashless text all;
+  apart = inl (digits_slashless text all);
   unbegun = λ others. ap starts_plainly (first others) ∙ ended.unit;
 }
   where

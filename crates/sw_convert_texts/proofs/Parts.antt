@@ -6,8 +6,8 @@ use Rattle.std.proofs.Math.Seq.{drop-append_seam}
 use Rattle.sw_text_scan.specs.declared.runs.Class.TheVariants as classes
 use Rattle.sw_text_scan.specs.Bytes.{sign, byte, is_white, is_digit, is_name_byte, starts_plainly}
 use Rattle.sw_text_scan.specs.Runs.{next, escape_end, begins_name, goes_in_unit}
-use Rattle.sw_text_scan.specs.Words.{unit_start, unit_end}
-use Rattle.sw_text_scan.proofs.Bounds.{if_false, or_left, or_right}
+use Rattle.sw_text_scan.specs.Words.{is_exponent, is_plus_or_minus}
+use Rattle.sw_text_scan.proofs.Bounds.{if_false, or_left, or_right, run_stop}
 use Rattle.sw_text_locality.proofs.Lexical.{equal}
 use Rattle.sw_text_locality.proofs.Written.{byte_before}
 use Rattle.sw_tokens.specs.declared.token.TokenKind.{TokenKind}
@@ -18,27 +18,27 @@ use Rattle.sw_parse_terminals.specs.declared.lexeme.Lexeme.{Lexeme}
 use Rattle.sw_parse_table.specs.declared.source.Source.{Source}
 use Rattle.sw_parse_table.specs.Sources.{bytes, lexeme_at, from_in, to_in, from_at, to_at, bytes_at}
 use Rattle.sw_convert_spelling.proofs.MovedRuns as moved
+use Rattle.sw_convert_spelling.proofs.NumeralTokens.{second_byte}
 use Rattle.sw_convert_spelling.proofs.Again as texts
 use Rattle.sw_convert_spelling.proofs.Choices.{is_name, neither, left_no}
 use Rattle.sw_convert_passing.specs.Kinds.{is_part}
 use Rattle.sw_convert_tokens.specs.Values.{WasRead}
+use Rattle.sw_convert_tokens.proofs.CountedBytes.{start_two}
 use Rattle.sw_convert_tokens.proofs.NamePieces.{name_in, name_run, name_keep}
 use Rattle.sw_convert_tokens.proofs.Names.{start_by, begun_by}
 use Rattle.sw_convert_tokens.proofs.Signs.{sign_token}
 use Rattle.sw_convert_tokens.proofs.Stops.{no_escape}
+use Rattle.sw_convert_tokens.proofs.Units.{dark_ends}
 use Rattle.sw_convert_tokens.proofs.Words.{name_behind}
-use Rattle.sw_convert_texts.proofs.NameTokens.{Quiet, nothing_settled, settled_token, settled_black, old_stop}
-use Rattle.sw_convert_texts.specs.Names.{begins_digits, digits_and_unit, is_plain}
-use Rattle.sw_convert_texts.proofs.DigitTokens.{digit_token, digit_black, digits_ended}
-use Rattle.sw_convert_texts.proofs.UnitTokens.{HasUnit, cut_unit, begins_digit, unit_ended, no_unit, unit_black, unit_token}
+use Rattle.sw_convert_texts.proofs.NameTokens.{Settled, nothing_settled, settled_token, settled_black, old_stop}
+use Rattle.sw_convert_texts.proofs.DigitTokens.{digit_white, digit_token, digit_black, digits_ended}
+use Rattle.sw_convert_texts.proofs.UnitTokens.{no_unit}
+use Rattle.sw_convert_texts.proofs.UnitRuns.{NoPower, is_power, HasUnit, cut_unit, Unmixed, unit_token, unit_ended}
 use Rattle.sw_convert_texts.proofs.UnitParts.{unit_goes}
 use Rattle.sw_convert_texts.proofs.OldPieces.{old_piece, Whole, whole_bytes}
 use Rattle.sw_convert_texts.proofs.OldRows.{PartThere, part_closed}
 use Rattle.sw_convert_texts.proofs.PartKinds.{is_sign, part_kind, part_comment, IsDash, IsDigits, sign_told}
-use Rattle.sw_convert_texts.proofs.PartTokens.{name_bars, dash_bars, name_undigit, NextIs, Goes, PartToken, no_next, no_goes, dash_goes, digits_goes, minus_fits}
-
-same_first : (w after : List ℕ) → 0 < length w → begins_digits (w ++ after) ≡ begins_digits w
-same_first w after some = ap (λ (b : ℕ). is_digit b || (b == sign ".")) (byte_before w after 0 some)
+use Rattle.sw_convert_texts.proofs.PartTokens.{name_bars, dash_bars, name_undigit, NextIs, rejoins, Goes, PartToken, no_next, no_goes, dash_goes, digits_goes, minus_fits}
 
 one_byte : (xs : List ℕ) → length xs ≡ 1 → (b : ℕ) × (xs ≡ b ∷ [])
 one_byte [] e = absurd (omega (arith, e))
@@ -60,8 +60,28 @@ unit_stop after name slash =
         (neither (is_digit b) _ (or_left (is_digit b) (b == sign "-") more)
         (left_no (b == sign "-") x (or_right (is_digit b) (b == sign "-") more)))
 
-quiet_stop : (after : List ℕ) → Quiet (byte after 0) → next classes.Unit after 0 ≤ 0
-quiet_stop after quiet = unit_stop after quiet.name quiet.slash
+-- what settles a name goes on with no number
+settled_unmixed : (power : Bool) (text after : List ℕ) → Settled text after → Unmixed power text after
+settled_unmixed power text after settled =
+    let quiet = settled.quiet in record {
+      ends = dark_ends text after quiet.name quiet.slash quiet.feed settled.closed;
+      digit = settled.still.digit;
+      sharp = λ p. left_no (is_plus_or_minus (byte after 0)) _ quiet.sign_before;
+    }
+
+-- no digits stood behind an `e` and a sign
+old_sharp : (unit after : List ℕ) → NoPower (unit ++ after) → is_power unit ≡ true
+    → (is_plus_or_minus (byte after 0) && is_digit (byte after 1)) ≡ false
+old_sharp [] after none e = absurd (cc)
+old_sharp (b ∷ []) after none e =
+    ap (λ (x : ℕ). is_plus_or_minus x && is_digit (byte after 1)) (sym (second_byte b after))
+    ∙ ap (λ (x : ℕ). is_plus_or_minus (byte (b ∷ after) 1) && is_digit x) (sym (moved.at_byte (b ∷ []) after 1))
+    ∙ right_of (is_exponent (byte (b ∷ after) 0)) _ (ap is_exponent (moved.first_byte b after) ∙ e) none.signed
+  where
+    right_of : (x y : Bool) → x ≡ true → (x && y) ≡ false → y ≡ false
+    right_of true y f g = g
+    right_of false y f g = absurd (cc)
+old_sharp (b ∷ c ∷ unit) after none e = absurd (cc)
 
 module _ (source : Source) (k : ℕ) (lexeme : Lexeme) (there : lexeme_at source k ≡ Some lexeme) (kind : TokenKind)
     (text : List ℕ) (fits : is_part (sort_of kind text) ≡ true) (it : Whole source lexeme kind text) where
@@ -92,7 +112,9 @@ module _ (source : Source) (k : ℕ) (lexeme : Lexeme) (there : lexeme_at source
           whole = it.whole ∙ sym (append_assoc it.front text it.after);
           ends = end_there;
           long = false;
+          power = false;
           bare = λ e. absurd (cc);
+          sharp = λ e. absurd (cc);
           more = λ next rest same some is. no_goes (no_next it.after bars digit next rest same some is);
           named = true;
           alone = λ e next rest same some is. no_next it.after bars digit next rest same some is;
@@ -123,7 +145,9 @@ module _ (source : Source) (k : ℕ) (lexeme : Lexeme) (there : lexeme_at source
           whole = it.whole ∙ sym (append_assoc it.front text it.after);
           ends = end_there;
           long = false;
+          power = false;
           bare = λ e. absurd (cc);
+          sharp = λ e. absurd (cc);
           more = dash_goes it.after bars;
           named = false;
           alone = λ e. absurd (cc);
@@ -148,7 +172,9 @@ module _ (source : Source) (k : ℕ) (lexeme : Lexeme) (there : lexeme_at source
           whole = it.whole ∙ sym (append_assoc it.front text it.after);
           ends = end_there;
           long = false;
+          power = false;
           bare = λ e. absurd (cc);
+          sharp = λ e. absurd (cc);
           more = digits_goes text it.after all it.some ended;
           named = false;
           alone = λ e. absurd (cc);
@@ -156,60 +182,64 @@ module _ (source : Source) (k : ℕ) (lexeme : Lexeme) (there : lexeme_at source
         refl,
       )
 
-  unit_of_token : (g : is_sign kind ≡ true) → IsDigits kind (length text) it.change g (text ++ it.after) → (unit : HasUnit text)
-      → is_digit (byte text 0) ≡ true → (token : PartToken source k text) × (is_part (sort_of token.kind text) ≡ true)
-  unit_of_token g digits unit first =
-      let whole : text ++ it.after ≡ unit.digits ++ (unit.unit ++ it.after) =
-      ap (λ (t : List ℕ). t ++ it.after) unit.same ∙ append_assoc unit.digits unit.unit it.after in
-      let stop = unit_ended unit.digits unit.unit it.after unit.all unit.is
-      (ap (λ (t : List ℕ). unit_end t (unit_start t 0)) (sym whole) ∙ digits.ends ∙ ap length unit.same) in (
+  unit_of_token : HasUnit text it.after → is_digit (byte text 0) ≡ true
+      → (token : PartToken source k text) × (is_part (sort_of token.kind text) ≡ true)
+  unit_of_token unit first =
+      let stop = unit_ended text it.after unit in (
         record {
           kind = kinds.Digits;
           seen = refl;
           closed = refl;
           some = it.some;
           other = refl;
-          black = unit_black text first;
+          black = digit_white (byte text 0) first;
           token = λ after settled inside code before calm.
-              unit_token text after unit first it.some (quiet_stop after settled.quiet) inside before code calm;
+              unit_token text it.after after unit first it.some (settled_unmixed (is_power unit.unit) text after settled)
+              inside before code calm;
           front = it.front ++ text;
           after = it.after;
           whole = it.whole ∙ sym (append_assoc it.front text it.after);
           ends = end_there;
           long = true;
+          power = is_power unit.unit;
           bare = λ e. stop;
-          more = unit_goes text it.after unit first it.some stop;
+          sharp = old_sharp unit.unit it.after unit.power;
+          more = unit_goes text it.after unit first it.some stop (old_sharp unit.unit it.after unit.power);
           named = false;
           alone = λ e. absurd (cc);
         },
         refl,
       )
 
-  -- it is plain
-  plainly : begins_digits (text ++ it.after) ≡ true → is_plain text ≡ true → digits_and_unit text ≡ true
-  plainly begins u =
-      second (begins_digits text) (digits_and_unit text) (sym (same_first text it.after it.some) ∙ begins) u
+  -- it begins with a digit
+  first_digit : (g : is_sign kind ≡ true) → IsDigits kind (length text) it.change g (text ++ it.after)
+      → is_digit (byte text 0) ≡ true
+  first_digit g digits =
+      ap is_digit (sym (byte_before text it.after 0 it.some)) ∙ go (is_digit (byte (text ++ it.after) 0)) refl digits.begins
     where
-      second : (a b : Bool) → a ≡ true → (not a || b) ≡ true → b ≡ true
-      second true b e f = f
-      second false b e f = absurd (cc)
+      go : (t : Bool) → is_digit (byte (text ++ it.after) 0) ≡ t
+          → (t || ((byte (text ++ it.after) 0 == sign ".") && is_digit (byte (text ++ it.after) 1))) ≡ true
+          → is_digit (byte (text ++ it.after) 0) ≡ true
+      go true t e = t
+      go false t e =
+          let two = start_two (text ++ it.after) t e in
+          let stays = if_false (is_digit (byte (text ++ it.after) 0)) (0 + 1) 0 t in
+          let none = run_stop (text ++ it.after) classes.Digit 0 (omega (arith, stays)) in
+          let whole = digits.whole in absurd (omega (arith, two, none, whole))
 
-  first_digit : begins_digits (text ++ it.after) ≡ true → is_plain text ≡ true → is_digit (byte text 0) ≡ true
-  first_digit begins u = begins_digit text (sym (same_first text it.after it.some) ∙ begins) (plainly begins u)
-
-  pub part_token : is_plain text ≡ true → (token : PartToken source k text) × (is_part (sort_of token.kind text) ≡ true)
-  part_token u = go (part_kind kind text fits)
+  pub part_token : (token : PartToken source k text) × (is_part (sort_of token.kind text) ≡ true)
+  part_token = go (part_kind kind text fits)
     where
       by : (g : is_sign kind ≡ true) → IsDigits kind (length text) it.change g (text ++ it.after)
-          → (list_all is_digit text ≡ true) ⊎ HasUnit text
+          → (list_all is_digit text ≡ true) ⊎ HasUnit text it.after
           → (token : PartToken source k text) × (is_part (sort_of token.kind text) ≡ true)
       by g digits (inl all) = digits_token g digits all
-      by g digits (inr unit) = unit_of_token g digits unit (first_digit digits.begins u)
+      by g digits (inr unit) = unit_of_token unit (first_digit g digits)
 
       told : (g : is_sign kind ≡ true)
           → IsDigits kind (length text) it.change g (text ++ it.after) ⊎ IsDash kind (length text) it.change g (text ++ it.after)
           → (token : PartToken source k text) × (is_part (sort_of token.kind text) ≡ true)
-      told g (inl digits) = by g digits (cut_unit text (plainly digits.begins u))
+      told g (inl digits) = by g digits (cut_unit text it.after digits.whole digits.percent digits.ends)
       told g (inr dash) = minus_token g dash
 
       go : (is_name kind ≡ true) ⊎ (is_sign kind ≡ true)
@@ -218,13 +248,13 @@ module _ (source : Source) (k : ℕ) (lexeme : Lexeme) (there : lexeme_at source
       go (inr g) = told g (sign_told kind (length text) it.change g (text ++ it.after) it.inside it.before it.is)
 
   -- what it is behind another
-  pub part_next : is_plain text ≡ true → NextIs text it.after
-  part_next u = go (part_kind kind text fits)
+  pub part_next : NextIs text it.after
+  part_next = go (part_kind kind text fits)
     where
       told : (g : is_sign kind ≡ true)
           → IsDigits kind (length text) it.change g (text ++ it.after) ⊎ IsDash kind (length text) it.change g (text ++ it.after)
           → NextIs text it.after
-      told g (inl digits) = inr (inr (first_digit digits.begins u))
+      told g (inl digits) = inr (inr (first_digit g digits))
       told g (inr dash) = inr (inl (sym (byte_before text it.after 0 it.some) ∙ dash.dash))
 
       go : (is_name kind ≡ true) ⊎ (is_sign kind ≡ true) → NextIs text it.after
@@ -267,23 +297,21 @@ module _ (source : Source) (was : WasRead source) where
 
   -- the part that stood directly behind another
   pub goes_next : (k : ℕ) (text : List ℕ) (token : PartToken source k text) (next : PartThere source was k)
-      → is_plain (bytes_at source (suc k)) ≡ true
-      → Goes token.long token.kind text (bytes_at source (suc k))
-  goes_next k text token next u =
+      → Goes token.long token.power token.kind text (bytes_at source (suc k))
+  goes_next k text token next =
       let piece_there = old_piece source was (suc k) next.lexeme next.there in
       let fits = ap is_part (sym piece_there.sort) ∙ next.fits in
       let it = piece_there.own (part_closed piece_there.kind piece_there.text fits) in
       let same = same_rest k token.front token.after token.whole token.ends next.lexeme piece_there.kind piece_there.text next.sticks.from next.there it in
       let own = whole_bytes source (suc k) next.lexeme piece_there.kind piece_there.text next.there it in
-      subst (Goes token.long token.kind text) (sym own)
+      subst (Goes token.long token.power token.kind text) (sym own)
       (token.more piece_there.text it.after same it.some
-      (part_next source (suc k) next.lexeme next.there piece_there.kind piece_there.text fits it (ap is_plain (sym own) ∙ u)))
+      (part_next source (suc k) next.lexeme next.there piece_there.kind piece_there.text fits it))
 
   -- where a `-` stands directly behind a unit, and another part behind that, no unit goes on there
   pub far_apart : (k : ℕ) (text : List ℕ) (token : PartToken source k text) (near : PartThere source was k)
       (far : PartThere source was (suc k)) (rest : List ℕ)
-      → (token.long && ((byte (bytes_at source (suc k)) 0 == sign "-") && ((length (bytes_at source (suc k)) == 1)
-      && starts_plainly (byte (bytes_at source (suc (suc k)) ++ rest) 0)))) ≡ false
+      → rejoins token.long token.power (bytes_at source (suc k)) (bytes_at source (suc (suc k)) ++ rest) ≡ false
   far_apart k text token near far rest =
       let piece_near = old_piece source was (suc k) near.lexeme near.there in
       let fits_near = ap is_part (sym piece_near.sort) ∙ near.fits in
@@ -299,8 +327,9 @@ module _ (source : Source) (was : WasRead source) where
       (end_there source (suc k) near.lexeme near.there piece_near.kind piece_near.text fits_near it)
       far.lexeme piece_far.kind piece_far.text far.sticks.from far.there its in
       let ended = token.bare in
+      let sharp = token.sharp in
       by token.long (byte (bytes_at source (suc k)) 0 == sign "-") (length (bytes_at source (suc k)) == 1)
-      (starts_plainly (byte (bytes_at source (suc (suc k)) ++ rest) 0))
+      (starts_plainly (byte (bytes_at source (suc (suc k)) ++ rest) 0) || (token.power && is_digit (byte (bytes_at source (suc (suc k)) ++ rest) 0)))
       (λ long dash one.
       let none = no_unit token.after (ended long) in
       let goes = none.goes in
@@ -317,10 +346,17 @@ module _ (source : Source) (was : WasRead source) where
       ∙ byte_before piece_far.text its.after 0 its.some
       ∙ sym (byte_before piece_far.text rest 0 its.some)
       ∙ ap (λ (t : List ℕ). byte (t ++ rest) 0) (sym own_far) in
-      ap starts_plainly (sym second)
+      neither (starts_plainly (byte (bytes_at source (suc (suc k)) ++ rest) 0)) _
+      (ap starts_plainly (sym second)
       ∙ sym (ap (λ (b : ℕ). starts_plainly b || (is_digit b || ((b == sign "-") && starts_plainly (byte token.after 1)))) first)
       ∙ goes)
+      (powered token.power (is_digit (byte (bytes_at source (suc (suc k)) ++ rest) 0))
+      (λ p. ap is_digit (sym second) ∙ ap (λ (b : ℕ). is_plus_or_minus b && is_digit (byte token.after 1)) (sym first) ∙ sharp p)))
     where
+      powered : (a b : Bool) → (a ≡ true → b ≡ false) → (a && b) ≡ false
+      powered true b f = f refl
+      powered false b f = refl
+
       by : (a b c d : Bool) → (a ≡ true → b ≡ true → c ≡ true → d ≡ false) → (a && (b && (c && d))) ≡ false
       by true true true d f = f refl refl refl
       by true true false d f = refl
@@ -329,12 +365,12 @@ module _ (source : Source) (was : WasRead source) where
 
   -- none stands behind a name
   pub none_next : (k : ℕ) (text : List ℕ) (token : PartToken source k text) → token.named ≡ true → PartThere source was k
-      → is_plain (bytes_at source (suc k)) ≡ true → ⊥
-  none_next k text token named next u =
+      → ⊥
+  none_next k text token named next =
       let piece_there = old_piece source was (suc k) next.lexeme next.there in
       let fits = ap is_part (sym piece_there.sort) ∙ next.fits in
       let it = piece_there.own (part_closed piece_there.kind piece_there.text fits) in
       let same = same_rest k token.front token.after token.whole token.ends next.lexeme piece_there.kind piece_there.text next.sticks.from next.there it in
       let own = whole_bytes source (suc k) next.lexeme piece_there.kind piece_there.text next.there it in
       token.alone named piece_there.text it.after same it.some
-      (part_next source (suc k) next.lexeme next.there piece_there.kind piece_there.text fits it (ap is_plain (sym own) ∙ u))
+      (part_next source (suc k) next.lexeme next.there piece_there.kind piece_there.text fits it)

@@ -1,15 +1,15 @@
 -- What a word or a name goes on with is written as its tokens.
-use Rattle.std.proofs.Common.{◌≡◌, ◌⊎◌, ℕ, suc, true, false, ◌&&◌, inl, List, [], ◌∷◌, ◌++◌, length, Some, refl, sym, ◌∙◌, ap, subst, append_assoc, append-nil}
+use Rattle.std.proofs.Common.{◌≡◌, ◌⊎◌, ◌<◌, ℕ, suc, Bool, true, false, ◌&&◌, inl, inr, List, [], ◌∷◌, ◌++◌, length, Some, refl, sym, ◌∙◌, ap, subst, append_assoc, append-nil, arith}
 use Rattle.std.specs.Prelude.{◌==◌, codes}
 use Rattle.std.specs.List.{list_all}
 use Rattle.sw_text_scan.specs.Bytes.{sign, byte, starts_plainly}
 use Rattle.sw_text_scan.specs.Words.{is_u}
-use Rattle.sw_text_scan.proofs.Bounds.{and_left, and_right}
 use Rattle.sw_tree.specs.declared.expr.Expr.{Expr}
 use Rattle.sw_tokens.specs.declared.pieces.Before.{Before}
 use Rattle.sw_tokens.specs.declared.pieces.Before.TheVariants as befores
 use Rattle.sw_tokens.specs.declared.pieces.Change.TheVariants as changes
 use Rattle.sw_tokens.specs.declared.skips.Inside.{Inside}
+use Rattle.sw_tokens.specs.declared.token.TokenKind.{TokenKind}
 use Rattle.sw_tokens.specs.Ends.{opens}
 use Rattle.sw_tokens.specs.Pieces.{made, piece}
 use Rattle.sw_parse_terminals.specs.declared.lexeme.Lexeme.{Lexeme}
@@ -31,22 +31,24 @@ use Rattle.sw_convert_again.specs.Tokens.{Nothing, Says, Tok, tok, Old}
 use Rattle.sw_convert_again.specs.Tokens as again
 use Rattle.sw_convert_again.specs.Spells.{Spells, SpellsRow, behind_insert}
 use Rattle.sw_convert_again.specs.Spells as spells
-use Rattle.sw_convert_spelling.proofs.Choices.{right_no}
+use Rattle.sw_convert_spelling.proofs.MovedRuns.{first_byte}
+use Rattle.sw_convert_spelling.proofs.Choices.{right_no, neither}
 use Rattle.sw_convert_tokens.specs.Joints.{Seen, Joint, Token, text, toks, writtens, written_of, behind, Stand, Tell}
 use Rattle.sw_convert_tokens.specs.Values.{WasRead}
 use Rattle.sw_convert_tokens.specs.Written.{is_calm, AsRow, WrittenAs}
 use Rattle.sw_convert_tokens.proofs.Joins.{text_append, toks_append, writtens_append, behind_append, tell_append}
 use Rattle.sw_convert_tokens.proofs.Unclosed.{Ends}
 use Rattle.sw_convert_texts.specs.Inserted.{RowHasValues}
-use Rattle.sw_convert_texts.specs.Names.{row_inserts, is_plain, row_plain}
+use Rattle.sw_convert_texts.specs.Names.{row_inserts}
 use Rattle.sw_convert_texts.proofs.JoinedTexts.{lone}
 use Rattle.sw_convert_texts.proofs.Stretches.{none, said_behind, behind_is}
+use Rattle.sw_convert_texts.proofs.DigitTokens.{Still}
 use Rattle.sw_convert_texts.proofs.NameTokens.{Settled, insert_settled}
 use Rattle.sw_convert_texts.proofs.OldPieces.{old_piece, whole_bytes}
 use Rattle.sw_convert_texts.proofs.OldRows.{row_text, head_of, part_closed, PartThere, part_there, behind_text}
 use Rattle.sw_convert_texts.proofs.NewRows.{HeadRun, run_end, run_more, run_token, says_next}
 use Rattle.sw_convert_texts.proofs.Inserts.{inner_of, inner_items, opening, closing, code_inserts, insert_stand}
-use Rattle.sw_convert_texts.proofs.PartTokens.{no_slash, PartToken}
+use Rattle.sw_convert_texts.proofs.PartTokens.{no_slash, rejoins, Goes, PartToken}
 use Rattle.sw_convert_texts.proofs.Parts.{part_token, goes_next, far_apart}
 
 -- what may stand behind a text, so that its last name stays one
@@ -75,6 +77,19 @@ pub record RowIs (Behind : List ℕ → List ℕ → Type 0) (source : Source) {
   pub stand : (stack : List Inside) (after : List ℕ) → is_sheet_code (innermost stack) ≡ true
       → Behind (row_text source row) after → Stand stack befores.Other joints stack after
 
+-- behind a `-` no number goes on there
+still_no : (long power : Bool) (next after : List ℕ) → Still after → rejoins long power next after ≡ false
+still_no long power next after still =
+    right_no long _ (right_no (byte next 0 == sign "-") _ (right_no (length next == 1) _
+    (neither (starts_plainly (byte after 0)) _ still.unit (right_no power _ still.digit))))
+
+begins_so : (xs : List ℕ) (b : ℕ) → 0 < length xs → byte xs 0 ≡ b → (rest : List ℕ) × (xs ≡ b ∷ rest)
+begins_so [] b some e = absurd (omega (arith, some))
+begins_so (c ∷ xs) b some e = (xs, ap (λ (d : ℕ). d ∷ xs) (sym (first_byte c xs) ∙ e))
+
+minus_ends : Ends (sign "-")
+minus_ends = record { slash = refl; digit = refl }
+
 hash_ends : Ends (sign "#")
 hash_ends = record { slash = refl; digit = refl }
 
@@ -90,80 +105,81 @@ module _ (Behind : List ℕ → List ℕ → Type 0) (ending : Ending Behind) (s
   abbrev IsPart : ℕ → List ℕ → Type 0
   IsPart k xs = (token : PartToken source k xs) × (is_part (sort_of token.kind xs) ≡ true)
 
-  token_there : (k : ℕ) → PartThere source was k → is_plain (bytes_at source (suc k)) ≡ true
-      → IsPart (suc k) (bytes_at source (suc k))
-  token_there k there u =
+  token_there : (k : ℕ) → PartThere source was k → IsPart (suc k) (bytes_at source (suc k))
+  token_there k there =
       let piece = old_piece source was (suc k) there.lexeme there.there in
       let fits = ap is_part (sym piece.sort) ∙ there.fits in
       let whole = piece.own (part_closed piece.kind piece.text fits) in
       let same = whole_bytes source (suc k) there.lexeme piece.kind piece.text there.there whole in
       subst (IsPart (suc k)) (sym same)
-      (part_token source (suc k) there.lexeme there.there piece.kind piece.text fits whole
-      (ap is_plain (sym same) ∙ u))
+      (part_token source (suc k) there.lexeme there.there piece.kind piece.text fits whole)
 
-  plain_at : {i j count : ℕ} {inserts : List Part} {tokens : List Tok}
-      (row : SpellsRow source terminals.Part terminals.PartInsert 0 (suc i) j inserts count tokens) (k : ℕ) → i ≡ suc k
-      → (is_plain (bytes_at source i) && row_plain source row) ≡ true → is_plain (bytes_at source (suc k)) ≡ true
-  plain_at {i} row k e u =
-      ap (λ (n : ℕ). is_plain (bytes_at source n)) (sym e) ∙ and_left (is_plain (bytes_at source i)) (row_plain source row) u
-
-  -- no unit goes on behind a `-` that stood directly behind it
+  -- no number goes on behind a `-` that stood directly behind it
   clear_row : {i j count : ℕ} {inserts : List Part} {tokens : List Tok}
       (row : SpellsRow source terminals.Part terminals.PartInsert 0 (suc i) j inserts count tokens) (k : ℕ) (value : List ℕ)
       (token : PartToken source k value) → PartThere source was k → i ≡ suc k → (after : List ℕ)
       → Behind (value ++ (bytes_at source i ++ row_text source row)) after
-      → (token.long && ((byte (bytes_at source (suc k)) 0 == sign "-") && ((length (bytes_at source (suc k)) == 1)
-      && starts_plainly (byte (row_text source row ++ after) 0)))) ≡ false
+      → rejoins token.long token.power (bytes_at source (suc k)) (row_text source row ++ after) ≡ false
   clear_row {i} spells.row_end k value token next e after f =
       let settled = ending.settles (value ++ (bytes_at source i ++ [])) after f in
-      let none = settled.still.unit in
-      right_no token.long _ (right_no (byte (bytes_at source (suc k)) 0 == sign "-") _ (right_no (length (bytes_at source (suc k)) == 1) _ none))
+      still_no token.long token.power (bytes_at source (suc k)) _ settled.still
   clear_row {i} (spells.row_part old row) k value token next e after f =
       let far = part_there source was (suc k) next.lexeme next.there (subst (λ (n : ℕ). Old source (suc n) (just terminals.Part)) e old) in
-      ap (λ (t : List ℕ). token.long && ((byte (bytes_at source (suc k)) 0 == sign "-") && ((length (bytes_at source (suc k)) == 1) && starts_plainly (byte t 0))))
+      ap (rejoins token.long token.power (bytes_at source (suc k)))
       (append_assoc (bytes_at source (suc i)) (row_text source row) after
       ∙ ap (λ (n : ℕ). bytes_at source (suc n) ++ (row_text source row ++ after)) e)
       ∙ far_apart source was k value token next far (row_text source row ++ after)
   clear_row (spells.row_insert opens inner close row) k value token next e after f =
       let settled = insert_settled [] _ in
-      let none = settled.still.unit in
-      right_no token.long _ (right_no (byte (bytes_at source (suc k)) 0 == sign "-") _ (right_no (length (bytes_at source (suc k)) == 1) _ none))
+      still_no token.long token.power (bytes_at source (suc k)) _ settled.still
+
+  -- what may stand behind a part and the text behind it may stand behind that text
+  behind_part : {long power : Bool} {kind : TokenKind} (value next rest : List ℕ) → Goes long power kind value next
+      → (after : List ℕ) → Behind (value ++ (next ++ rest)) after → Behind (next ++ rest) after
+  behind_part value next rest goes after f = go goes.apart
+    where
+      go : (list_all no_slash value ≡ true) ⊎ ((0 < length next) × (byte next 0 ≡ sign "-")) → Behind (next ++ rest) after
+      go (inl calm) = ending.skips value (next ++ rest) calm (goes.unbegun rest) after f
+      go (inr (some, dash)) =
+          let (xs, same) = begins_so next (sign "-") some dash in
+          subst (λ (t : List ℕ). Behind (t ++ rest) after) (sym same)
+          (ending.keeps value (xs ++ rest) (sign "-") minus_ends refl after
+          (subst (λ (t : List ℕ). Behind (value ++ (t ++ rest)) after) same f))
 
   -- a token before a row stays one
   pub stands_row : {i j count : ℕ} {inserts : List Part} {tokens : List Tok}
       (row : SpellsRow source terminals.Part terminals.PartInsert 0 i j inserts count tokens) (k : ℕ) (value : List ℕ)
       (token : PartToken source k value) (lexeme : Lexeme) → lexeme_at source k ≡ Some lexeme → i ≡ suc k
-      → row_plain source row ≡ true → (after : List ℕ) → Behind (value ++ row_text source row) after → (inside : Inside)
+      → (after : List ℕ) → Behind (value ++ row_text source row) after → (inside : Inside)
       → is_sheet_code inside ≡ true → (before : Before) → is_calm before ≡ true
       → piece (value ++ (row_text source row ++ after)) inside before 0 ≡ made token.kind (length value) changes.Keep
-  stands_row spells.row_end k value token lexeme there e u after f inside code before calm =
+  stands_row spells.row_end k value token lexeme there e after f inside code before calm =
       token.token after (ending.settles value after (subst (λ (t : List ℕ). Behind t after) (append-nil value) f)) inside code before calm
-  stands_row (spells.row_part {i = i} old row) k value token lexeme there e u after f inside code before calm =
+  stands_row (spells.row_part {i = i} old row) k value token lexeme there e after f inside code before calm =
       let next = part_there source was k lexeme there (subst (λ (n : ℕ). Old source n (just terminals.Part)) e old) in
-      let goes = goes_next source was k value token next (plain_at row k e u) in
+      let goes = goes_next source was k value token next in
       ap (λ (t : List ℕ). piece (value ++ t) inside before 0)
       (append_assoc (bytes_at source i) (row_text source row) after
       ∙ ap (λ (n : ℕ). bytes_at source n ++ (row_text source row ++ after)) e)
       ∙ goes.stays (row_text source row ++ after)
       (clear_row row k value token next e after f)
       inside code before calm
-  stands_row (spells.row_insert opens inner close row) k value token lexeme there e u after f inside code before calm =
+  stands_row (spells.row_insert opens inner close row) k value token lexeme there e after f inside code before calm =
       token.token _ (insert_settled value _) inside code before calm
 
   -- and what may stand behind both may stand behind the row
   pub behind_row : {i j count : ℕ} {inserts : List Part} {tokens : List Tok}
       (row : SpellsRow source terminals.Part terminals.PartInsert 0 i j inserts count tokens) (k : ℕ) (value : List ℕ)
       (token : PartToken source k value) (lexeme : Lexeme) → lexeme_at source k ≡ Some lexeme → i ≡ suc k
-      → row_plain source row ≡ true → (after : List ℕ) → Behind (value ++ row_text source row) after
+      → (after : List ℕ) → Behind (value ++ row_text source row) after
       → Behind (row_text source row) after
-  behind_row spells.row_end k value token lexeme there e u after f = ending.nothing (value ++ []) after f
-  behind_row (spells.row_part {i = i} old row) k value token lexeme there e u after f =
+  behind_row spells.row_end k value token lexeme there e after f = ending.nothing (value ++ []) after f
+  behind_row (spells.row_part {i = i} old row) k value token lexeme there e after f =
       let next = part_there source was k lexeme there (subst (λ (n : ℕ). Old source n (just terminals.Part)) e old) in
-      let goes = goes_next source was k value token next (plain_at row k e u) in
-      ending.skips value (bytes_at source i ++ row_text source row) goes.slashless
-      (ap (λ (n : ℕ). starts_plainly (byte (bytes_at source n ++ row_text source row) 0)) e ∙ goes.unbegun (row_text source row))
-      after f
-  behind_row (spells.row_insert {value = expression} opens inner close row) k value token lexeme there e u after f =
+      let goes = goes_next source was k value token next in
+      behind_part value (bytes_at source i) (row_text source row)
+      (subst (λ (n : ℕ). Goes token.long token.power token.kind value (bytes_at source n)) (sym e) goes) after f
+  behind_row (spells.row_insert {value = expression} opens inner close row) k value token lexeme there e after f =
       ending.keeps value (sign "{" ∷ (expr_text expression ++ (codes "}" ++ row_text source row))) (sign "#") hash_ends refl after f
 
   -- ---- one part more
@@ -260,8 +276,8 @@ module _ (Behind : List ℕ → List ℕ → Type 0) (ending : Ending Behind) (s
 
   pub row_is : {i j count : ℕ} {inserts : List Part} {tokens : List Tok}
       (row : SpellsRow source terminals.Part terminals.PartInsert 0 i j inserts count tokens) (k : ℕ) (lexeme : Lexeme)
-      → lexeme_at source k ≡ Some lexeme → i ≡ suc k → row_plain source row ≡ true → RowHasValues row → RowIs Behind source row
-  row_is spells.row_end k lexeme there e u has = record {
+      → lexeme_at source k ≡ Some lexeme → i ≡ suc k → RowHasValues row → RowIs Behind source row
+  row_is spells.row_end k lexeme there e has = record {
     joints = [];
     spelling = refl;
     seen = refl;
@@ -272,14 +288,13 @@ module _ (Behind : List ℕ → List ℕ → Type 0) (ending : Ending Behind) (s
     tells = tt;
     stand = λ stack after code f. refl;
   }
-  row_is (spells.row_part {i = i} old row) k lexeme there e u has =
+  row_is (spells.row_part {i = i} old row) k lexeme there e has =
       let next = part_there source was k lexeme there (subst (λ (n : ℕ). Old source n (just terminals.Part)) e old) in
       let (token, fits) = subst (λ (n : ℕ). IsPart (suc k) (bytes_at source n)) (sym e)
-      (token_there k next (plain_at row k e u)) in
-      let rest = and_right (is_plain (bytes_at source i)) (row_plain source row) u in
-      part_row old row (suc k) token fits (row_is row (suc k) next.lexeme next.there (ap suc e) rest has)
+      (token_there k next) in
+      part_row old row (suc k) token fits (row_is row (suc k) next.lexeme next.there (ap suc e) has)
       (λ after f inside code.
-      stands_row row (suc k) (bytes_at source i) token next.lexeme next.there (ap suc e) rest after f inside code befores.Other refl)
-      (λ after f. behind_row row (suc k) (bytes_at source i) token next.lexeme next.there (ap suc e) rest after f)
-  row_is (spells.row_insert {c = c} opens inner close row) k lexeme there e u (has, more) =
-      insert_row opens inner close row has (row_is row c close.lexeme close.there refl u more)
+      stands_row row (suc k) (bytes_at source i) token next.lexeme next.there (ap suc e) after f inside code befores.Other refl)
+      (λ after f. behind_row row (suc k) (bytes_at source i) token next.lexeme next.there (ap suc e) after f)
+  row_is (spells.row_insert {c = c} opens inner close row) k lexeme there e (has, more) =
+      insert_row opens inner close row has (row_is row c close.lexeme close.there refl more)

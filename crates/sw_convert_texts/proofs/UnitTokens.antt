@@ -20,7 +20,7 @@ use Rattle.sw_convert_spelling.proofs.MovedRuns as moved
 use Rattle.sw_convert_spelling.proofs.Again as texts
 use Rattle.sw_convert_spelling.proofs.Choices.{left_no, right_no, neither, both}
 use Rattle.sw_convert_tokens.specs.Written.{is_calm}
-use Rattle.sw_convert_texts.specs.Names.{begins_digits, in_unit, is_unit, digits_and_unit}
+use Rattle.sw_convert_texts.specs.Names.{in_unit, is_unit, digits_and_unit}
 use Rattle.sw_convert_texts.proofs.DigitTokens.{digit_run, digit_white, number_token}
 
 -- ---- bytes
@@ -75,21 +75,6 @@ cut_unit (b ∷ w) e = go (is_digit b) refl e (cut_unit w)
         → (list_all is_digit (b ∷ w) ≡ true) ⊎ HasUnit (b ∷ w)
     go true d f more = step d (more f)
     go false d f more = inr (record { digits = []; unit = b ∷ w; same = refl; all = refl; is = f })
-
-pub begins_digit : (w : List ℕ) → begins_digits w ≡ true → digits_and_unit w ≡ true → is_digit (byte w 0) ≡ true
-unfolding byte
-begins_digit [] b e = absurd (cc)
-begins_digit (c ∷ w) b e = ap is_digit (moved.first_byte c w) ∙ go (is_digit c) refl e
-  where
-    go : (t : Bool) → is_digit c ≡ t → (if t then digits_and_unit w else is_unit (c ∷ w)) ≡ true → is_digit c ≡ true
-    go true d f = d
-    go false d f =
-        let starts : starts_plainly c ≡ true =
-        ap starts_plainly (sym (moved.first_byte c w)) ∙ and_left (starts_plainly (byte (c ∷ w) 0)) _ f in
-        let dot = start_dot c starts in
-        let no : begins_digits (c ∷ w) ≡ false =
-        ap (λ (x : ℕ). is_digit x || (x == sign ".")) (moved.first_byte c w) ∙ neither (is_digit c) (c == sign ".") d dot in
-        absurd (let wrong : true ≡ false = sym b ∙ no in cc)
 
 -- there is more than digits
 pub not_all : (digits unit : List ℕ) → is_unit unit ≡ true → list_all is_digit (digits ++ unit) ≡ false
@@ -221,17 +206,6 @@ module _ (digits unit after : List ℕ) (all : list_all is_digit digits ≡ true
       ∙ ap (λ k. made k (length (digits ++ unit)) changes.Keep)
       (if_true ((d == d) && not (byte xs d == sign "%")) kinds.Digits kinds.Number
       (both (d == d) _ (same_number d) (ap not percent)))
-
-  -- and none went on where it ended
-  pub unit_ended : unit_end xs (unit_start xs 0) ≡ length (digits ++ unit) → next classes.Unit after 0 ≤ 0
-  unit_ended end =
-      let whole : run_end classes.Unit (unit ++ after) 0 ≡ length unit =
-      (let a = ap (unit_end xs) (sym start_is) ∙ end in let b = end_is in let c = length-append digits unit in omega (arith, a, b, c)) in
-      let stop : next classes.Unit (unit ++ after) (length unit) ≤ length unit =
-      subst (λ (m : ℕ). next classes.Unit (unit ++ after) m ≤ m) whole (run_stops (unit ++ after) classes.Unit 0) in
-      let there : next classes.Unit (unit ++ after) (length unit) ≡ length unit + next classes.Unit after 0 =
-      ap (next classes.Unit (unit ++ after)) (let z : length unit ≡ length unit + 0 = omega arith in z)
-      ∙ moved.next_moved unit after classes.Unit 0 in omega (arith, stop, there)
 
 -- nothing goes on with a unit there
 pub record NoUnit (after : List ℕ) : Type 0 where

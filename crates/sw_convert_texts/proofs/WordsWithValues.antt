@@ -47,7 +47,7 @@ use Rattle.sw_convert_tokens.proofs.Words.{kind_of_name}
 use Rattle.sw_convert_tokens.proofs.Unclosed.{Ends}
 use Rattle.sw_convert_texts.specs.Adjoining.{Adjoins}
 use Rattle.sw_convert_texts.specs.Inserted.{RowHasValues, WordHasValues, NameHasValues}
-use Rattle.sw_convert_texts.specs.Names.{joined, NameWritten, row_inserts, row_ends, is_plain, row_plain, word_plain, name_plain, is_mixed, AsWord, Opens, Followers, WordsWithValuesAreWritten, CalledWordsAreWritten, AsName, as_name, CustomNamesAreWritten, name_inserts, AsAtName, as_at, AtNamesAreWritten}
+use Rattle.sw_convert_texts.specs.Names.{joined, NameWritten, row_inserts, row_ends, is_mixed, AsWord, Opens, Followers, WordsWithValuesAreWritten, CalledWordsAreWritten, AsName, as_name, CustomNamesAreWritten, name_inserts, AsAtName, as_at, AtNamesAreWritten}
 use Rattle.sw_convert_texts.specs.RawKinds.{is_at}
 use Rattle.sw_convert_texts.proofs.TerminalChoices.{comes}
 use Rattle.sw_convert_texts.proofs.LexemePairs.{plains_in, comes_at}
@@ -72,12 +72,10 @@ dash_ends = record { slash = refl; digit = refl }
 -- a word that is no single name has a `#{}` directly behind its name
 inserts_by : {source : Source} {i j count : ℕ} {inserts : List Part} {tokens : List Tok}
     (row : SpellsRow source terminals.Part terminals.PartInsert 0 (suc i) j inserts count tokens) → not (row_ends row) ≡ true
-    → (Old source (suc i) (just terminals.Part) → is_plain (bytes_at source (suc i)) ≡ true → ⊥)
-    → row_plain source row ≡ true → row_inserts row ≡ true
-inserts_by spells.row_end mixed blocked u = absurd (cc)
-inserts_by {source} {i} (spells.row_part old row) mixed blocked u =
-    absurd (blocked old (and_left (is_plain (bytes_at source (suc i))) _ u))
-inserts_by (spells.row_insert opens inner close row) mixed blocked u = refl
+    → (Old source (suc i) (just terminals.Part) → ⊥) → row_inserts row ≡ true
+inserts_by spells.row_end mixed blocked = absurd (cc)
+inserts_by (spells.row_part old row) mixed blocked = absurd (blocked old)
+inserts_by (spells.row_insert opens inner close row) mixed blocked = refl
 
 -- the empty text before a token
 empty_text : (source : Source) (at : ℕ) → text_up_to source (from_at source at) at (at + 0) ≡ lone []
@@ -132,13 +130,13 @@ module _ (Behind : Followers) (ending : Ending Behind) (source : Source) (was : 
 
   module _ {i j count : ℕ} {inserts : List Part} {tokens : List Tok} (terminal : Terminal) (first : First i)
       (row : SpellsRow source terminals.Part terminals.PartInsert 0 (suc i) j inserts count tokens)
-      (u : row_plain source row ≡ true) (has : RowHasValues row) where
+      (has : RowHasValues row) where
     more : RowIs Behind source row
-    more = row_is Behind ending source was row i first.lexeme first.there refl u has
+    more = row_is Behind ending source was row i first.lexeme first.there refl has
 
-    blocked : Old source (suc i) (just terminals.Part) → is_plain (bytes_at source (suc i)) ≡ true → ⊥
-    blocked old d =
-        none_next source was i (bytes_at source i) first.part first.named (part_there source was i first.lexeme first.there old) d
+    blocked : Old source (suc i) (just terminals.Part) → ⊥
+    blocked old =
+        none_next source was i (bytes_at source i) first.part first.named (part_there source was i first.lexeme first.there old)
 
     abbrev said : Said
     said = from_start source i inserts (suc count)
@@ -183,11 +181,11 @@ module _ (Behind : Followers) (ending : Ending Behind) (source : Source) (was : 
                 (refl, part.seen),
                 λ e. absurd (let no : true ≡ false = sym e ∙ part.closed in cc),
                 ap (λ (t : List ℕ). piece (bytes_at source i ++ (t ++ after)) (innermost stack) (behind_gap before (gap_of spaced)) 0) more.spelling
-                    ∙ stands_row Behind ending source was row i (bytes_at source i) part first.lexeme first.there refl u after follows
+                    ∙ stands_row Behind ending source was row i (bytes_at source i) part first.lexeme first.there refl after follows
                     (innermost stack) code (behind_gap before (gap_of spaced)) calm,
                 subst (λ (b : Before). Stand stack b more.joints stack after) (sym part.other)
                     (more.stand stack after code
-                    (behind_row Behind ending source was row i (bytes_at source i) part first.lexeme first.there refl u after follows)),
+                    (behind_row Behind ending source was row i (bytes_at source i) part first.lexeme first.there refl after follows)),
               );
         }
 
@@ -196,9 +194,9 @@ module _ (Behind : Followers) (ending : Ending Behind) (source : Source) (was : 
   module _ (i : ℕ) {c j count : ℕ} (value : Expr) {inserts : List Part} {tokens others : List Tok}
       (close : Old source c (just terminals.InsertEnd))
       (row : SpellsRow source terminals.Part terminals.PartInsert 0 (suc c) j inserts count others)
-      (u : row_plain source row ≡ true) (written_so : WrittenAs AsRow (expr_text value) tokens) (has : RowHasValues row) where
+      (written_so : WrittenAs AsRow (expr_text value) tokens) (has : RowHasValues row) where
     behind_more : RowIs Behind source row
-    behind_more = row_is Behind ending source was row c close.lexeme close.there refl u has
+    behind_more = row_is Behind ending source was row c close.lexeme close.there refl has
 
     abbrev closed_said : Said
     closed_said = behind_insert source c inserts count
@@ -367,54 +365,54 @@ module _ (Behind : Followers) (ending : Ending Behind) (source : Source) (was : 
   -- ---- the laws
 
   mixed_word : {i j : ℕ} {parts : Parts} {tokens : List Tok} (spelt : SpellsWord source i j parts tokens) → is_mixed spelt ≡ true
-      → word_plain source spelt ≡ true → WordHasValues spelt → NameWritten AsWord Behind (joined parts) tokens
-  mixed_word (spells.named {i} old row) mixed u has =
+      → WordHasValues spelt → NameWritten AsWord Behind (joined parts) tokens
+  mixed_word (spells.named {i} old row) mixed has =
       let it = comes_at source was i old.lexeme old.there in
       let n : is_name (sort_at (plains_in source) old.lexeme.token) ≡ true =
       ap (λ (t : Terminal). comes t (sort_at (plains_in source) old.lexeme.token) it.goes (is_direct (plains_in source) (old.lexeme.token + 1) sorts.OpenInsert) it.touches)
       (sym (only_word old.lexeme.terminal old.kind)) ∙ it.fit in
       let (first, named) = first_there i old.lexeme old.there n in
-      let inserts = inserts_by row mixed (λ old d. blocked terminals.Word first row u has old d) u in λ before spaced calm. record {
+      let inserts = inserts_by row mixed (blocked terminals.Word first row has) in λ before spaced calm. record {
         passed = _;
-        segment = begun_segment terminals.Word first row u has before spaced calm;
+        segment = begun_segment terminals.Word first row has before spaced calm;
         told = λ mode owned called.
             values.named (sort_of first.part.kind (bytes_at source i)) named
-            (yes _ _ ((more terminals.Word first row u has).inserts_so ∙ inserts)) (more terminals.Word first row u has).parts;
+            (yes _ _ ((more terminals.Word first row has).inserts_so ∙ inserts)) (more terminals.Word first row has).parts;
       }
     where
       yes : (a b : Bool) → a ≡ true → (a || b) ≡ true
       yes true b e = refl
       yes false b e = absurd (cc)
-  mixed_word (spells.begun {i = i} {value = value} opens _ close row) mixed u (written_so, has) =
-      begun_written i value close row u written_so has
-  mixed_word (spells.begun_minus {i = i} {value = value} minus opens _ close row) mixed u (written_so, has) =
-      let it = minus_there source was i minus opens in minus_written i value close row u written_so has it.dash it.sticks
+  mixed_word (spells.begun {i = i} {value = value} opens _ close row) mixed (written_so, has) =
+      begun_written i value close row written_so has
+  mixed_word (spells.begun_minus {i = i} {value = value} minus opens _ close row) mixed (written_so, has) =
+      let it = minus_there source was i minus opens in minus_written i value close row written_so has it.dash it.sticks
 
   custom_name : {i j : ℕ} {parts : Parts} {tokens : List Tok} (spelt : SpellsName source terminals.Custom i j parts tokens)
-      → name_plain source spelt ≡ true → NameHasValues spelt → NameWritten (AsName is_name terminals.Custom) Behind (joined parts) tokens
-  custom_name (name_row {i} old row) u has before spaced calm =
+      → NameHasValues spelt → NameWritten (AsName is_name terminals.Custom) Behind (joined parts) tokens
+  custom_name (name_row {i} old row) has before spaced calm =
       let it = comes_at source was i old.lexeme old.there in
       let n : is_name (sort_at (plains_in source) old.lexeme.token) ≡ true =
       ap (λ (t : Terminal). comes t (sort_at (plains_in source) old.lexeme.token) it.goes (is_direct (plains_in source) (old.lexeme.token + 1) sorts.OpenInsert) it.touches)
       (sym (only_custom old.lexeme.terminal old.kind)) ∙ it.fit in
       let (first, named) = first_there i old.lexeme old.there n in record {
         passed = _;
-        segment = begun_segment terminals.Custom first row u has before spaced calm;
-        told = as_name (sort_of first.part.kind (bytes_at source i)) named (more terminals.Custom first row u has).parts;
+        segment = begun_segment terminals.Custom first row has before spaced calm;
+        told = as_name (sort_of first.part.kind (bytes_at source i)) named (more terminals.Custom first row has).parts;
       }
 
   at_name : {i j : ℕ} {parts : Parts} {tokens : List Tok} (spelt : SpellsName source terminals.AtOther i j parts tokens)
-      → name_plain source spelt ≡ true → NameHasValues spelt
+      → NameHasValues spelt
       → NameWritten (AsAtName (at_sort (bytes_at source i)) (name_inserts spelt)) Behind (joined parts) tokens
-  at_name (name_row {i} old row) u has before spaced calm =
+  at_name (name_row {i} old row) has before spaced calm =
       let it = comes_at source was i old.lexeme old.there in
       let n : is_at (sort_at (plains_in source) old.lexeme.token) ≡ true =
       ap (λ (t : Terminal). comes t (sort_at (plains_in source) old.lexeme.token) it.goes (is_direct (plains_in source) (old.lexeme.token + 1) sorts.OpenInsert) it.touches)
       (sym (only_at old.lexeme.terminal old.kind)) ∙ it.fit in
       let (first, kind) = at_there i old.lexeme old.there n in
-      let it_is = more terminals.AtOther first row u has in record {
+      let it_is = more terminals.AtOther first row has in record {
         passed = _;
-        segment = begun_segment terminals.AtOther first row u has before spaced calm;
+        segment = begun_segment terminals.AtOther first row has before spaced calm;
         told = subst
             (λ (k : TokenKind). AsAtName (at_sort (bytes_at source i)) (row_inserts row) (is_spaced (behind_gap before (gap_of spaced)))
             (written (sort_of k (bytes_at source i)) (is_spaced (behind_gap before (gap_of spaced))) terminals.AtOther ∷ writtens it_is.joints))
@@ -422,13 +420,13 @@ module _ (Behind : Followers) (ending : Ending Behind) (source : Source) (was : 
       }
 
 pub words_written : WordsWithValuesAreWritten
-words_written source i j parts tokens was spelt mixed u has = mixed_word Follows follows_ending source was spelt mixed u has
+words_written source i j parts tokens was spelt mixed has = mixed_word Follows follows_ending source was spelt mixed has
 
 pub called_words_written : CalledWordsAreWritten
-called_words_written source i j parts tokens was spelt mixed u has = mixed_word Opens opens_ending source was spelt mixed u has
+called_words_written source i j parts tokens was spelt mixed has = mixed_word Opens opens_ending source was spelt mixed has
 
 pub at_names_written : AtNamesAreWritten
-at_names_written source i j parts tokens was spelt u has = at_name Follows follows_ending source was spelt u has
+at_names_written source i j parts tokens was spelt has = at_name Follows follows_ending source was spelt has
 
 pub custom_names_written : CustomNamesAreWritten
-custom_names_written source i j parts tokens was spelt u has = custom_name Follows follows_ending source was spelt u has
+custom_names_written source i j parts tokens was spelt has = custom_name Follows follows_ending source was spelt has

@@ -75,10 +75,6 @@ abbrev pub row_ends : {source : Source} {part opening : Terminal} {extra i j cou
 row_ends spells.row_end = true
 row_ends _ = false
 
--- digits, or a `.`
-abbrev pub begins_digits : List ℕ → Bool
-begins_digits bytes = is_digit (byte bytes 0) || (byte bytes 0 == sign ".")
-
 -- what a unit consists of, without escapes
 abbrev pub in_unit : List ℕ → Bool
 in_unit [] = true
@@ -95,28 +91,6 @@ abbrev pub digits_and_unit : List ℕ → Bool
 digits_and_unit [] = true
 digits_and_unit (b ∷ bytes) = if is_digit b then digits_and_unit bytes else is_unit (b ∷ bytes)
 
--- what begins with digits is these and a unit, or none
-abbrev pub is_plain : List ℕ → Bool
-is_plain bytes = not (begins_digits bytes) || digits_and_unit bytes
-
--- the numbers in it are plain
-abbrev pub row_plain : (source : Source) {part opening : Terminal} {extra i j count : ℕ} {inserts : List Part}
-    {tokens : List Tok} → SpellsRow source part opening extra i j inserts count tokens → Bool
-row_plain source spells.row_end = true
-row_plain source (spells.row_part {i = i} old row) =
-    is_plain (bytes_at source i) && row_plain source row
-row_plain source (spells.row_insert opens inner close row) = row_plain source row
-
-abbrev pub word_plain : (source : Source) {i j : ℕ} {parts : Parts} {tokens : List Tok}
-    → SpellsWord source i j parts tokens → Bool
-word_plain source (spells.named old row) = row_plain source row
-word_plain source (spells.begun opens inner close row) = row_plain source row
-word_plain source (spells.begun_minus minus opens inner close row) = row_plain source row
-
-abbrev pub name_plain : (source : Source) {first : Terminal} {i j : ℕ} {parts : Parts} {tokens : List Tok}
-    → SpellsName source first i j parts tokens → Bool
-name_plain source (name_row old row) = row_plain source row
-
 -- there is more than a name
 abbrev pub is_mixed : {source : Source} {i j : ℕ} {parts : Parts} {tokens : List Tok}
     → SpellsWord source i j parts tokens → Bool
@@ -131,14 +105,14 @@ AsWord spaced passed = (mode : Mode) (owned called : Bool) → Word mode spaced 
 abbrev pub WordsWithValuesAreWritten : Type 0
 WordsWithValuesAreWritten =
     (source : Source) (i j : ℕ) (parts : Parts) (tokens : List Tok) → WasRead source
-    → (spelt : SpellsWord source i j parts tokens) → is_mixed spelt ≡ true → word_plain source spelt ≡ true
+    → (spelt : SpellsWord source i j parts tokens) → is_mixed spelt ≡ true
     → WordHasValues spelt → NameWritten AsWord Follows (joined parts) tokens
 
 -- and before the arguments of a call
 abbrev pub CalledWordsAreWritten : Type 0
 CalledWordsAreWritten =
     (source : Source) (i j : ℕ) (parts : Parts) (tokens : List Tok) → WasRead source
-    → (spelt : SpellsWord source i j parts tokens) → is_mixed spelt ≡ true → word_plain source spelt ≡ true
+    → (spelt : SpellsWord source i j parts tokens) → is_mixed spelt ≡ true
     → WordHasValues spelt → NameWritten AsWord Opens (joined parts) tokens
 
 -- ---- names that begin with a token of their own
@@ -152,7 +126,7 @@ pub data AsName (fits : Sort → Bool) (terminal : Terminal) : Bool → List Wri
 abbrev pub CustomNamesAreWritten : Type 0
 CustomNamesAreWritten =
     (source : Source) (i j : ℕ) (parts : Parts) (tokens : List Tok) → WasRead source
-    → (spelt : SpellsName source terminals.Custom i j parts tokens) → name_plain source spelt ≡ true
+    → (spelt : SpellsName source terminals.Custom i j parts tokens)
     → NameHasValues spelt
     → NameWritten (AsName is_name terminals.Custom) Follows (joined parts) tokens
 
@@ -170,6 +144,6 @@ pub data AsAtName (sort : Sort) (inserts : Bool) : Bool → List Written → Typ
 abbrev pub AtNamesAreWritten : Type 0
 AtNamesAreWritten =
     (source : Source) (i j : ℕ) (parts : Parts) (tokens : List Tok) → WasRead source
-    → (spelt : SpellsName source terminals.AtOther i j parts tokens) → name_plain source spelt ≡ true
+    → (spelt : SpellsName source terminals.AtOther i j parts tokens)
     → NameHasValues spelt
     → NameWritten (AsAtName (at_sort (bytes_at source i)) (name_inserts spelt)) Follows (joined parts) tokens

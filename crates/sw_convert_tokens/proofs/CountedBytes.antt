@@ -123,7 +123,7 @@ quiet_front w = all_calm (unit_start w 0) w (start_calm w)
 -- ---- where a number begins
 
 -- a `.` and a digit are two bytes of it
-start_two : (bs : List ℕ) → is_digit (byte bs 0) ≡ false → ((byte bs 0 == sign ".") && is_digit (byte bs 1)) ≡ true
+pub start_two : (bs : List ℕ) → is_digit (byte bs 0) ≡ false → ((byte bs 0 == sign ".") && is_digit (byte bs 1)) ≡ true
     → 2 ≤ unit_start bs 0
 start_two bs none point =
     let digit = and_right (byte bs 0 == sign ".") _ point in

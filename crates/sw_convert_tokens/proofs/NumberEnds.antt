@@ -125,7 +125,7 @@ module _ (bs : List ℕ) (run : 1 < run_end classes.Unit bs 0) (plain : starts_p
               let b = behind in
               absurd (omega (arith, stop, b, run))
 
-  no_sign : (is_plus_or_minus (byte bs 1) && is_digit (byte bs 2)) ≡ false
+  pub no_sign : (is_plus_or_minus (byte bs 1) && is_digit (byte bs 2)) ≡ false
   no_sign = go (is_plus_or_minus (byte bs 1)) refl
     where
       go : (t : Bool) → is_plus_or_minus (byte bs 1) ≡ t → (t && is_digit (byte bs 2)) ≡ false

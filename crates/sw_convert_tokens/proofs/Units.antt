@@ -1,4 +1,4 @@
--- The unit of a number that was read ends before what may stand behind a value.
+-- The unit of a number that was read ends where nothing goes on with it: before what may stand behind a value, too.
 use Rattle.std.proofs.Common.{◌≡◌, ◌⊎◌, ◌≤◌, ◌<◌, ℕ, zero, suc, ◌+◌, ◌-◌, Bool, true, false, ◌&&◌, ◌||◌, if◌then◌else◌, List, [], ◌++◌, length, Option, None, inl, inr, refl, sym, ◌∙◌, ap, subst, arith}
 use Rattle.std.specs.Prelude.{◌==◌, nat_lt}
 use Rattle.std.proofs.lemmas.Bool.Decides.{nat_tests}
@@ -11,10 +11,19 @@ use Rattle.sw_text_locality.proofs.Characters.{slash_next, escape_none, Characte
 use Rattle.sw_text_locality.proofs.Characters.Character.{plain}
 use Rattle.sw_text_locality.proofs.Runs.{escape_steps}
 use Rattle.sw_convert_spelling.proofs.Again as texts
+use Rattle.sw_convert_spelling.proofs.MovedRuns as moved
 use Rattle.sw_convert_spelling.proofs.Choices.{left_no, right_no, neither}
 use Rattle.sw_convert_written.specs.Escapes.{takes_white, ends_unclosed}
 use Rattle.sw_convert_tokens.proofs.OpenEscapes.{states, states_more, Settled, nothing_open, character_state, states_text}
-use Rattle.sw_convert_tokens.proofs.Stops.{Parted, white_same}
+use Rattle.sw_convert_tokens.specs.Written.{begins_white}
+use Rattle.sw_convert_tokens.proofs.Stops.{Parted, white_same, no_escape}
+
+-- no unit goes on behind it, and an escape at its end takes nothing more
+pub record UnitEnds (w after : List ℕ) : Type 0 where
+  pub stop : next classes.Unit after 0 ≤ 0
+  pub hex : is_hex_digit (byte after 0) ≡ false
+  pub feed : (byte after 0 == LINE_FEED) ≡ false
+  pub closed : (begins_white after && ends_unclosed w) ≡ false
 
 -- no name goes on with what no unit goes on with
 no_unit : (b : ℕ) (x : Bool) → is_name_byte b ≡ false
@@ -40,6 +49,19 @@ without false false false d x e f = e
 
 no_hex : (b : ℕ) → is_name_byte b ≡ false → is_hex_digit b ≡ false
 no_hex b e = grind (arith, nat_tests)
+
+-- what goes on with no name
+pub dark_ends : (w after : List ℕ) → is_name_byte (byte after 0) ≡ false → (byte after 0 == sign "\\") ≡ false
+    → (byte after 0 == LINE_FEED) ≡ false → (begins_white after && ends_unclosed w) ≡ false → UnitEnds w after
+dark_ends w after name slash feed closed =
+    let stays =
+    if_false (goes_in_unit after 0) (0 + 1) (escape_end after 0) (no_unit (byte after 0) (starts_plainly (byte after 1)) name)
+    ∙ no_escape after slash in record {
+      stop = omega (arith, stays);
+      hex = no_hex (byte after 0) name;
+      feed = feed;
+      closed = closed;
+    }
 
 equal : (a b : ℕ) → (a == b) ≡ true → a ≡ b
 equal a b e = grind (arith, nat_tests)
@@ -78,19 +100,19 @@ module _ (w old after : List ℕ) where
   abbrev n : ℕ
   n = length w
 
-  module _ (stops : next classes.Unit bs n ≤ n) (parted : Parted w after) where
+  module _ (stops : next classes.Unit bs n ≤ n) (it : UnitEnds w after) where
     here : byte cs n ≡ byte after 0
     here = texts.behind_first w old after
 
-    none : next classes.Unit cs n ≡ n
+    none : next classes.Unit cs n ≤ n
     none =
-        if_false (goes_in_unit cs n) (n + 1) (escape_end cs n)
-        (no_unit (byte cs n) (starts_plainly (byte cs (n + 1))) (ap is_name_byte here ∙ parted.dark.name))
-        ∙ escape_none cs n (ap (λ (b : ℕ). b == sign "\\") here ∙ parted.dark.slash)
+        let place : n ≡ n + 0 = omega arith in
+        let there = ap (next classes.Unit cs) place ∙ moved.next_moved w after classes.Unit 0 in
+        let stop = it.stop in omega (arith, there, stop)
 
     stop_at : (i : ℕ) → i ≡ n → run_end classes.Unit cs i ≡ n
     stop_at i e =
-        run_stop cs classes.Unit i (let z = none in subst (λ (k : ℕ). next classes.Unit cs k ≤ k) (sym e) (omega (arith, z))) ∙ e
+        run_stop cs classes.Unit i (subst (λ (k : ℕ). next classes.Unit cs k ≤ k) (sym e) none) ∙ e
 
     -- nothing went on with the unit there
     old_dark : starts_plainly (byte bs n) ≡ false
@@ -130,7 +152,7 @@ module _ (w old after : List ℕ) where
     feed : ((byte cs (n - 1) == CARRIAGE_RETURN) && (byte cs n == LINE_FEED)) ≡ false
     feed =
         right_no (byte cs (n - 1) == CARRIAGE_RETURN) _
-        (ap (λ (b : ℕ). b == LINE_FEED) here ∙ parted.dark.feed)
+        (ap (λ (b : ℕ). b == LINE_FEED) here ∙ it.feed)
 
     -- an escape is taken as far as it was
     escape_again : (i k : ℕ) (v : Bool) → Character bs i k v → i < escape_end bs i → next classes.Unit bs i ≡ i + k → i + k ≤ n
@@ -150,7 +172,7 @@ module _ (w old after : List ℕ) where
             sym (slash_next cs i new_s)
             ∙ character_next cs i k v
             (texts.last_char w old after i k v char place
-            (no_hex (byte cs n) (ap is_name_byte here ∙ parted.dark.name)) (closed place) feed)
+            (ap is_hex_digit here ∙ it.hex) (closed place) feed)
 
     abbrev Further : ℕ → Type 0
     Further f =
@@ -215,16 +237,22 @@ module _ (w old after : List ℕ) where
             step f i m more state test settled place closed goes e
 
     -- a unit that ended with these bytes ends with them
-    pub unit_again : run_end classes.Unit bs 0 ≡ n → run_end classes.Unit cs 0 ≡ n
+    pub unit_stays : run_end classes.Unit bs 0 ≡ n → run_end classes.Unit cs 0 ≡ n
     unfolding run_end ends_unclosed
-    unit_again e =
+    unit_stays e =
         further (length bs - 0) 0 n None false (nothing_open bs 0) (let z : 0 + n ≡ n = omega arith in z)
         (e ∙ (let z : n ≡ 0 + n = omega arith in z))
         (ap (λ (x : Option ℕ). takes_white x && is_white (byte cs n)) (sym (states_text [] w old None))
         ∙ turned (ends_unclosed w) (is_white (byte cs n))
-        (ap (λ (t : Bool). t && ends_unclosed w) (ap is_white here ∙ white_same after) ∙ parted.closed))
+        (ap (λ (t : Bool). t && ends_unclosed w) (ap is_white here ∙ white_same after) ∙ it.closed))
       where
         turned : (a b : Bool) → (b && a) ≡ false → (a && b) ≡ false
         turned true true e = e
         turned true false e = refl
         turned false b e = refl
+
+-- and so before what may stand behind a value
+pub unit_again : (w old after : List ℕ) → next classes.Unit (w ++ old) (length w) ≤ length w → Parted w after
+    → run_end classes.Unit (w ++ old) 0 ≡ length w → run_end classes.Unit (w ++ after) 0 ≡ length w
+unit_again w old after stops parted =
+    unit_stays w old after stops (dark_ends w after parted.dark.name parted.dark.slash parted.dark.feed parted.closed)

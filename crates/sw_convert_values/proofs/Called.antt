@@ -26,7 +26,7 @@ use Rattle.sw_convert_tokens.specs.Calls.{is_unspecial}
 use Rattle.sw_convert_tokens.proofs.Calls.{call_written, owned_call_written, name_called, name_dotted, call_shown, named_call_text}
 use Rattle.sw_convert_tokens.proofs.Arguments.{IsItems, ArgumentsBehind}
 use Rattle.sw_convert_texts.specs.Inserted.{WordHasValues}
-use Rattle.sw_convert_texts.specs.Names.{joined, is_mixed, word_plain}
+use Rattle.sw_convert_texts.specs.Names.{joined, is_mixed}
 use Rattle.sw_convert_texts.proofs.Dotted.{mixed_dotted}
 use Rattle.sw_convert_texts.proofs.WordsWithValues.{called_words_written as mixed_called_written}
 use Rattle.sw_convert_tokens.proofs.Joins.{as_behind}
@@ -67,17 +67,17 @@ module _ (source : Source) (was : WasRead source) where
   one_called args span name_span led opens _ e it = absurd (cc)
 
   mixed_called : {i k : ℕ} {parts : Parts} {tokens others : List Tok} (args : List Argument) (span name_span : Span)
-      → (name : SpellsWord source i k parts tokens) → is_mixed name ≡ true → word_plain source name ≡ true
+      → (name : SpellsWord source i k parts tokens) → is_mixed name ≡ true
       → ends_in_url (joined parts) ≡ false → WordHasValues name
       → IsItems (with_commas true (map argument_text args)) others
       → WrittenAs (AsValue false)
       (expr_text (expression (exprs.Call (callee_of None (record { parts = parts; span = name_span })) args) span))
       (tokens ++ call_tokens others)
-  mixed_called {i} {k} {parts} {tokens} args span name_span name mixed even no_url values it =
+  mixed_called {i} {k} {parts} {tokens} args span name_span name mixed no_url values it =
       same (sym (call_shown None parts args span name_span (joined parts) refl no_url)) refl
       (call_written
       (λ before spaced calm.
-      let name_written = mixed_called_written source i k parts tokens was name mixed even values before spaced calm in record {
+      let name_written = mixed_called_written source i k parts tokens was name mixed values before spaced calm in record {
         passed = name_written.passed;
         segment = as_behind (λ after b. record { paren = opens_paren after b; named = no_url }) name_written.segment;
         told = λ mode free. name_written.told mode false true;
@@ -93,13 +93,12 @@ module _ (source : Source) (was : WasRead source) where
   called_in {parts = parts} {tokens = tokens} {others = others} args span name_span led opens name e values it = go (is_mixed name) refl e
     where
       go : (t : Bool) → is_mixed name ≡ t
-          → (if t then word_plain source name && not (ends_in_url (joined parts)) else is_name_called source false name) ≡ true
+          → (if t then not (ends_in_url (joined parts)) else is_name_called source false name) ≡ true
           → WrittenAs (AsValue false)
           (expr_text (expression (exprs.Call (callee_of None (record { parts = parts; span = name_span })) args) span))
           (tokens ++ call_tokens others)
       go true mixed f =
-          mixed_called args span name_span name mixed (and_left (word_plain source name) _ f)
-          (not_true (ends_in_url (joined parts)) (and_right (word_plain source name) _ f)) values it
+          mixed_called args span name_span name mixed (not_true (ends_in_url (joined parts)) f) values it
       go false mixed f = one_called args span name_span led opens name f it
 
   -- the same behind a namespace
@@ -126,7 +125,7 @@ module _ (source : Source) (was : WasRead source) where
 
   mixed_owned : {i k : ℕ} {parts : Parts} {tokens others : List Tok} (args : List Argument) (span name_span : Span)
       → {at : ℕ} → Old source at (just terminals.Owner)
-      → (name : SpellsWord source i k parts tokens) → is_mixed name ≡ true → word_plain source name ≡ true
+      → (name : SpellsWord source i k parts tokens) → is_mixed name ≡ true
       → ends_in_url (joined parts) ≡ false → WordHasValues name
       → IsItems (with_commas true (map argument_text args)) others
       → WrittenAs (AsValue false)
@@ -135,17 +134,17 @@ module _ (source : Source) (was : WasRead source) where
       (exprs.Call (callee_of (Some (namespaced source at)) (record { parts = parts; span = name_span })) args) span))
       (tok terminals.Owner (again.Bytes 1 (bytes_at source at)) ∷ again.sign terminals.OwnerDot
       ∷ (tokens ++ call_tokens others))
-  mixed_owned {i} {k} {parts} {tokens} args span name_span {at} owner name mixed even no_url values it =
+  mixed_owned {i} {k} {parts} {tokens} args span name_span {at} owner name mixed no_url values it =
       same
       (sym (call_shown (Some (namespaced source at)) parts args span name_span (joined parts) refl
       no_url)) refl
       (owned_call_written source at was owner
       (λ before spaced calm.
-      let name_written = mixed_called_written source i k parts tokens was name mixed even values before spaced calm in record {
+      let name_written = mixed_called_written source i k parts tokens was name mixed values before spaced calm in record {
         passed = name_written.passed;
         segment = as_behind (λ after b. record { paren = opens_paren after b; named = no_url }) name_written.segment;
         told = λ mode free. name_written.told mode true true;
-      }) (mixed_dotted source was name even values) it)
+      }) (mixed_dotted source was name values) it)
 
   pub owned_in : {i k : ℕ} {parts : Parts} {tokens others : List Tok} (args : List Argument) (span name_span : Span)
       → {at : ℕ} → Old source at (just terminals.Owner)
@@ -161,7 +160,7 @@ module _ (source : Source) (was : WasRead source) where
       go (is_mixed name) refl e
     where
       go : (t : Bool) → is_mixed name ≡ t
-          → (if t then word_plain source name && not (ends_in_url (joined parts)) else is_name_called source true name) ≡ true
+          → (if t then not (ends_in_url (joined parts)) else is_name_called source true name) ≡ true
           → WrittenAs (AsValue false)
           (expr_text
           (expression
@@ -169,6 +168,5 @@ module _ (source : Source) (was : WasRead source) where
           (tok terminals.Owner (again.Bytes 1 (bytes_at source at)) ∷ again.sign terminals.OwnerDot
           ∷ (tokens ++ call_tokens others))
       go true mixed f =
-          mixed_owned args span name_span owner name mixed (and_left (word_plain source name) _ f)
-          (not_true (ends_in_url (joined parts)) (and_right (word_plain source name) _ f)) values it
+          mixed_owned args span name_span owner name mixed (not_true (ends_in_url (joined parts)) f) values it
       go false mixed f = one_owned args span name_span owner name f it

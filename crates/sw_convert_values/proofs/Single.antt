@@ -24,10 +24,10 @@ use Rattle.sw_convert_again.specs.Spells.{from_start, Spells, SpellsWord}
 use Rattle.sw_convert_again.specs.Spells as spells
 use Rattle.sw_convert_tokens.specs.Written.{AsValue, AsRow, WrittenAs}
 use Rattle.sw_convert_tokens.specs.Values.{WasRead, IsValueWritten}
-use Rattle.sw_convert_values.specs.Values.{is_led, is_single_word, is_single, SinglesAreWritten}
+use Rattle.sw_convert_values.specs.Values.{is_led, is_single, SinglesAreWritten}
 use Rattle.sw_convert_spelling.proofs.Choices.{by_test, both}
 use Rattle.sw_convert_texts.specs.Inserted.{WordHasValues}
-use Rattle.sw_convert_texts.specs.Names.{is_mixed, word_plain}
+use Rattle.sw_convert_texts.specs.Names.{is_mixed}
 use Rattle.sw_convert_texts.proofs.WordsWithValues.{words_written as mixed_words_written}
 use Rattle.sw_convert_tokens.proofs.Rows.{row_of}
 use Rattle.sw_convert_tokens.proofs.Words.{word_written}
@@ -85,17 +85,15 @@ module _ (source : Source) (was : WasRead source) (known : SinglesAreWritten sou
       (λ e. unsigned (word_written source i span old it e))
 
   -- a word with `#{}`
-  pub mixed_in : {i j : ℕ} {parts : Parts} {tokens : List Tok} → is_led source i ≡ false → (span : Span)
+  pub mixed_in : {i j : ℕ} {parts : Parts} {tokens : List Tok} (span : Span)
       (word : SpellsWord source i j parts tokens)
-      → is_mixed word ≡ true → is_single_word source word ≡ not (word_plain source word) → WordHasValues word
+      → is_mixed word ≡ true → WordHasValues word
       → IsValueWritten source i (expr_text (expression (exprs.Word parts) span)) tokens
-  mixed_in {i} {j} {parts} {tokens} led span word mixed same_test values =
-      by_test (IsValueWritten source _ _ _) (word_plain source word)
-      (λ e. unsigned (same (sym (unrolled.word_is parts)) refl
+  mixed_in {i} {j} {parts} {tokens} span word mixed values =
+      unsigned (same (sym (unrolled.word_is parts)) refl
       (λ before spaced calm.
-      let it = mixed_words_written source i j parts tokens was word mixed e values before spaced calm in record {
+      let it = mixed_words_written source i j parts tokens was word mixed values before spaced calm in record {
         passed = it.passed;
         segment = it.segment;
         told = λ mode free. passing.word (it.told mode false false);
-      })))
-      (λ e. single led (spells.word span word) (same_test ∙ ap not e))
+      }))

@@ -130,15 +130,15 @@ module _ (source : Source) (was : WasRead source) (known : SinglesAreWritten sou
     either led (spells.range {i} span old) = inl (unsigned (range_written source i span was old))
     either led (spells.word span (spells.named old spells.row_end)) = inl (name_in source was known led span old)
     either led (spells.word span (spells.named old (spells.row_part one more))) =
-        inl (mixed_in source was known led span (spells.named old (spells.row_part one more)) refl refl (row_values refl more))
+        inl (mixed_in source was known span (spells.named old (spells.row_part one more)) refl (row_values refl more))
     either led (spells.word span (spells.named old (spells.row_insert {value = value} opens inner close more))) =
-        inl (mixed_in source was known led span (spells.named old (spells.row_insert opens inner close more)) refl refl
+        inl (mixed_in source was known span (spells.named old (spells.row_insert opens inner close more)) refl
         (row_in value (either (behind_old opens refl) inner), row_values refl more))
     either led (spells.word span (spells.begun {value = value} opens inner close more)) =
-        inl (mixed_in source was known led span (spells.begun opens inner close more) refl refl
+        inl (mixed_in source was known span (spells.begun opens inner close more) refl
         (row_in value (either (behind_old opens refl) inner), row_values refl more))
     either led (spells.word span (spells.begun_minus {value = value} minus opens inner close more)) =
-        inl (mixed_in source was known led span (spells.begun_minus minus opens inner close more) refl refl
+        inl (mixed_in source was known span (spells.begun_minus minus opens inner close more) refl
         (row_in value (either (behind_old opens refl) inner), row_values refl more))
     either led (spells.call {args = args} span name_span name opens inner close) =
         inl (by_test (IsWritten _ _ _) (is_called source false name)

@@ -18,7 +18,7 @@ use Rattle.sw_convert_again.specs.Spells as spells
 use Rattle.sw_convert_tokens.specs.Written.{AsValue, AsRow, WrittenAs}
 use Rattle.sw_convert_tokens.specs.Values.{WasRead}
 use Rattle.sw_convert_tokens.specs.Calls.{is_unspecial}
-use Rattle.sw_convert_texts.specs.Names.{joined, is_mixed, word_plain}
+use Rattle.sw_convert_texts.specs.Names.{joined, is_mixed}
 use Rattle.sw_convert_texts.specs.Urls.{is_unbroken}
 
 -- ---- where a value stands
@@ -53,13 +53,12 @@ goes_on source at = part_in (lexeme_at source at)
 
 -- ---- single values
 
--- the first token of a word with `#{}`, by whose name a constant or an operator is meant elsewhere, and words with `#{}` in
--- which a number isn't plain
+-- the first token of a word with `#{}`, by whose name a constant or an operator is meant elsewhere
 abbrev pub is_single_word : (source : Source) {i j : ℕ} {parts : Parts} {tokens : List Tok}
     → SpellsWord source i j parts tokens → Bool
 is_single_word source (spells.named {i} old spells.row_end) =
     is_reserved (word_sort (bytes_at source i)) && goes_on source (suc i)
-is_single_word source word = not (word_plain source word)
+is_single_word source word = false
 
 -- one name that is no url: by itself that of no special function, and behind a namespace that of no constant or operator,
 -- which the text of a special function has there
@@ -74,7 +73,7 @@ is_name_called source owned _ = false
 abbrev pub is_called : (source : Source) (owned : Bool) {i j : ℕ} {parts : Parts} {tokens : List Tok}
     → SpellsWord source i j parts tokens → Bool
 is_called source owned {parts = parts} word =
-    if is_mixed word then word_plain source word && not (ends_in_url (joined parts)) else is_name_called source owned word
+    if is_mixed word then not (ends_in_url (joined parts)) else is_name_called source owned word
 
 abbrev pub has_arguments : List Argument → Bool
 has_arguments [] = false
