@@ -57,7 +57,7 @@ passed_calm {plains} (begins {state} {at = at} plain one is_plain code start ign
     passed_calm p
     (ap are_white (after_keeps (placed state plains at) (terminal_of (placed state plains at) plains at))
     ∙ placed_calm state plains at start code)
-passed_calm (comment {state} plain one is_plain here start ignored p) c =
+passed_calm (comment {state} plain one none is_plain here start ignored p) c =
     passed_calm p (ap are_white (white_keeps state plain.sort) ∙ c)
 
 -- behind the first token of a statement, and others
@@ -68,11 +68,11 @@ first_calm {plains} (begins {state} {at = at} plain one is_plain code start igno
     passed_calm p
     (ap are_white (after_keeps (placed state plains at) (terminal_of (placed state plains at) plains at))
     ∙ placed_calm state plains at start code)
-first_calm (comment plain one is_plain here start ignored p) s = absurd (cc)
+first_calm (comment plain one none is_plain here start ignored p) s = absurd (cc)
 
 pub begun_calm : {plains : List Plain} {state end : State} {at to : ℕ} {tokens : List Written} {lexemes : List Lexeme}
     → Passed plains state at tokens lexemes end to → state.start ≡ true → end.start ≡ false → Calm end
 begun_calm nothing s e = absurd (cc)
 begun_calm (token plain one i c b g m p) s e = first_calm (token plain one i c b g m p) s
 begun_calm (begins plain one i c b g m p) s e = first_calm (begins plain one i c b g m p) s
-begun_calm (comment plain one i c b g p) s e = first_calm (comment plain one i c b g p) s
+begun_calm (comment plain one n i c b g p) s e = first_calm (comment plain one n i c b g p) s

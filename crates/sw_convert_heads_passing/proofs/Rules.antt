@@ -145,7 +145,7 @@ restart {plains} {end = end} {at = at} {to = to} (token {tokens = rest} {lexemes
           p),
     )
 restart (begins plain one is_plain code on ignored among p) b c state start free told same = absurd (cc)
-restart (comment plain one is_plain here off ignored p) b c state start free told same =
+restart (comment plain one none is_plain here off ignored p) b c state start free told same =
     absurd (true_no (sym (ap is_comment here) ∙ c))
   where
     true_no : true ≡ false → ⊥

@@ -28,7 +28,7 @@ seen_of {plains} (token {state} {at = at} plain one is_plain code start ignored 
 seen_of {plains} (begins {state} {at = at} plain one is_plain code start ignored among p) (there, stand) =
     seen one (lexeme_of plain at (placed state plains at).commented (terminal_of (placed state plains at) plains at)) refl
     among (seen_of p stand)
-seen_of (comment plain one is_plain here start ignored p) (there, stand) =
+seen_of (comment plain one none is_plain here start ignored p) (there, stand) =
     unseen one (sym there.sort ∙ here) (seen_of p stand)
 
 passed_to : {plains : List Plain} {state end : State} {at to : ℕ} {tokens : List Written} {lexemes : List Lexeme}
@@ -36,7 +36,7 @@ passed_to : {plains : List Plain} {state end : State} {at to : ℕ} {tokens : Li
 passed_to nothing place e = sym e
 passed_to (token plain one is_plain code start ignored among p) place (there, stand) = passed_to p place stand
 passed_to (begins plain one is_plain code start ignored among p) place (there, stand) = passed_to p place stand
-passed_to (comment plain one is_plain here start ignored p) place (there, stand) = passed_to p place stand
+passed_to (comment plain one none is_plain here start ignored p) place (there, stand) = passed_to p place stand
 
 run_to : {plains : List Plain} {state end : State} {at to : ℕ} {tokens : List Written} {lexemes : List Lexeme}
     → Run plains state at tokens lexemes end to → (place : ℕ) → Stand plains at tokens place → place ≡ to

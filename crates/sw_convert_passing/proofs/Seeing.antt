@@ -76,7 +76,7 @@ module _ (plains : List Plain) where
       ∙ ap (λ (x : List Lexeme).
       lexeme_of plain at (placed state plains at).commented (terminal_of (placed state plains at) plains at) ∷ x)
       (seen p)
-  seen (comment {state} {end} {at} {to} {tokens} {lexemes} plain another is_plain here start ignored p) =
+  seen (comment {state} {end} {at} {to} {tokens} {lexemes} plain another none is_plain here start ignored p) =
       one state at plain (skipped state plain) is_plain (read_skipped state at plain start ignored here)
       ∙ seen p
 

@@ -222,10 +222,10 @@ module _ (plains : List Plain) where
       text_same_of state at (inr e) = absurd e
   no_text {state = state} {at = at} name n (token _ _ _ _ _ _ kind (begins _ _ _ _ begun _ _ _)) stand start =
       absurd (starts_no (name_behind state (terminal_of state plains at) kind).start begun)
-  no_text name n (token _ _ _ _ _ _ kind (comment _ _ _ white _ _ _)) (there, (next, _)) start =
+  no_text name n (token _ _ _ _ _ _ kind (comment _ _ _ _ white _ _ _)) (there, (next, _)) start =
       absurd (colon_code _ next.sort white)
   no_text name n (begins _ _ _ _ begun _ _ _) stand start = absurd (starts_no start begun)
-  no_text name n (comment _ _ _ white _ _ _) (there, _) start = absurd (name_code _ n (sym there.sort ∙ white))
+  no_text name n (comment _ _ _ _ white _ _ _) (there, _) start = absurd (name_code _ n (sym there.sort ∙ white))
 
   named_only : (terminal : Terminal) → NoDollar terminal → Among terminal (terminals.Dollar ∷ terminals.DollarNamed ∷ [])
       → Among terminal (terminals.DollarNamed ∷ [])
@@ -256,8 +256,8 @@ module _ (plains : List Plain) where
       token plain one got code start ignored kind (settle s more stand)
   settle (settled_same one s) (begins plain _ got code start ignored kind more) (there, stand) =
       begins plain one got code start ignored kind (settle s more stand)
-  settle (settled_same one s) (comment plain _ got white start ignored more) (there, stand) =
-      comment plain one got white start ignored (settle s more stand)
+  settle (settled_same one s) (comment plain _ none got white start ignored more) (there, stand) =
+      comment plain one none got white start ignored (settle s more stand)
   settle (settled_dollar {spaced = spaced} {rest = rest} name e s) {state = state} {at = at} {to = to}
       (token plain _ got code start ignored kind more) (there, stand) =
       token plain (written sorts.Dollar spaced terminals.Dollar) got code start ignored
@@ -277,12 +277,12 @@ module _ (plains : List Plain) where
       (begins plain _ got code start ignored kind more) (there, stand) =
       begins plain (written sorts.Dollar spaced terminals.DollarNamed) got code start ignored
       (named_here (placed state plains at) at there.sort kind name n more stand) (settle s more stand)
-  settle (settled_named name n s) (comment plain _ got white start ignored more) (there, stand) =
+  settle (settled_named name n s) (comment plain _ none got white start ignored more) (there, stand) =
       absurd (let wrong : sorts.Dollar ≡ sorts.Comment = sym there.sort ∙ white in dollar_code wrong)
     where
       dollar_code : sorts.Dollar ≡ sorts.Comment → ⊥
       dollar_code e = cc
-  settle (settled_dollar name e s) (comment plain _ got white start ignored more) (there, stand) =
+  settle (settled_dollar name e s) (comment plain _ none got white start ignored more) (there, stand) =
       absurd (let wrong : sorts.Dollar ≡ sorts.Comment = sym there.sort ∙ white in no_dollar wrong)
     where
       no_dollar : sorts.Dollar ≡ sorts.Comment → ⊥

@@ -36,7 +36,7 @@ append : (plains : List Plain) {others : List Written} {more : List Lexeme} {end
 append plains nothing q = q
 append plains (token plain one i c s g m p) q = token plain one i c s g m (append plains p q)
 append plains (begins plain one i c s g m p) q = begins plain one i c s g m (append plains p q)
-append plains (comment plain one i c s g p) q = comment plain one i c s g (append plains p q)
+append plains (comment plain one n i c s g p) q = comment plain one n i c s g (append plains p q)
 
 pub join : {plains : List Plain} {state middle end : State} {at place to : ℕ} {tokens others : List Written}
     → Reads plains state at tokens middle place → Reads plains middle place others end to
@@ -95,7 +95,7 @@ seam_step plains state at within there =
     let (plain, is_plain) = plain_at plains at there.within in
     subst (λ (s : Sort). Reads plains state at (seam ∷ []) (past_white state s) (at + 1))
     (sym (sort_is plains at plain is_plain) ∙ there.sort)
-    ([], comment plain seam is_plain there.sort within.no_start within.no_comment nothing)
+    ([], comment plain seam refl is_plain there.sort within.no_start within.no_comment nothing)
 
 pub record Seamed (mode : Mode) (frames : List Frame) (state : State) : Type 0 where
   pub before : (past_white state sorts.Comment).before ≡ state.before

@@ -67,9 +67,9 @@ pub data Passed (plains : List Plain) : State → ℕ → List Written → List 
       (lexeme_of plain at (placed state plains at).commented
       (terminal_of (placed state plains at) plains at) ∷ lexemes) end
       to
-  -- a comment is white space
+  -- a comment is white space, and is written as no terminal
   comment : {state end : State} {at to : ℕ} {tokens : List Written} {lexemes : List Lexeme}
-      → (plain : Plain) (one : Written)
+      → (plain : Plain) (one : Written) → one.may_be ≡ []
       → slice_get plains at ≡ Some plain → sort_at plains at ≡ sorts.Comment → state.start ≡ false → state.ignored ≡ 0
       → Passed plains (past_white state plain.sort) (at + 1) tokens lexemes end to
       → Passed plains state at (one ∷ tokens) lexemes end to

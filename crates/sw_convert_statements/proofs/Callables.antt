@@ -4,7 +4,7 @@ use Rattle.std.specs.Prelude.{codes}
 use Rattle.sw_text.specs.Names.{dashed}
 use Rattle.sw_text_scan.specs.Bytes.{sign, byte}
 use Rattle.sw_text_scan.specs.Runs.{begins_name, escape_end, run_end}
-use Rattle.sw_text_scan.proofs.Bounds.{if_true, if_false}
+use Rattle.sw_text_scan.proofs.Bounds.{if_true, if_false, not_true}
 use Rattle.sw_tree.specs.declared.callable.Kind.TheVariants as callables
 use Rattle.sw_tree.specs.declared.callable.Param.{Param}
 use Rattle.sw_tree.specs.declared.callable.Params.{Params as TreeParams}
@@ -14,6 +14,7 @@ use Rattle.sw_tokens.specs.declared.token.TokenKind.TheVariants as kinds
 use Rattle.sw_tokens.specs.Pieces.{name_piece}
 use Rattle.sw_tokens.specs.Tokens.{is_spaced}
 use Rattle.sw_parse_terminals.specs.declared.terminal.Terminal.TheVariants as terminals
+use Rattle.sw_parse_terminals.specs.Numbers.{just}
 use Rattle.sw_parse_lexemes.specs.declared.sort.Sort.{Sort}
 use Rattle.sw_parse_lexemes.specs.declared.sort.Sort.TheVariants as sorts
 use Rattle.sw_parse_lexemes.specs.declared.state.Mode.TheVariants as modes
@@ -39,11 +40,11 @@ use Rattle.sw_convert_tokens.proofs.Stops.{Behind, follows_parts, parted_behind,
 use Rattle.sw_convert_tokens.proofs.Unclosed.{space_ends, follows_end}
 use Rattle.sw_convert_heads_passing.specs.Members.{function_head, mixin_head, lone_mixin_head, params_in}
 use Rattle.sw_convert_heads_passing.specs.Statements.{belonging}
+use Rattle.sw_convert_texts.proofs.OldNames.{NamedSo, named_there}
 use Rattle.sw_convert_statements.specs.Segments.{FrontWritten}
-use Rattle.sw_convert_statements.specs.OneName.{is_one_name}
-use Rattle.sw_convert_statements.specs.Fronts.{ValuesAreKnown}
+use Rattle.sw_convert_statements.specs.Fronts.{ValuesAreKnown, is_callable}
 use Rattle.sw_convert_statements.proofs.Keywords.{keyword}
-use Rattle.sw_convert_statements.proofs.OneName.{IsOneName, one_name, name_segment, name_sort, dashed_text}
+use Rattle.sw_convert_statements.proofs.OneName.{name_segment, name_sort, dashed_text}
 use Rattle.sw_convert_statements.proofs.Params.{parens_written}
 use Rattle.sw_convert_statements.proofs.Segments.{sheet, join, as_text, as_behind, text_follows}
 
@@ -64,9 +65,9 @@ some_there params some = go params.items params.rest some
     go (x ∷ items) rest s = refl
 
 -- `using` before a space
-using_name : IsOneName (codes "using")
+using_name : NamedSo (codes "using")
 unfolding name_piece byte begins_name escape_end run_end
-using_name = record { kind = kinds.Word; named = refl; some = lit< tt; piece_is = refl; no_url = refl }
+using_name = record { kind = kinds.Word; named = refl; some = lit< tt; rest = []; piece_is = refl }
 
 pub word_using : (before : Before) → Segment before (codes " using") (again.sign terminals.Using ∷ [])
     (apart sorts.Using terminals.Using ∷ []) befores.Other BeginsSpace
@@ -81,29 +82,27 @@ word_using before =
 pub record IsMember (source : Source) (i : ℕ) : Type 0 where
   pub sort : Sort
   pub is : is_name sort ≡ true
-  pub no_url : is_url (name_text (name_at source i)) ≡ false
   pub segment : Segment befores.Other (codes " " ++ name_text (name_at source i))
       (tok terminals.Named (Dashed (name_at source i)) ∷ []) (apart sort terminals.Named ∷ []) befores.Other
       (Behind (name_text (name_at source i)))
 
-pub member_written : (source : Source) (i : ℕ) → is_one_name (name_text (name_at source i)) ≡ true → IsMember source i
-member_written source i t =
+pub member_written : (source : Source) (i : ℕ) → WasRead source → Old source i (just terminals.Named) → IsMember source i
+member_written source i was old =
     let name = name_text (name_at source i) in
-    let it = one_name name t in record {
+    let it = (named_there source was i old).kept in record {
       sort = sort_of it.kind name;
       is = name_sort name it;
-      no_url = it.no_url;
       segment = name_segment name it terminals.Named (Dashed (name_at source i)) befores.Other true refl
           (λ new at same. ap dashed same ∙ dashed_text (bytes_at source i));
     }
 
 module _ (source : Source) (was : WasRead source) (values : ValuesAreKnown source) where
-  pub function_written : (i : ℕ) → is_one_name (name_text (name_at source i)) ≡ true → {j k : ℕ} {params : TreeParams}
+  pub function_written : (i : ℕ) → Old source i (just terminals.Named) → is_callable source i ≡ true → {j k : ℕ} {params : TreeParams}
       {tokens : List Tok} → SpellsHeadParams source j k params tokens
       → FrontWritten modes.Head (callable_head callables.Function (name_at source i) params)
       (again.sign terminals.AtFunction ∷ tok terminals.Named (Dashed (name_at source i)) ∷ tokens)
-  function_written i t {params = params} head before calm =
-      let name = member_written source i t in
+  function_written i old t {params = params} head before calm =
+      let name = member_written source i was old in
       let parens = parens_written source was values head false in
       let text = name_text (name_at source i) in record {
         passed = written sorts.AtFunction (is_spaced before) terminals.AtFunction ∷ apart name.sort terminals.Named
@@ -114,16 +113,16 @@ module _ (source : Source) (was : WasRead source) (values : ValuesAreKnown sourc
         loose = λ u. refl;
         segment = as_behind (λ after e. tt)
             (join (sheet ((keyword terminals.AtFunction sorts.AtFunction refl).segment before calm))
-            (join (sheet name.segment) (sheet parens.segment) (λ after ok. paren_behind text _ name.no_url))
+            (join (sheet name.segment) (sheet parens.segment) (λ after ok. paren_behind text _ (not_true (is_url text) t)))
             (λ after ok. ((text ++ params_text params) ++ after, inl refl)));
       }
 
-  mixin_parens : (i : ℕ) → is_one_name (name_text (name_at source i)) ≡ true → {j k : ℕ} {params : TreeParams}
+  mixin_parens : (i : ℕ) → Old source i (just terminals.Named) → is_callable source i ≡ true → {j k : ℕ} {params : TreeParams}
       {tokens : List Tok} → SpellsHeadParams source j k params tokens
       → FrontWritten modes.Head (codes "@mixin " ++ (name_text (name_at source i) ++ params_text params))
       (again.sign terminals.AtMixin ∷ tok terminals.Named (Dashed (name_at source i)) ∷ tokens)
-  mixin_parens i t {params = params} head before calm =
-      let name = member_written source i t in
+  mixin_parens i old t {params = params} head before calm =
+      let name = member_written source i was old in
       let parens = parens_written source was values head false in
       let text = name_text (name_at source i) in record {
         passed = written sorts.AtMixin (is_spaced before) terminals.AtMixin ∷ apart name.sort terminals.Named
@@ -134,15 +133,15 @@ module _ (source : Source) (was : WasRead source) (values : ValuesAreKnown sourc
         loose = λ u. refl;
         segment = as_behind (λ after e. tt)
             (join (sheet ((keyword terminals.AtMixin sorts.AtMixin refl).segment before calm))
-            (join (sheet name.segment) (sheet parens.segment) (λ after ok. paren_behind text _ name.no_url))
+            (join (sheet name.segment) (sheet parens.segment) (λ after ok. paren_behind text _ (not_true (is_url text) t)))
             (λ after ok. ((text ++ params_text params) ++ after, inl refl)));
       }
 
-  lone_mixin : (i : ℕ) → is_one_name (name_text (name_at source i)) ≡ true
+  lone_mixin : (i : ℕ) → Old source i (just terminals.Named)
       → FrontWritten modes.Head (codes "@mixin " ++ (name_text (name_at source i) ++ []))
       (again.sign terminals.AtMixin ∷ tok terminals.Named (Dashed (name_at source i)) ∷ [])
-  lone_mixin i t before calm =
-      let name = member_written source i t in
+  lone_mixin i old before calm =
+      let name = member_written source i was old in
       let text = name_text (name_at source i) in record {
         passed = written sorts.AtMixin (is_spaced before) terminals.AtMixin ∷ apart name.sort terminals.Named ∷ [];
         front = belonging (lone_mixin_head name.sort name.is);
@@ -158,16 +157,16 @@ module _ (source : Source) (was : WasRead source) (values : ValuesAreKnown sourc
             (join (sheet ((keyword terminals.AtMixin sorts.AtMixin refl).segment before calm)) (sheet name.segment) (λ after ok. (text ++ after, inl refl))));
       }
 
-  pub mixin_written : (i : ℕ) → is_one_name (name_text (name_at source i)) ≡ true → {j k : ℕ} {params : TreeParams}
+  pub mixin_written : (i : ℕ) → Old source i (just terminals.Named) → is_callable source i ≡ true → {j k : ℕ} {params : TreeParams}
       {tokens : List Tok} → SpellsOptionalParams source j k params tokens
       → FrontWritten modes.Head (callable_head callables.Mixin (name_at source i) params)
       (again.sign terminals.AtMixin ∷ tok terminals.Named (Dashed (name_at source i)) ∷ tokens)
-  mixin_written i t no_head = lone_mixin i t
-  mixin_written i t (empty_head {params = params} head items rest) =
+  mixin_written i old t no_head = lone_mixin i old
+  mixin_written i old t (empty_head {params = params} head items rest) =
       subst
       (λ (x : List ℕ). FrontWritten modes.Head (codes "@mixin " ++ (name_text (name_at source i) ++ x)) (again.sign terminals.AtMixin ∷ tok terminals.Named (Dashed (name_at source i)) ∷ []))
-      (sym (if_true (has_none params) [] (params_text params) (none_there params items rest))) (lone_mixin i t)
-  mixin_written i t (some_head {params = params} {tokens = tokens} head some) =
+      (sym (if_true (has_none params) [] (params_text params) (none_there params items rest))) (lone_mixin i old)
+  mixin_written i old t (some_head {params = params} {tokens = tokens} head some) =
       subst
       (λ (x : List ℕ). FrontWritten modes.Head (codes "@mixin " ++ (name_text (name_at source i) ++ x)) (again.sign terminals.AtMixin ∷ tok terminals.Named (Dashed (name_at source i)) ∷ tokens))
-      (sym (if_false (has_none params) [] (params_text params) (some_there params some))) (mixin_parens i t head)
+      (sym (if_false (has_none params) [] (params_text params) (some_there params some))) (mixin_parens i old t head)

@@ -3,7 +3,6 @@ use Rattle.std.proofs.Common.{◌≡◌, ℕ, suc, true, false, List, [], ◌∷
 use Rattle.std.specs.Prelude.{◌-◌, ◌==◌, length, codes}
 use Rattle.sw_text_scan.specs.declared.signs.TheConstants.{CARRIAGE_RETURN}
 use Rattle.sw_text_scan.specs.Bytes.{sign, byte}
-use Rattle.sw_text_scan.proofs.Bounds.{and_left, and_right}
 use Rattle.sw_tree.specs.declared.load.Filter.{Filter}
 use Rattle.sw_tree.specs.declared.load.Given.{Given}
 use Rattle.sw_tree.specs.declared.load.Member.{Member}
@@ -40,12 +39,13 @@ use Rattle.sw_convert_heads_passing.specs.Loads.{is_url, ForwardPrefix, MemberNa
 use Rattle.sw_convert_heads_passing.specs.Statements.{loading}
 use Rattle.sw_convert_texts.specs.RawTexts.{SheetSegment}
 use Rattle.sw_convert_statements.specs.Segments.{FrontWritten}
-use Rattle.sw_convert_statements.specs.Fronts.{ValuesAreKnown, is_prefix, is_member, are_members, is_filter}
+use Rattle.sw_convert_texts.proofs.OldNames.{prefix_there}
+use Rattle.sw_convert_statements.specs.Fronts.{ValuesAreKnown}
 use Rattle.sw_convert_statements.proofs.Callables.{name_ends, member_written}
 use Rattle.sw_convert_statements.proofs.ForwardConfigurations.{forward_configured}
 use Rattle.sw_convert_statements.proofs.Keywords.{keyword, spaced_word}
 use Rattle.sw_convert_statements.proofs.Loads.{quoted_told, url_segment}
-use Rattle.sw_convert_statements.proofs.OneName.{one_name, name_segment, name_sort}
+use Rattle.sw_convert_statements.proofs.OneName.{name_segment, name_sort}
 use Rattle.sw_convert_statements.proofs.Params.{comma_segment, behind_comma, variable_at}
 use Rattle.sw_convert_statements.proofs.Segments.{sheet, text_follows}
 use Rattle.sw_convert_statements.proofs.Segments as segments
@@ -86,12 +86,12 @@ star_segment =
     sign_segment kinds.Star (codes "*") (terminals.PrefixStar ∷ []) befores.Other false Anything refl refl refl (lit< tt)
     (λ inside after code ok. sign_token kinds.Star after inside befores.Other refl code refl refl)
 
-prefix_written : (source : Source) {i j : ℕ} {prefix : Option (List ℕ)} {tokens : List Tok}
-    → (it : SpellsPrefix source i j prefix tokens) → is_prefix source it ≡ true → IsPrefix (prefix_text prefix) tokens
-prefix_written source spells.no_prefix t = record { passed = []; are = no_prefix; segment = nothing }
-prefix_written source (spells.some_prefix {i} as_word name star) t =
+prefix_written : (source : Source) → WasRead source → {i j : ℕ} {prefix : Option (List ℕ)} {tokens : List Tok}
+    → (it : SpellsPrefix source i j prefix tokens) → IsPrefix (prefix_text prefix) tokens
+prefix_written source was spells.no_prefix = record { passed = []; are = no_prefix; segment = nothing }
+prefix_written source was (spells.some_prefix {i} as_word name star) =
     let text = bytes_at source (suc i) in
-    let it = one_name text t in record {
+    let it = (prefix_there source was (suc i) name).stood in record {
       passed = _;
       are = as_prefix (sort_of it.kind text) (name_sort text it);
       segment = join (spaced_word sorts.As refl befores.Other)
@@ -109,14 +109,14 @@ record IsNamed (text : List ℕ) (tokens : List Tok) : Type 0 where
   segment : Segment befores.Other (codes " " ++ text) tokens passed befores.Other (Follows text)
 
 member_named : (source : Source) → WasRead source → {i j : ℕ} {member : Member} {tokens : List Tok}
-    → (it : SpellsMember source i j member tokens) → is_member source it ≡ true → IsNamed (member_text member) tokens
-member_named source was (spells.named_member {i} old) t =
-    let name = member_written source i t in record {
+    → (it : SpellsMember source i j member tokens) → IsNamed (member_text member) tokens
+member_named source was (spells.named_member {i} old) =
+    let name = member_written source i was old in record {
       passed = _;
       are = named_member name.sort name.is;
       segment = as_behind (λ after f. name_ends _ after f) name.segment;
     }
-member_named source was (spells.variable_member {i} sign_of old) t =
+member_named source was (spells.variable_member {i} sign_of old) =
     let name = variable_at source was (suc i) old true in
     record { passed = _; are = variable_member name.sort name.is; segment = name.segment }
 
@@ -131,15 +131,13 @@ same_named {xs} {ys} {ks} {ls} e f it =
 
 more_named : (source : Source) → WasRead source → {i j : ℕ} {members : List Member} {ks others : List Tok}
     {first : List ℕ} → IsNamed first ks → (more : SpellsMoreMembers source i j members others)
-    → are_members source more ≡ true
     → AreNamed (first ++ with_commas false (map member_text members)) (ks ++ others)
-more_named source was {ks = ks} {first = first} one spells.no_more_members t =
+more_named source was {ks = ks} {first = first} one spells.no_more_members =
     same_named (sym (append-nil first)) (sym (append-nil ks))
     (record { passed = one.passed; are = one_member one.are; segment = one.segment })
 more_named source was {first = first} one
-    (spells.more_members {member = member} {members = members} comma it more) t =
-    let rest = more_named source was (member_named source was it (and_left (is_member source it) _ t)) more
-    (and_right (is_member source it) _ t) in
+    (spells.more_members {member = member} {members = members} comma it more) =
+    let rest = more_named source was (member_named source was it) more in
     let text = member_text member ++ with_commas false (map member_text members) in record {
       passed = _;
       are = more_members one.are rest.are;
@@ -158,18 +156,17 @@ record IsFilter (text : List ℕ) (tokens : List Tok) : Type 0 where
   segment : Segment befores.Other text tokens passed befores.Other (Follows last)
 
 filter_written : (source : Source) → WasRead source → {i j : ℕ} {filter : Filter} {tokens : List Tok}
-    → (it : SpellsFilter source i j filter tokens) → is_filter source it ≡ true → IsFilter (filter_text filter) tokens
+    → (it : SpellsFilter source i j filter tokens) → IsFilter (filter_text filter) tokens
 unfolding ends_unclosed
-filter_written source was spells.no_filter t = record {
+filter_written source was spells.no_filter = record {
   passed = [];
   are = no_filter;
   last = [];
   ends = λ front after f. record { stop = f.stop; closed = right_no _ _ refl };
   segment = nothing;
 }
-filter_written source was (spells.shown {member = member} {members = members} old one more) t =
-    let names = more_named source was (member_named source was one (and_left (is_member source one) _ t)) more
-    (and_right (is_member source one) _ t) in
+filter_written source was (spells.shown {member = member} {members = members} old one more) =
+    let names = more_named source was (member_named source was one) more in
     let text = member_text member ++ with_commas false (map member_text members) in record {
       passed = _;
       are = shown names.are;
@@ -179,9 +176,8 @@ filter_written source was (spells.shown {member = member} {members = members} ol
           (subst (λ (x : List ℕ). Follows x after) (sym (append_assoc front (codes " show") (codes " " ++ text))) f);
       segment = join (spaced_word sorts.Show refl befores.Other) names.segment (λ after ok. (text ++ after, refl));
     }
-filter_written source was (spells.hidden {member = member} {members = members} old one more) t =
-    let names = more_named source was (member_named source was one (and_left (is_member source one) _ t)) more
-    (and_right (is_member source one) _ t) in
+filter_written source was (spells.hidden {member = member} {members = members} old one more) =
+    let names = more_named source was (member_named source was one) more in
     let text = member_text member ++ with_commas false (map member_text members) in record {
       passed = _;
       are = hidden names.are;
@@ -214,14 +210,14 @@ module _ (source : Source) (i : ℕ) (was : WasRead source) where
   address_token = tok terminals.LoadUrl (Decoded (decoded_at source i))
 
   forward_of : {j k m : ℕ} {prefix : Option (List ℕ)} {filter : Filter} {tokens others : List Tok}
-      → (renamed : SpellsPrefix source j k prefix tokens) → is_prefix source renamed ≡ true
-      → (members : SpellsFilter source k m filter others) → is_filter source members ≡ true → (before : Before)
+      → (renamed : SpellsPrefix source j k prefix tokens) → (members : SpellsFilter source k m filter others)
+      → (before : Before)
       → is_calm before ≡ true
       → IsForward (codes "@forward " ++ (address ++ (prefix_text prefix ++ filter_text filter)))
       (again.sign terminals.AtForward ∷ address_token ∷ (tokens ++ others)) before
-  forward_of {prefix = prefix} {filter = filter} renamed t members u before calm =
-      let one = prefix_written source renamed t in
-      let two = filter_written source was members u in
+  forward_of {prefix = prefix} {filter = filter} renamed members before calm =
+      let one = prefix_written source was renamed in
+      let two = filter_written source was members in
       let tail = prefix_text prefix ++ filter_text filter in
       let front = codes "@forward " ++ (address ++ prefix_text prefix) in
       let whole : front ++ filter_text filter ≡ codes "@forward " ++ (address ++ tail) =
@@ -242,13 +238,12 @@ module _ (source : Source) (i : ℕ) (was : WasRead source) where
 
   pub forward_written : ValuesAreKnown source → {j k m l : ℕ} {prefix : Option (List ℕ)} {filter : Filter}
       {givens : List Given} {tokens others more : List Tok} → (renamed : SpellsPrefix source j k prefix tokens)
-      → is_prefix source renamed ≡ true → (members : SpellsFilter source k m filter others)
-      → is_filter source members ≡ true → SpellsConfiguration source true m l givens more
+      → (members : SpellsFilter source k m filter others) → SpellsConfiguration source true m l givens more
       → FrontWritten modes.Forward
       (configured givens (codes "@forward " ++ (address ++ (prefix_text prefix ++ filter_text filter))))
       (again.sign terminals.AtForward ∷ address_token ∷ (tokens ++ (others ++ more)))
-  forward_written values {tokens = tokens} {others = others} {more = more} renamed t members u settings before calm =
-      let it = forward_of renamed t members u before calm in
+  forward_written values {tokens = tokens} {others = others} {more = more} renamed members settings before calm =
+      let it = forward_of renamed members before calm in
       let all = forward_configured was values it.segment settings in
       let head = written sorts.AtForward (is_spaced before) terminals.AtForward in
       let url = apart it.sort terminals.LoadUrl in record {

@@ -17,11 +17,13 @@ use Rattle.sw_convert_again.specs.Tokens as again
 use Rattle.sw_convert_again.specs.Statements.{SpellsStatement, say_name}
 use Rattle.sw_convert_again.specs.Statements as spells
 use Rattle.sw_convert_values.proofs.Starts.{is_clear, behind_old}
-use Rattle.sw_convert_statements.specs.Fronts.{is_unbounded, is_prefix, FrontsAreWritten, BranchesAreWritten}
+use Rattle.sw_convert_statements.specs.Fronts.{is_unbounded, FrontsAreWritten, BranchesAreWritten}
 use Rattle.sw_convert_statements.specs.Media.{is_seamless}
 use Rattle.sw_convert_statements.proofs.Queries.{media_written}
 use Rattle.sw_convert_statements.proofs.Valued.{return_written, say_written, if_written, while_written, else_if_written}
 use Rattle.sw_convert_statements.proofs.Variables.{variable_written}
+use Rattle.sw_convert_texts.proofs.Comments.{comments_written}
+use Rattle.sw_convert_statements.proofs.KnownNames.{comment_values}
 use Rattle.sw_convert_statements.proofs.Loads.{use_written}
 use Rattle.sw_convert_statements.proofs.Forwards.{forward_written}
 use Rattle.sw_convert_statements.specs.Segments.{FrontWritten}
@@ -71,14 +73,13 @@ fronts_written source was known i j statement tokens
 fronts_written source was known i j statement tokens (spells.at_root_block span old block) t = at_root_written
 fronts_written source was known i j statement tokens
     (spells.forward_line {i = k} span one two renamed members settings end) t =
-    forward_written source (suc k) was known renamed (and_left (is_prefix source renamed) _ t) members
-    (and_right (is_prefix source renamed) _ t) settings
+    forward_written source (suc k) was known renamed members settings
 fronts_written source was known i j statement tokens (spells.use_line {i = k} span one two name settings end) t =
     use_written source (suc k) was known name t settings
 fronts_written source was known i j statement tokens (spells.function_block {i = k} span one two head block) t =
-    function_written source was known (suc k) t head
+    function_written source was known (suc k) two t head
 fronts_written source was known i j statement tokens (spells.mixin_block {i = k} span one two head block) t =
-    mixin_written source was known (suc k) t head
+    mixin_written source was known (suc k) two t head
 fronts_written source was known i j statement tokens
     (spells.for_block {from = from} {tokens = ks} span one two three four low old high block) t =
     for_written source was three old (known.rows _ _ _ _ (behind_old four refl) low) (and_left (is_unbounded (expr_text from) ks) _ t)
@@ -94,6 +95,8 @@ fronts_written source was known i j statement tokens
     (spells.media_block {list = list} span text_span old queries block) t =
     let seamless = is_seamless (record { parts = Mixed list; span = text_span }) in
     media_written source was known queries (and_right seamless _ t) text_span (and_left seamless _ t)
+fronts_written source was known i j statement tokens (spells.comment_line {text = text} comment) t =
+    comments_written source i j text tokens comment t (comment_values known comment)
 fronts_written source was known i j statement tokens _ t = absurd (cc)
 
 pub branches_written : BranchesAreWritten

@@ -1,5 +1,5 @@
 -- The white space between two statements stands before the first token of the second.
-use Rattle.std.proofs.Common.{◌≡◌, ◌<◌, ℕ, suc, Bool, true, false, not, ◌&&◌, if◌then◌else◌, List, [], ◌∷◌, ◌++◌, length, Option, Some, None, refl, sym, ◌∙◌, ap, subst, append_assoc, arith}
+use Rattle.std.proofs.Common.{◌≡◌, ◌<◌, ℕ, suc, Bool, true, false, not, ◌&&◌, ◌||◌, if◌then◌else◌, List, [], ◌∷◌, ◌++◌, length, Option, Some, None, refl, sym, ◌∙◌, ap, subst, append_assoc, arith}
 use Rattle.std.specs.List.{list_all}
 use Rattle.sw_text_scan.specs.Bytes.{byte, is_white}
 use Rattle.sw_tokens.specs.declared.pieces.Before.{Before}
@@ -10,14 +10,38 @@ use Rattle.sw_tokens.specs.declared.skips.Inside.TheVariants as insides
 use Rattle.sw_tokens.specs.declared.token.TokenKind.{TokenKind}
 use Rattle.sw_tokens.specs.Pieces.{made, made_white, code_piece}
 use Rattle.sw_tokens.specs.Tokens.{is_spaced}
+use Rattle.sw_parse_terminals.specs.declared.terminal.Terminal.{Terminal}
 use Rattle.sw_parse_table.specs.declared.source.Source.{Source}
 use Rattle.sw_convert_spelling.specs.Spelt.{behind_gap, is_gap, IsToken}
 use Rattle.sw_convert_passing.specs.Written.{Written}
 use Rattle.sw_convert_passing.proofs.Facts.{both, and_left}
 use Rattle.sw_convert_again.specs.Tokens.{Tok}
 use Rattle.sw_convert_tokens.specs.Joints.{Seen, Joint, Token, Apart, spelt_of, text, toks, writtens, behind, Stand, Sits, Sit, Tell}
+use Rattle.sw_convert_heads_passing.specs.Comments.{Comment, whole, with_values}
+use Rattle.sw_convert_heads_passing.specs.Media.{is_code}
 use Rattle.sw_convert_heads_passing.proofs.Fronts.{begins_code}
 use Rattle.sw_convert_texts.specs.RawTexts.{SheetSegment}
+
+-- a token comes first that the grammar sees, which is no empty comment
+abbrev is_seen : List Terminal → Bool
+is_seen [] = false
+is_seen (terminal ∷ rest) = true
+
+abbrev pub begins_token : List Written → Bool
+begins_token [] = false
+begins_token (token ∷ tokens) = is_code token.sort || is_seen token.may_be
+
+pub code_token : (passed : List Written) → begins_code passed ≡ true → begins_token passed ≡ true
+code_token [] e = absurd (cc)
+code_token (token ∷ passed) e = yes (is_code token.sort) (is_seen token.may_be) e
+  where
+    yes : (a b : Bool) → a ≡ true → (a || b) ≡ true
+    yes true b e = refl
+    yes false b e = absurd (cc)
+
+pub comment_token : {passed : List Written} → Comment passed → begins_token passed ≡ true
+comment_token whole = refl
+comment_token (with_values inner) = refl
 
 abbrev token_in : Option Piece → Option TokenKind
 token_in None = None
@@ -111,7 +135,7 @@ module _ (b : ℕ) (gap : List ℕ) (white : list_all is_white (b ∷ gap) ≡ t
       )
 
   pub gapped : {value : List ℕ} {tokens : List Tok} {passed : List Written} {end : Before} {P : List ℕ → Type 0}
-      → begins_code passed ≡ true → SheetSegment befores.White value tokens passed end P → (before : Before)
+      → begins_token passed ≡ true → SheetSegment befores.White value tokens passed end P → (before : Before)
       → SheetSegment before ((b ∷ gap) ++ value) tokens passed end P
   gapped {value} {tokens} {passed} {end} {P} code a before = go a.joints a.spelling a.seen a.written a.last a.tells a.stand
     where
@@ -120,9 +144,9 @@ module _ (b : ℕ) (gap : List ℕ) (white : list_all is_white (b ∷ gap) ≡ t
           → ((after : List ℕ) → P after → Stand [] befores.White joints [] after)
           → SheetSegment before ((b ∷ gap) ++ value) tokens passed end P
       go [] spelling seen written last tells stand =
-          absurd (let wrong : false ≡ true = ap begins_code written ∙ code in cc)
+          absurd (let wrong : false ≡ true = ap begins_token written ∙ code in cc)
       go (Apart ∷ joints) spelling seen written last tells stand =
-          absurd (let wrong : false ≡ true = ap begins_code written ∙ code in cc)
+          absurd (let wrong : false ≡ true = ap begins_token written ∙ code in cc)
       go (Token one ∷ joints) spelling seen written last tells stand = record {
         joints = Token (moved b gap one) ∷ joints;
         spelling = append_assoc (b ∷ gap) one.gap (one.bytes ++ text joints) ∙ ap (λ (t : List ℕ). (b ∷ gap) ++ t) spelling;

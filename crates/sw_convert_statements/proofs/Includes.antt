@@ -1,9 +1,9 @@
 -- `@include` and `@content`, with arguments and parameters of a content block.
-use Rattle.std.proofs.Common.{◌≡◌, ℕ, suc, Bool, true, false, not, ◌&&◌, ◌||◌, List, [], ◌∷◌, ◌++◌, Option, append-nil, inl, inr, refl, sym, ◌∙◌, ap, subst, append_assoc, lit<}
+use Rattle.std.proofs.Common.{◌≡◌, ◌<◌, ℕ, suc, Bool, true, false, not, ◌&&◌, ◌||◌, List, [], ◌∷◌, ◌++◌, length, Option, append-nil, inl, inr, refl, sym, ◌∙◌, ap, subst, arith, append_assoc, lit<}
 use Rattle.std.specs.Prelude.{◌==◌, codes}
 use Rattle.sw_text.specs.Names.{dashed}
 use Rattle.sw_text_scan.specs.Bytes.{sign, byte, is_digit}
-use Rattle.sw_text_scan.proofs.Bounds.{if_true, if_false, and_left, and_right, or_left, or_right, not_true}
+use Rattle.sw_text_scan.proofs.Bounds.{if_true, if_false, not_true}
 use Rattle.sw_tree.specs.declared.callable.Params.{Params as TreeParams}
 use Rattle.sw_tree.specs.declared.expr.Namespaced.{Namespaced}
 use Rattle.sw_tokens.specs.declared.pieces.Before.{Before}
@@ -35,6 +35,7 @@ use Rattle.sw_convert_tokens.specs.Written.{Follows, is_calm}
 use Rattle.sw_convert_tokens.specs.Values.{WasRead}
 use Rattle.sw_convert_tokens.proofs.Joins as joins
 use Rattle.sw_convert_tokens.proofs.Olds.{old_token}
+use Rattle.sw_convert_tokens.proofs.Names.{Start}
 use Rattle.sw_convert_tokens.proofs.OriginChoices.{fits}
 use Rattle.sw_convert_tokens.proofs.Signs.{Fits, sign_segment, sign_token}
 use Rattle.sw_convert_tokens.proofs.Spaces.{space_by}
@@ -48,13 +49,13 @@ use Rattle.sw_convert_heads_passing.specs.Members as members
 use Rattle.sw_convert_heads_passing.specs.Statements.{belonging}
 use Rattle.sw_convert_texts.specs.RawTexts.{SheetSegment}
 use Rattle.sw_convert_statements.specs.Segments.{seams, FrontWritten}
-use Rattle.sw_convert_statements.specs.OneName.{is_one_name, goes_behind_dot}
 use Rattle.sw_convert_statements.specs.Fronts.{ValuesAreKnown, is_mixin_name}
 use Rattle.sw_convert_statements.proofs.Arguments.{IsGiven, nothing_given, arguments_given, settles_around}
+use Rattle.sw_convert_texts.proofs.OldNames.{NamedSo, name_start, named_there}
 use Rattle.sw_convert_statements.proofs.Callables.{name_ends, none_there, some_there, word_using, member_written}
 use Rattle.sw_convert_statements.proofs.Flow.{content_written}
 use Rattle.sw_convert_statements.proofs.Keywords.{keyword}
-use Rattle.sw_convert_statements.proofs.OneName.{one_name, name_segment, name_sort, dashed_text}
+use Rattle.sw_convert_statements.proofs.OneName.{name_segment, name_sort, dashed_text}
 use Rattle.sw_convert_statements.proofs.Params.{parens_written}
 use Rattle.sw_convert_statements.proofs.Segments.{sheet, join, as_text, as_toks, as_passed, as_behind, text_follows, value_pads, padded}
 
@@ -69,13 +70,15 @@ record IsMixin (text : List ℕ) (tokens : List Tok) : Type 0 where
   ends : (after : List ℕ) → Follows text after → Follows last after
   segment : Segment befores.Other (codes " " ++ text) tokens passed befores.Other (Behind last)
 
-dotted : (text : List ℕ) → goes_behind_dot text ≡ true → (after : List ℕ) → Fits kinds.Dot (text ++ after)
+-- a name makes no number of a `.` before it
+behind_dot : (text : List ℕ) → 0 < length text → Start (byte text 0) → (after : List ℕ) → Fits kinds.Dot (text ++ after)
 unfolding byte
-dotted [] e after = absurd (cc)
-dotted (b ∷ text) e after =
-    let none = not_true (is_digit b || (b == sign ".")) e in
-    ap (λ (x : Bool). not (x || false) && true)
-    (neither (is_digit b) _ (or_left (is_digit b) _ none) (left_no (b == sign ".") _ (or_right (is_digit b) _ none)))
+behind_dot [] some start after = absurd (omega (arith, some))
+behind_dot (b ∷ text) some start after =
+    ap (λ (x : Bool). not (x || false) && true) (neither (is_digit b) _ start.digit (left_no (b == sign ".") _ start.dot))
+
+dotted : (text : List ℕ) → NamedSo text → (after : List ℕ) → Fits kinds.Dot (text ++ after)
+dotted text it after = behind_dot text it.some (name_start text it) after
 
 dot_ends : Ends (sign ".")
 dot_ends = record { slash = refl; digit = refl }
@@ -85,11 +88,11 @@ mixin_written : (source : Source) → WasRead source → {i j at : ℕ} {namespa
     → IsMixin (space_text namespace ++ name_text (name_at source at)) tokens
 unfolding byte
 mixin_written source was (own_name {i} old) t =
-    let name = member_written source i t in record {
+    let name = member_written source i was old in record {
       passed = _;
       are = members.own_name name.sort name.is;
       last = name_text (name_at source i);
-      no_url = name.no_url;
+      no_url = not_true (is_url (name_text (name_at source i))) t;
       ends = λ after f. f;
       segment = name.segment;
     }
@@ -100,7 +103,7 @@ mixin_written source was (owned_name {i} owner dot old) t =
     let n : is_name sort ≡ true =
     ap (λ (k : Terminal). fits k sort) (sym (only_owner owner.lexeme.terminal owner.kind)) ∙ owned.fit in
     let bytes_are = copied_bytes source i owner.lexeme owned n in
-    let it = one_name text (and_left (is_one_name text) _ t) in
+    let it = (named_there source was (suc (suc i)) old).kept in
     let first = copied_name source i owner.lexeme owned n terminals.Owner (Bytes 1 (bytes_at source i)) befores.Other true
     refl (Begins (sign ".")) (dot_parts owned.text) (λ new at same. one_byte new at ∙ same) in
     let middle = sign_segment kinds.Dot (codes ".") (terminals.OwnerDot ∷ []) befores.Other false (Fits kinds.Dot) refl refl
@@ -110,13 +113,13 @@ mixin_written source was (owned_name {i} owner dot old) t =
       passed = _;
       are = members.owned_name sort (sort_of it.kind text) n (name_sort text it);
       last = text;
-      no_url = it.no_url;
+      no_url = not_true (is_url text) t;
       ends = λ after f. follows_end (bytes_at source i) text (sign ".") dot_ends after
           (subst (λ (x : List ℕ). Follows x after) (append_assoc (bytes_at source i) (codes ".") text) f);
       segment = joins.as_text
           (ap (λ (x : List ℕ). codes " " ++ (x ++ (codes "." ++ text))) (sym bytes_are)
           ∙ ap (λ (x : List ℕ). codes " " ++ x) (sym (append_assoc (bytes_at source i) (codes ".") text)))
-          (joins.join first (joins.join middle second (λ after ok. dotted text (and_right (is_one_name text) _ t) after))
+          (joins.join first (joins.join middle second (λ after ok. dotted text it after))
           (λ after ok. (text ++ after, refl)));
     }
 

@@ -23,6 +23,7 @@ use Rattle.sw_convert_again.specs.Spells.{within}
 use Rattle.sw_convert_tokens.specs.Joints.{Seen, Token, Segment, text, Stand}
 use Rattle.sw_convert_tokens.specs.Written.{Follows, gap_of, AsRow, WrittenAs}
 use Rattle.sw_convert_tokens.proofs.Joins.{text_append, toks_append, writtens_append, behind_append, stand_append, tell_append}
+use Rattle.sw_convert_tokens.proofs.Loud.{seen_by}
 use Rattle.sw_convert_tokens.proofs.Signs.{Anything, gap_is}
 
 open_token : (inside : Inside) (before : Before) (after : List ℕ) → is_sheet_code inside ≡ true
@@ -109,7 +110,7 @@ insert_written terminal before spaced {value} {tokens} it =
         stand = λ stack after code ok. (
           gap_is (innermost stack) spaced (codes "#{") code refl,
           some_two,
-          (refl, refl),
+          (refl, seen_by sorts.OpenInsert (terminal ∷ []) refl),
           λ e. absurd (cc),
           open_token (innermost stack) (behind_gap before (gap_of spaced)) _ code,
           stand_append (insides.Interpolation ∷ stack) (insides.Interpolation ∷ stack) stack befores.Other inner.joints end

@@ -8,6 +8,7 @@ use Rattle.sw_text_scan.proofs.Bounds.{and_left, and_right, not_true}
 use Rattle.sw_tree.specs.declared.text.Parts.{Parts}
 use Rattle.sw_tokens.specs.declared.pieces.Before.{Before}
 use Rattle.sw_tokens.specs.declared.pieces.Before.TheVariants as befores
+use Rattle.sw_tree.specs.declared.text.Text.{Text}
 use Rattle.sw_parse_terminals.specs.declared.terminal.Terminal.{Terminal}
 use Rattle.sw_parse_terminals.specs.declared.terminal.Terminal.TheVariants as terminals
 use Rattle.sw_parse_terminals.specs.Numbers.{just}
@@ -31,7 +32,7 @@ use Rattle.sw_convert_passing.specs.Values as passing
 use Rattle.sw_convert_again.specs.Tokens.{Tok, tok, Old}
 use Rattle.sw_convert_again.specs.Spells.{from_start, SpellsWord, SpellsRow}
 use Rattle.sw_convert_again.specs.Spells as spells
-use Rattle.sw_convert_again.specs.Statements.{SpellsName, SpellsAtName, name_row, at_word}
+use Rattle.sw_convert_again.specs.Statements.{SpellsName, SpellsAtName, name_row, at_word, at_insert, at_minus}
 use Rattle.sw_convert_tokens.specs.Values.{WasRead}
 use Rattle.sw_convert_tokens.specs.Written.{Follows, begins_white}
 use Rattle.sw_convert_tokens.proofs.Joins as joins
@@ -40,11 +41,16 @@ use Rattle.sw_convert_tokens.proofs.OriginChoices.{fits}
 use Rattle.sw_convert_tokens.proofs.Stops.{follows_parts}
 use Rattle.sw_convert_tokens.proofs.Words.{only_word, kind_of_name, name_reserved, parts_are, said_is, copied_name, copied_bytes}
 use Rattle.sw_convert_heads_passing.specs.Heads.{is_keyword, TextHead, named_head, keyword_head}
+use Rattle.sw_convert_heads_passing.specs.Heads as heads
 use Rattle.sw_convert_heads_passing.specs.Properties.{colon, is_dashed, PropertyHead, named_property, begun_property, minus_property, CustomHead, custom_head}
 use Rattle.sw_convert_heads_passing.specs.Statements.{begins_else}
-use Rattle.sw_convert_texts.specs.Inserted.{RowHasValues, WordHasValues, NameHasValues}
+use Rattle.sw_convert_again.specs.Comments.{SpellsComment, whole_comment, comment_template, whole_lines, lines_template}
+use Rattle.sw_convert_texts.specs.Comments.{CommentHasValues}
+use Rattle.sw_convert_texts.specs.AtInserts.{at_known, AsInsertedAt, at_inserted, at_minused}
+use Rattle.sw_convert_texts.specs.Inserted.{RowHasValues, WordHasValues, NameHasValues, AtNameHasValues}
 use Rattle.sw_convert_texts.specs.Names.{joined, is_mixed, AsName, as_name, AsAtName, as_at}
 use Rattle.sw_convert_texts.specs.RawTexts.{SheetSegment}
+use Rattle.sw_convert_texts.proofs.AtInserts.{at_inserts_written}
 use Rattle.sw_convert_texts.proofs.WordsWithValues.{words_written, custom_names_written, at_names_written}
 use Rattle.sw_convert_statements.specs.Fronts.{ValuesAreKnown}
 use Rattle.sw_convert_statements.specs.OneName.{begins_dashed}
@@ -81,6 +87,13 @@ module _ {source : Source} (values : ValuesAreKnown source) where
   name_values : {first : Terminal} {i j : ℕ} {parts : Parts} {tokens : List Tok}
       → (name : SpellsName source first i j parts tokens) → NameHasValues name
   name_values (name_row old row) = row_values refl row
+
+  pub comment_values : {i j : ℕ} {text : Text} {tokens : List Tok} → (comment : SpellsComment source i j text tokens)
+      → CommentHasValues comment
+  comment_values (whole_comment old) = tt
+  comment_values (comment_template old made row end) = row_values refl row
+  comment_values (whole_lines old made) = tt
+  comment_values (lines_template old made lines) = tt
 
 -- a `:` stands behind a name
 pub before_colon : (name : List ℕ) → Follows name (codes ":")
@@ -269,6 +282,30 @@ module _ (source : Source) (was : WasRead source) (values : ValuesAreKnown sourc
   at_named {inserts = inserts} {sort = sort} (as_at e parts) t =
       let is = at_is sort inserts e parts t in (is.head, λ more. is.first)
 
+  at_values : {i j : ℕ} {parts : Parts} {tokens : List Tok} → (name : SpellsAtName source i j parts tokens)
+      → AtNameHasValues name
+  at_values (at_word name) = name_values values name
+  at_values (at_insert old opens inner close row) =
+      (values.rows _ _ _ _ (behind_old opens refl) inner, row_values values refl row)
+  at_values (at_minus old minus opens inner close row) =
+      (values.rows _ _ _ _ (behind_old opens refl) inner, row_values values refl row)
+
+  inserted_head : {spaced : Bool} {passed : List Written} → AsInsertedAt spaced passed
+      → TextHead passed × ((more : List Written) → begins_else (passed ++ more) ≡ false)
+  inserted_head (at_inserted inner parts) = (heads.inserted_head inner parts, λ more. refl)
+  inserted_head (at_minused inner parts) = (heads.minus_head inner parts, λ more. refl)
+
+  inserted_rule : {i j : ℕ} {parts : Parts} {tokens : List Tok} → (name : SpellsAtName source i j parts tokens)
+      → at_known source name ≡ true → NamedAs TextHead (joined parts) tokens
+  inserted_rule {i} {j} {parts} {tokens} name t before calm =
+      let it = at_inserts_written source i j parts tokens was name t (at_values name) before false calm in
+      let (head, first) = inserted_head it.told in record {
+        passed = it.passed;
+        head = head;
+        first = first;
+        segment = sheet it.segment;
+      }
+
   pub at_rules_written : {i j : ℕ} {parts : Parts} {tokens : List Tok} → (name : SpellsAtName source i j parts tokens)
       → is_at_rule source name ≡ true → NamedAs TextHead (joined parts) tokens
   at_rules_written {j = j} {parts} {tokens} (at_word {i} name) t before calm =
@@ -279,4 +316,7 @@ module _ (source : Source) (was : WasRead source) (values : ValuesAreKnown sourc
         first = first;
         segment = sheet it.segment;
       }
-  at_rules_written _ t before calm = absurd (cc)
+  at_rules_written {i} {j} {parts} {tokens} (at_insert old opens inner close row) t before calm =
+      inserted_rule (at_insert old opens inner close row) t before calm
+  at_rules_written {i} {j} {parts} {tokens} (at_minus old minus opens inner close row) t before calm =
+      inserted_rule (at_minus old minus opens inner close row) t before calm

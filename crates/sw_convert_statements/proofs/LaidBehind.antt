@@ -8,11 +8,10 @@ use Rattle.sw_tokens.specs.declared.token.Token.{Token}
 use Rattle.sw_tokens.specs.declared.token.TokenKind.{TokenKind}
 use Rattle.sw_tokens.specs.declared.token.TokenKind.TheVariants as kinds
 use Rattle.sw_tokens.specs.Ends.{opens}
-use Rattle.sw_parse_lexemes.specs.Classes.{is_comment}
 use Rattle.sw_parse_lexemes.specs.Plains.{end_by, holds_slash, has_slash, plain_of, plains_from}
 use Rattle.sw_parse_lexemes.specs.Sorts.{sort_of}
 use Rattle.sw_convert_tokens.specs.Joints.{Joint, spelt_of, text}
-use Rattle.sw_convert_tokens.proofs.Laid.{Laid, laid_end, laid}
+use Rattle.sw_convert_tokens.proofs.Laid.{IsSeenAs, Laid, laid_end, laid}
 
 -- what stands in a text stands in a longer one
 range_stays : (xs ys : List ℕ) (from to : ℕ) → to ≤ length xs → slice_range (xs ++ ys) from to ≡ slice_range xs from to
@@ -78,7 +77,7 @@ module _ (whole after : List ℕ) where
         to = it.to;
         silent = ap holds_slash (range_stays whole after gap token.from (omega (arith, one, two, mid, from, within))) ∙ it.silent;
         kind = it.kind;
-        comment = ap is_comment sort ∙ it.comment;
+        seen = subst (IsSeenAs joint) (sym sort) it.seen;
       })
       (laid_behind (end_by token next) list (omega (arith, one, two, mid, far, within)) more)
 
@@ -121,6 +120,6 @@ laid_marked {joints} mark rest (inr some) list it =
           to = one.to;
           silent = no_slash rest token.from (length (spelt_of joint).gap) (omega (arith, from, long)) ∙ one.silent;
           kind = one.kind;
-          comment = one.comment;
+          seen = one.seen;
         })
         more

@@ -36,11 +36,12 @@ use Rattle.sw_convert_tokens.proofs.Decodings.{decoded_there}
 use Rattle.sw_convert_heads_passing.specs.Loads.{is_url, UseName, no_name, as_name, as_star, use_head}
 use Rattle.sw_convert_heads_passing.specs.Statements.{loading}
 use Rattle.sw_convert_texts.specs.RawTexts.{SheetSegment}
+use Rattle.sw_convert_texts.proofs.OldNames.{named_there}
 use Rattle.sw_convert_statements.specs.Segments.{Anything, FrontWritten}
 use Rattle.sw_convert_statements.specs.Fronts.{ValuesAreKnown, is_namespace}
 use Rattle.sw_convert_statements.proofs.Callables.{name_ends}
 use Rattle.sw_convert_statements.proofs.Configurations.{configured_written}
-use Rattle.sw_convert_statements.proofs.OneName.{one_name, name_segment, name_sort}
+use Rattle.sw_convert_statements.proofs.OneName.{name_segment, name_sort}
 use Rattle.sw_convert_statements.proofs.Segments.{sheet, join, as_behind, text_follows}
 use Rattle.sw_convert_statements.proofs.Segments as segments
 use Rattle.sw_convert_statements.proofs.Keywords.{keyword, spaced_word}
@@ -118,7 +119,7 @@ module _ (source : Source) (i : ℕ) (was : WasRead source) where
   }
   use_of (spells_loads.written_namespace {i = k} as_word name) t before calm =
       let text = bytes_at source (suc k) in
-      let it = one_name text t in
+      let it = (named_there source was (suc k) name).stood in
       let last = name_segment text it terminals.Named (Bytes 1 text) befores.Other true refl
       (λ new at same. one_byte new at ∙ same) in record {
         named = true;

@@ -1,16 +1,11 @@
--- A text that is one name is its token.
-use Rattle.std.proofs.Common.{◌≡◌, ◌<◌, ℕ, Bool, true, false, ◌&&◌, if◌then◌else◌, List, [], ◌∷◌, ◌++◌, length, Option, Some, None, append-nil, refl, sym, ◌∙◌, ap, subst, arith}
+-- A text that is a name is its token.
+use Rattle.std.proofs.Common.{◌≡◌, ℕ, Bool, true, false, ◌&&◌, if◌then◌else◌, List, [], ◌∷◌, ◌++◌, refl, sym, ◌∙◌, ap, subst, arith}
 use Rattle.std.specs.Prelude.{◌==◌}
 use Rattle.std.proofs.lemmas.Bool.Decides.{nat_tests}
 use Rattle.sw_text.specs.Names.{hyphen, underscore, dash, dashed}
-use Rattle.sw_text_scan.proofs.Bounds.{and_left, and_right, not_true}
 use Rattle.sw_tokens.specs.declared.pieces.Before.{Before}
 use Rattle.sw_tokens.specs.declared.pieces.Before.TheVariants as befores
 use Rattle.sw_tokens.specs.declared.pieces.Change.TheVariants as changes
-use Rattle.sw_tokens.specs.declared.pieces.Piece.{Piece}
-use Rattle.sw_tokens.specs.declared.token.TokenKind.{TokenKind}
-use Rattle.sw_tokens.specs.declared.token.TokenKind.TheVariants as kinds
-use Rattle.sw_tokens.specs.Pieces.{made, name_piece}
 use Rattle.sw_tokens.specs.Tokens.{is_spaced}
 use Rattle.sw_parse_terminals.specs.declared.terminal.Terminal.{Terminal}
 use Rattle.sw_parse_lexemes.specs.Classes.{is_name}
@@ -18,8 +13,6 @@ use Rattle.sw_parse_lexemes.specs.Sorts.{sort_of}
 use Rattle.sw_parse_table.specs.declared.source.Source.{Source}
 use Rattle.sw_parse_table.specs.Sources.{bytes_at}
 use Rattle.sw_convert_spelling.specs.Spelt.{behind_gap}
-use Rattle.sw_convert_spelling.proofs.Choices as names
-use Rattle.sw_convert_written.specs.Expressions.{is_url}
 use Rattle.sw_convert_written.specs.Names.{begins_no_name, name_text}
 use Rattle.sw_convert_passing.specs.Written.{written}
 use Rattle.sw_convert_again.specs.Tokens.{Said, Says, tok}
@@ -27,68 +20,14 @@ use Rattle.sw_convert_tokens.specs.Joints.{Segment}
 use Rattle.sw_convert_tokens.specs.Written.{is_calm, gap_of}
 use Rattle.sw_convert_tokens.proofs.Signs.{token_segment}
 use Rattle.sw_convert_tokens.proofs.Stops.{Behind, nothing_parts}
-use Rattle.sw_convert_tokens.proofs.NamePieces.{name_keep}
 use Rattle.sw_convert_tokens.proofs.Names.{token_at, name_black}
 use Rattle.sw_convert_tokens.proofs.Words.{name_yes, name_opens, name_behind, name_comment, bytes_sit}
-use Rattle.sw_convert_statements.specs.OneName.{is_name_kind, is_name_to, is_one_name}
-
--- ---- what the test tells
-
-pub record IsOneName (text : List ℕ) : Type 0 where
-  pub kind : TokenKind
-  pub named : names.is_name kind ≡ true
-  pub some : 0 < length text
-  pub piece_is : name_piece (text ++ []) 0 ≡ made kind (length text) changes.Keep
-  pub no_url : is_url text ≡ false
-
-record HasKind (token : Option TokenKind) : Type 0 where
-  kind : TokenKind
-  named : names.is_name kind ≡ true
-  is : token ≡ Some kind
-
-kind_in : (token : Option TokenKind) → is_name_kind token ≡ true → HasKind token
-kind_in (Some kinds.Word) t = record { kind = kinds.Word; named = refl; is = refl }
-kind_in (Some kinds.Name) t = record { kind = kinds.Name; named = refl; is = refl }
-kind_in (Some kinds.DashedName) t = record { kind = kinds.DashedName; named = refl; is = refl }
-kind_in _ t = absurd (cc)
-
-same_end : (a b : ℕ) → (a == b) ≡ true → a ≡ b
-same_end a b e = grind (arith, nat_tests)
-
-pub one_name : (text : List ℕ) → is_one_name text ≡ true → IsOneName text
-one_name [] t = absurd (cc)
-one_name (b ∷ text) t = go (name_piece whole 0) refl (and_left _ _ t)
-  where
-    whole : List ℕ
-    whole = b ∷ text
-
-    some : 0 < length whole
-    some = positive text
-      where
-        positive : (xs : List ℕ) → 0 < length (b ∷ xs)
-        positive xs = omega arith
-
-    go : (o : Option Piece) → name_piece whole 0 ≡ o → is_name_to (length whole) o ≡ true → IsOneName whole
-    go None e f = absurd (cc)
-    go (Some p) e f =
-        let it = kind_in p.token (and_left (is_name_kind p.token) _ f) in
-        let to = same_end p.to (length whole) (and_right (is_name_kind p.token) _ f) in
-        let is : name_piece whole 0 ≡ made it.kind (length whole) p.change =
-        e ∙ ap (λ (k : Option TokenKind). Some (record { token = k; to = p.to; change = p.change })) it.is
-        ∙ ap (λ (n : ℕ). made it.kind n p.change) to in
-        let keep = name_keep it.kind (length whole) p.change it.named whole is in record {
-          kind = it.kind;
-          named = it.named;
-          some = some;
-          piece_is = ap (λ (xs : List ℕ). name_piece xs 0) (append-nil whole) ∙ is
-              ∙ ap (made it.kind (length whole)) keep;
-          no_url = not_true (is_url whole) (and_right (is_name_to (length whole) (name_piece whole 0)) _ t);
-        }
+use Rattle.sw_convert_texts.proofs.OldNames.{NamedSo}
 
 -- ---- its token
 
 -- behind a space or directly behind what stands before it, before what goes on with no name
-pub name_segment : (text : List ℕ) (it : IsOneName text) (terminal : Terminal) (said : Said) (before : Before)
+pub name_segment : (text : List ℕ) (it : NamedSo text) (terminal : Terminal) (said : Said) (before : Before)
     (spaced : Bool) → is_calm (behind_gap before (gap_of spaced)) ≡ true
     → ((new : Source) (at : ℕ) → bytes_at new at ≡ text → Says new at said)
     → Segment before (gap_of spaced ++ text) (tok terminal said ∷ [])
@@ -101,15 +40,18 @@ name_segment text it terminal said before spaced calm says =
     (name_behind it.kind it.named)
     (token_segment it.kind text (terminal ∷ []) said before spaced (Behind text) (name_opens it.kind it.named)
     (name_comment (sort_of it.kind text) n)
-    (name_black text [] [] it.kind changes.Keep it.named it.some it.piece_is (nothing_parts text)) it.some
+    (name_black text it.rest [] it.kind changes.Keep it.named it.some it.piece_is (nothing_parts text)) it.some
     (λ new commented at front after sits. says new at (bytes_sit new commented at front _ after sits))
     (λ inside after code parted.
-    token_at text [] after it.kind changes.Keep it.named it.some it.piece_is parted inside (behind_gap before (gap_of spaced)) code calm))
+    token_at text it.rest after it.kind changes.Keep it.named it.some it.piece_is parted inside (behind_gap before (gap_of spaced)) code calm))
 
-pub name_sort : (text : List ℕ) (it : IsOneName text) → is_name (sort_of it.kind text) ≡ true
+pub name_sort : (text : List ℕ) (it : NamedSo text) → is_name (sort_of it.kind text) ≡ true
 name_sort text it = name_yes it.kind text it.named
 
 -- ---- a name that is kept with `-` for each `_`
+
+same_end : (a b : ℕ) → (a == b) ≡ true → a ≡ b
+same_end a b e = grind (arith, nat_tests)
 
 dash_by : (b : ℕ) (t : Bool) → (b == underscore) ≡ t → dash (if t then hyphen else b) ≡ (if t then hyphen else b)
 dash_by b true e = refl

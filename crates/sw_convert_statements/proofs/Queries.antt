@@ -58,7 +58,8 @@ use Rattle.sw_convert_statements.proofs.Callables.{name_ends}
 use Rattle.sw_convert_statements.proofs.Features.{IsFeature, AreFeatures, insert_at, feature_written, worded_written, features_written}
 use Rattle.sw_convert_statements.proofs.Keywords.{keyword}
 use Rattle.sw_convert_statements.proofs.MediaPieces.{flat, no_pieces, flat_append, flat_text, flat_insert, queries_flat, passed_as, and_word, or_word, not_word}
-use Rattle.sw_convert_statements.proofs.OneName.{IsOneName, name_segment}
+use Rattle.sw_convert_texts.proofs.OldNames.{NamedSo}
+use Rattle.sw_convert_statements.proofs.OneName.{name_segment}
 use Rattle.sw_convert_statements.proofs.Params.{comma_segment}
 use Rattle.sw_convert_statements.proofs.Segments.{sheet, text_follows}
 use Rattle.sw_convert_statements.proofs.Segments as segments
@@ -275,13 +276,13 @@ same_query : {xs ys : List ℕ} {ks ls : List Tok} → xs ≡ ys → ks ≡ ls �
 same_query {xs} {ys} {ks} {ls} e f it =
     subst (λ (t : List Tok). IsQuery ys t) f (subst (λ (t : List ℕ). IsQuery t ks) e it)
 
-only_name : IsOneName (codes "only")
+only_name : NamedSo (codes "only")
 unfolding name_piece byte begins_name escape_end run_end
-only_name = record { kind = kinds.Word; named = refl; some = lit< tt; piece_is = refl; no_url = refl }
+only_name = record { kind = kinds.Word; named = refl; some = lit< tt; rest = []; piece_is = refl }
 
-not_name : IsOneName (codes "not")
+not_name : NamedSo (codes "not")
 unfolding name_piece byte begins_name escape_end run_end
-not_name = record { kind = kinds.Word; named = refl; some = lit< tt; piece_is = refl; no_url = refl }
+not_name = record { kind = kinds.Word; named = refl; some = lit< tt; rest = []; piece_is = refl }
 
 data Prefixes : Terminal → Type 0 where
   only_prefixes : Prefixes terminals.Only

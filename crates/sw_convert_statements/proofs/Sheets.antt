@@ -77,7 +77,7 @@ rest_in (spells.more_statements {one = statement} {list = list} one more) (front
       passed = it.passed ++ rest.passed;
       listed = it.extends rest.listed;
       end = rest.end;
-      segment = join (gapped (sign "\n") (blank before_them shown) (blank_white before_them shown) it.code it.segment before)
+      segment = join (gapped (sign "\n") (blank before_them shown) (blank_white before_them shown) it.begins it.segment before)
           rest.segment (λ after ok. tt);
     }
 

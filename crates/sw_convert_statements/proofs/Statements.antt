@@ -5,6 +5,8 @@ use Rattle.sw_text_scan.specs.Bytes.{sign}
 use Rattle.sw_tree.specs.declared.callable.Kind.TheVariants as kinds
 use Rattle.sw_tree.specs.declared.statement.Branch.{Branch}
 use Rattle.sw_tree.specs.declared.statement.Statement.{Statement}
+use Rattle.sw_tree.specs.declared.statement.Statement.TheVariants as statements
+use Rattle.sw_tree.specs.declared.text.Text.{Text}
 use Rattle.sw_tree.specs.declared.text.Parts.TheVariants.{Mixed}
 use Rattle.sw_tokens.specs.declared.pieces.Before.{Before}
 use Rattle.sw_tokens.specs.declared.pieces.Before.TheVariants as befores
@@ -20,7 +22,7 @@ use Rattle.sw_parse_table.specs.Values.{qualified_of}
 use Rattle.sw_parse_table.specs.Actions.{branch_of, mixin_of, name_at, names_at, stands_at, flags_at, url_at}
 use Rattle.sw_convert_written.specs.Escapes.{ends_unclosed}
 use Rattle.sw_convert_written.specs.Expressions.{expr_text}
-use Rattle.sw_convert_written.specs.Heads.{selector_text}
+use Rattle.sw_convert_written.specs.Heads.{plain_text, selector_text}
 use Rattle.sw_convert_written.specs.Statements.{ShownStatement, indent, inner_text, block_text, branch_shown, branches_text, otherwise_text, shown_optional, statement_shown}
 use Rattle.sw_convert_written.proofs.UnrolledStatements as unrolled
 use Rattle.sw_convert_passing.specs.Written.{Written}
@@ -35,15 +37,16 @@ use Rattle.sw_convert_tokens.proofs.Signs.{Anything}
 use Rattle.sw_convert_heads_passing.specs.Blocks.{end_sign, open_sign}
 use Rattle.sw_convert_heads_passing.specs.Rules.{is_rule}
 use Rattle.sw_convert_heads_passing.specs.Flow.{else_head}
-use Rattle.sw_convert_heads_passing.specs.Statements.{alone, Statements, no_statement, statement_ended}
+use Rattle.sw_convert_heads_passing.specs.Statements.{alone, Statements, no_statement, statement_ended, statement_comment}
 use Rattle.sw_convert_heads_passing.proofs.Fronts.{begins_code, code_before, front_code, rule_code}
+use Rattle.sw_convert_texts.specs.Comments.{CommentWritten}
 use Rattle.sw_convert_texts.specs.RawTexts.{SheetSegment}
 use Rattle.sw_convert_statements.specs.Segments.{seams, FrontWritten, ElseWritten}
 use Rattle.sw_convert_statements.specs.Statements.{HasFronts, BranchesHaveFronts, ElseHasFronts, ListHasFronts}
 use Rattle.sw_convert_statements.specs.Written.{AreLinesWritten, StatementsAreWritten}
 use Rattle.sw_convert_statements.proofs.Keywords.{text_ends, keyword}
 use Rattle.sw_convert_statements.proofs.Segments.{sheet, join, as_behind}
-use Rattle.sw_convert_statements.proofs.Gaps.{gapped}
+use Rattle.sw_convert_statements.proofs.Gaps.{begins_token, code_token, comment_token, gapped}
 use Rattle.sw_convert_statements.proofs.Blocks.{end_segment, indent_white, line_gap, front_head, rule_head, IsBlock, block_written}
 
 -- a statement up to its last line feed
@@ -51,7 +54,7 @@ pub record IsStatement (level : ℕ) (statement : Statement) (tokens : List Tok)
   pub text : List ℕ
   pub text_is : (statement_shown statement).text level ≡ text ++ codes "\n"
   pub passed : List Written
-  pub code : begins_code passed ≡ true
+  pub begins : begins_token passed ≡ true
   pub end : Before
   pub segment : SheetSegment before text tokens passed end Anything
   pub extends : {rest : List Written} → Statements false rest → Statements false (passed ++ rest)
@@ -65,13 +68,27 @@ line_in {level = level} {text = text} {before = before} front calm shown =
       text = text ++ codes ";";
       text_is = shown ∙ sym (append_assoc text (codes ";") (codes "\n"));
       passed = it.passed ++ end_sign (is_spaced it.end) ∷ [];
-      code = code_before it.passed _ (front_code it.front);
+      begins = code_token _ (code_before it.passed _ (front_code it.front));
       end = befores.Other;
       segment = join it.segment (end_segment it.end) (λ after ok. record { ends = inl refl; closed = refl });
       extends = λ {rest} more.
           subst (λ (l : List Written). Statements false l) (sym (append_assoc it.passed (end_sign (is_spaced it.end) ∷ []) rest))
           (subst (λ (b : Bool). Statements b (it.passed ++ end_sign (is_spaced it.end) ∷ rest)) it.first
           (statement_ended (is_spaced it.end) it.front more));
+    }
+
+-- a loud comment
+comment_in : {level : ℕ} {tokens : List Tok} {before : Before} (text : Text) → CommentWritten (plain_text text) tokens
+    → is_calm before ≡ true → IsStatement level (statements.Comment text) tokens before
+comment_in {level} {before = before} text it calm =
+    let comment = it before calm in record {
+      text = plain_text text;
+      text_is = unrolled.comment_line text level;
+      passed = comment.passed;
+      begins = comment_token comment.comment;
+      end = comment.end;
+      segment = comment.segment;
+      extends = λ more. statement_comment comment.comment more;
     }
 
 -- one that a block ends
@@ -82,7 +99,7 @@ block_in it is = record {
   text = it.text;
   text_is = is ∙ it.text_is;
   passed = it.passed;
-  code = it.code;
+  begins = code_token it.passed it.code;
   end = befores.Other;
   segment = it.segment;
   extends = λ more. it.extends more;
@@ -132,7 +149,7 @@ tail_in {level} {head} {written} {shown} {else_first = else_first} {before = bef
       ∙ sym (append_assoc (line_gap level ++ it.text) tail.text (codes "\n"));
   passed = it.passed ++ tail.passed;
   end = tail.end;
-  segment = join (gapped (sign "\n") (indent level) (indent_white level) it.code it.segment before) tail.segment
+  segment = join (gapped (sign "\n") (indent level) (indent_white level) (code_token it.passed it.code) it.segment before) tail.segment
       (λ after ok. tt);
   extends = λ {rest} more.
       let (first, listed) = tail.extends more in (
@@ -211,7 +228,7 @@ mutual
       line_in front calm (unrolled.include_lines (mixin_of source namespace name name_span arguments) None span level)
   statement_in {source} (spells.at_rule_line {parts = parts} {prelude = prelude} span text_span name raw end) front level before calm =
       line_in front calm (unrolled.at_rule_lines (record { name = record { parts = parts; span = text_span }; prelude = prelude; block = None; span = span }) level)
-  statement_in (spells.comment_line comment) front level before calm = absurd front
+  statement_in (spells.comment_line {text = text} comment) front level before calm = comment_in text front calm
   statement_in {source} (spells.function_block {i} {params = params} span one two head (spells.braces {list = list} opens braced closes)) (front, inside) level before calm =
       nested refl front (inner_in braced inside (level + 1) befores.Other) calm
       (unrolled.callable_lines (record { kind = kinds.Function; name = name_at source (suc i); params = params; block = list; span = span }) level)
@@ -281,7 +298,7 @@ mutual
             ∙ ap (λ (t : List ℕ). t ++ rest) one.text_is ∙ append_assoc one.text (codes "\n") rest
             ∙ ap (λ (t : List ℕ). one.text ++ t) tail.text_is ∙ sym (append_assoc one.text tail.text (codes "\n"));
         passed = one.passed ++ tail.passed;
-        code = code_before one.passed tail.passed one.code;
+        begins = code_token (one.passed ++ tail.passed) (code_before one.passed tail.passed one.code);
         end = tail.end;
         segment = join one.segment tail.segment (λ after ok. tt);
         extends = λ {rest} more.
@@ -349,7 +366,7 @@ mutual
         passed = it.passed ++ rest.passed;
         listed = it.extends rest.listed;
         end = rest.end;
-        segment = join (gapped (sign "\n") (indent level) (indent_white level) it.code it.segment before) rest.segment
+        segment = join (gapped (sign "\n") (indent level) (indent_white level) it.begins it.segment before) rest.segment
             (λ after ok. tt);
       }
 

@@ -26,6 +26,7 @@ use Rattle.sw_convert_heads_passing.specs.Comments.{Run, passed, loud, joined}
 use Rattle.sw_convert_tokens.specs.Joints.{Seen, Joint, Apart, spelt_of, text, writtens, toks, Sits, Sit}
 use Rattle.sw_convert_tokens.specs.Joints as joints
 use Rattle.sw_convert_tokens.proofs.Laid.{IsPlain, Laid, laid}
+use Rattle.sw_convert_tokens.proofs.Loud.{no_unseen}
 use Rattle.sw_convert_tokens.proofs.Sitting.{Places, further, sort_there, one_more, length_more, placed_commented, white_commented}
 
 -- one token after another: what is seen of it, in the state in which it is read, or a comment that is white space
@@ -38,7 +39,7 @@ pub data Steps (plains : List Plain) : State → ℕ → List Written → List L
       → Steps plains state at (one ∷ tokens)
       (lexeme_of plain at begun.commented (terminal_of begun plains at) ∷ lexemes) end to
   unseen : {state end : State} {at to : ℕ} {tokens : List Written} {lexemes : List Lexeme} → (plain : Plain)
-      (one : Written) → sort_at plains at ≡ sorts.Comment
+      (one : Written) → one.may_be ≡ [] → sort_at plains at ≡ sorts.Comment
       → Steps plains (past_white state plain.sort) (at + 1) tokens lexemes end to
       → Steps plains state at (one ∷ tokens) lexemes end to
 
@@ -48,14 +49,14 @@ passed_steps nothing = no_step
 passed_steps (token {state} plain one got code start ignored among p) = seen plain one state got refl among (passed_steps p)
 passed_steps {plains} (begins {state} {at = at} plain one got code start ignored among p) =
     seen plain one (placed state plains at) got (placed_commented state plains at) among (passed_steps p)
-passed_steps (comment plain one got here start ignored p) = unseen plain one here (passed_steps p)
+passed_steps (comment plain one none got here start ignored p) = unseen plain one none here (passed_steps p)
 
 both_steps : {plains : List Plain} {state middle end : State} {at place to : ℕ} {tokens others : List Written}
     {lexemes more : List Lexeme} → Steps plains state at tokens lexemes middle place
     → Steps plains middle place others more end to → Steps plains state at (tokens ++ others) (lexemes ++ more) end to
 both_steps no_step q = q
 both_steps (seen plain one begun got same among p) q = seen plain one begun got same among (both_steps p q)
-both_steps (unseen plain one here p) q = unseen plain one here (both_steps p q)
+both_steps (unseen plain one none here p) q = unseen plain one none here (both_steps p q)
 
 pub run_steps : {plains : List Plain} {state end : State} {at to : ℕ} {tokens : List Written} {lexemes : List Lexeme}
     → Run plains state at tokens lexemes end to → Steps plains state at tokens lexemes end to
@@ -176,10 +177,12 @@ module _ (source : Source) (whole : List Plain) (last : List ℕ) where
       longer : (a : Lexeme) (xs : List Lexeme) (b : again.Tok) (ys : List again.Tok) → length xs ≡ length ys
           → length (a ∷ xs) ≡ length (b ∷ ys)
       longer a xs b ys e = omega (arith, e)
-  steps_sit (joints.Token one ∷ list) before (unseen it w here more) (laid laid_so rest) p are text_is =
-      absurd (let wrong : true ≡ false = ap is_comment (sym here ∙ sort_there source whole p) ∙ laid_so.comment in cc)
+  steps_sit (joints.Token one ∷ list) before (unseen it w none here more) (laid laid_so rest) p are text_is =
+      absurd
+      (let wrong : true ≡ false =
+      ap is_comment (sym here ∙ sort_there source whole p) ∙ no_unseen _ one.may_be none laid_so.seen in cc)
   steps_sit (Apart ∷ list) before (seen it w begun got same kind more) (laid laid_so rest) p are text_is = absurd kind
-  steps_sit (Apart ∷ list) before {front} (unseen {state} it w here more) (laid laid_so rest) p are text_is =
+  steps_sit (Apart ∷ list) before {front} (unseen {state} it w none here more) (laid laid_so rest) p are text_is =
       let (sit, count) = steps_sit list before more rest (further source whole p) are (rest_text Apart list front text_is) in (
         subst (λ (f : List ℕ). Sit source true (length before) (f ++ apart) list last) (append-nil front)
             (subst (λ (c : Bool). Sit source c (length before) ((front ++ []) ++ apart) list last)

@@ -129,7 +129,7 @@ module _ (source : Source) (was : WasRead source) (values : ValuesAreKnown sourc
     fronts (spells.custom_line span text_span name mark inner end) k =
         front (spells.custom_line span text_span name mark inner end) k
     fronts (spells.at_rule_line span text_span name raw end) k = front (spells.at_rule_line span text_span name raw end) k
-    fronts _ k = absurd (cc)
+    fronts (spells.comment_line comment) k = front (spells.comment_line comment) k
 
     block_fronts : {i j : ℕ} {list : List Statement} {tokens : List Tok} → (block : SpellsBlock source i j list tokens)
         → block_known block ≡ true → BlockHasFronts block

@@ -5,8 +5,6 @@ use Rattle.sw_text_scan.specs.declared.runs.Class.TheVariants as classes
 use Rattle.sw_text_scan.specs.Runs.{run_end}
 use Rattle.sw_tree.specs.declared.expr.Expr.{Expr}
 use Rattle.sw_tree.specs.declared.expr.Namespaced.{Namespaced}
-use Rattle.sw_tree.specs.declared.load.Filter.{Filter}
-use Rattle.sw_tree.specs.declared.load.Member.{Member}
 use Rattle.sw_tree.specs.declared.load.Namespace.{Namespace}
 use Rattle.sw_tree.specs.declared.statement.Statement.{Statement}
 use Rattle.sw_tree.specs.declared.text.Parts.TheVariants.{Mixed}
@@ -18,22 +16,23 @@ use Rattle.sw_parse_table.specs.declared.source.Source.{Source}
 use Rattle.sw_parse_terminals.specs.Urls.{has_namespace}
 use Rattle.sw_parse_table.specs.Sources.{bytes_at, decoded_at}
 use Rattle.sw_parse_table.specs.Actions.{name_at}
-use Rattle.sw_convert_written.specs.Expressions.{expr_text}
+use Rattle.sw_convert_written.specs.Expressions.{expr_text, is_url}
 use Rattle.sw_convert_written.specs.Names.{name_text}
 use Rattle.sw_convert_passing.specs.Kinds.{is_bound}
 use Rattle.sw_convert_again.specs.Tokens.{Tok, sign}
 use Rattle.sw_convert_again.specs.Spells.{Spells, SpellsPlain}
 use Rattle.sw_convert_again.specs.Statements.{SpellsStatement}
 use Rattle.sw_convert_again.specs.Statements as spells
-use Rattle.sw_convert_again.specs.Loads.{SpellsNamespace, SpellsPrefix, SpellsMember, SpellsMoreMembers, SpellsFilter}
+use Rattle.sw_convert_again.specs.Loads.{SpellsNamespace}
 use Rattle.sw_convert_again.specs.Loads as spells_loads
 use Rattle.sw_convert_again.specs.Params.{SpellsMixinName, own_name, owned_name}
 use Rattle.sw_convert_tokens.specs.Written.{AsRow, AsValue, WrittenAs}
 use Rattle.sw_convert_tokens.specs.Values.{WasRead}
+use Rattle.sw_convert_texts.specs.Comments.{comment_known}
 use Rattle.sw_convert_statements.specs.Segments.{ElseWritten}
 use Rattle.sw_convert_statements.specs.Statements.{FrontIs}
 use Rattle.sw_convert_statements.specs.Media.{are_queries, is_seamless}
-use Rattle.sw_convert_statements.specs.OneName.{is_one_name, goes_behind_dot, is_owner}
+use Rattle.sw_convert_statements.specs.OneName.{is_owner}
 use Rattle.sw_convert_values.specs.Values.{is_led}
 
 -- what is written of each value of a sheet is its tokens, and of one that is no list with commas and without brackets
@@ -45,41 +44,20 @@ pub record ValuesAreKnown (source : Source) : Type 0 where
       → SpellsPlain source i j value tokens
       → (signed : Bool) × WrittenAs (AsValue signed) (expr_text value) tokens
 
--- the name of a mixin is one, and makes no number of a `.` before it
+-- the name of a function or a mixin, behind which a `(` begins no url
+abbrev pub is_callable : Source → ℕ → Bool
+is_callable source at = not (is_url (name_text (name_at source at)))
+
 abbrev pub is_mixin_name : (source : Source) {i j : ℕ} {namespace : Option Namespaced} {at : ℕ} {tokens : List Tok}
     → SpellsMixinName source i j namespace at tokens → Bool
-is_mixin_name source (own_name {i} old) = is_one_name (name_text (name_at source i))
-is_mixin_name source (owned_name {i} owner dot old) =
-    is_one_name (name_text (name_at source (suc (suc i)))) && goes_behind_dot (name_text (name_at source (suc (suc i))))
+is_mixin_name source (own_name {i} old) = is_callable source i
+is_mixin_name source (owned_name {i} owner dot old) = is_callable source (suc (suc i))
 
--- the url gives a namespace, or one is written, and is one name
+-- the url gives a namespace, or one is written
 abbrev pub is_namespace : (source : Source) {url i j : ℕ} {namespace : Namespace} {tokens : List Tok}
     → SpellsNamespace source url i j namespace tokens → Bool
 is_namespace source {url = url} spells_loads.default_namespace = has_namespace (decoded_at source url)
-is_namespace source (spells_loads.written_namespace {i} as_word name) = is_one_name (bytes_at source (suc i))
-is_namespace source (spells_loads.without_namespace as_word star) = true
-
--- the prefix of `@forward` is one name, and so are the members that it shows or hides
-abbrev pub is_prefix : (source : Source) {i j : ℕ} {prefix : Option (List ℕ)} {tokens : List Tok}
-    → SpellsPrefix source i j prefix tokens → Bool
-is_prefix source spells_loads.no_prefix = true
-is_prefix source (spells_loads.some_prefix {i} as_word name star) = is_one_name (bytes_at source (suc i))
-
-abbrev pub is_member : (source : Source) {i j : ℕ} {member : Member} {tokens : List Tok}
-    → SpellsMember source i j member tokens → Bool
-is_member source (spells_loads.named_member {i} old) = is_one_name (name_text (name_at source i))
-is_member source (spells_loads.variable_member dollar old) = true
-
-abbrev pub are_members : (source : Source) {i j : ℕ} {members : List Member} {tokens : List Tok}
-    → SpellsMoreMembers source i j members tokens → Bool
-are_members source spells_loads.no_more_members = true
-are_members source (spells_loads.more_members comma one more) = is_member source one && are_members source more
-
-abbrev pub is_filter : (source : Source) {i j : ℕ} {filter : Filter} {tokens : List Tok}
-    → SpellsFilter source i j filter tokens → Bool
-is_filter source spells_loads.no_filter = true
-is_filter source (spells_loads.shown old one more) = is_member source one && are_members source more
-is_filter source (spells_loads.hidden old one more) = is_member source one && are_members source more
+is_namespace source _ = true
 
 -- no word stands among these tokens
 abbrev pub is_word_token : List Terminal → Bool
@@ -103,8 +81,8 @@ abbrev pub is_unbounded : List ℕ → List Tok → Bool
 is_unbounded text tokens = wordless tokens || not (has_bound text)
 
 -- the statements of which it is proved: those of values, `@each`, `@for` with such bounds, variables with flags,
--- assignments, `@charset`, `@content`, `@at-root` without a selector, `@forward`, `@use`, `@media`, and functions, mixins
--- and `@include`, where their names are such
+-- assignments, `@charset`, `@content`, `@at-root` without a selector, `@forward`, `@use`, `@media`, functions, mixins and
+-- `@include`, where their names are such, and loud comments
 abbrev pub is_told : {source : Source} {i j : ℕ} {statement : Statement} {tokens : List Tok}
     → SpellsStatement source i j statement tokens → Bool
 is_told (spells.return_line span old inner end) = true
@@ -117,11 +95,10 @@ is_told (spells.content_line span old given end) = true
 is_told {source} (spells.include_line span name_span old mixin given using end) = is_mixin_name source mixin
 is_told {source} (spells.include_block span name_span old mixin given using block) = is_mixin_name source mixin
 is_told (spells.at_root_block span old block) = true
-is_told {source} (spells.forward_line span one two renamed members settings end) =
-    is_prefix source renamed && is_filter source members
+is_told (spells.forward_line span one two renamed members settings end) = true
 is_told {source} (spells.use_line span one two name settings end) = is_namespace source name
-is_told {source} (spells.function_block {i} span one two head block) = is_one_name (name_text (name_at source (suc i)))
-is_told {source} (spells.mixin_block {i} span one two head block) = is_one_name (name_text (name_at source (suc i)))
+is_told {source} (spells.function_block {i} span one two head block) = is_callable source (suc i)
+is_told {source} (spells.mixin_block {i} span one two head block) = is_callable source (suc i)
 is_told
     (spells.for_block {from = from} {to = to} {tokens = tokens} {others = others} span one two three four low old high
     block) =
@@ -131,6 +108,7 @@ is_told (spells.if_block span old inner block further otherwise) = true
 is_told (spells.each_block span one two three names in_word inner block) = true
 is_told {source} (spells.media_block {list = list} span text_span old queries block) =
     is_seamless (record { parts = Mixed list; span = text_span }) && are_queries source queries
+is_told {source} (spells.comment_line comment) = comment_known source comment
 is_told _ = false
 
 abbrev pub FrontsAreWritten : Type 0

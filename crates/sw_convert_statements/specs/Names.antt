@@ -31,6 +31,7 @@ use Rattle.sw_convert_heads_passing.specs.Heads.{is_keyword}
 use Rattle.sw_convert_heads_passing.specs.Statements.{begins_else}
 use Rattle.sw_convert_texts.specs.Names.{joined, name_inserts}
 use Rattle.sw_convert_texts.specs.RawKinds.{raw_known, is_uncut}
+use Rattle.sw_convert_texts.specs.AtInserts.{at_known}
 use Rattle.sw_convert_texts.specs.RawTexts.{SheetSegment}
 use Rattle.sw_convert_texts.specs.RuleTexts.{begins_rule}
 use Rattle.sw_convert_statements.specs.Segments.{RuleWritten}
@@ -86,7 +87,8 @@ abbrev pub is_custom : (source : Source) {i j : ℕ} {parts : Parts} {tokens : L
     → SpellsName source terminals.Custom i j parts tokens → Bool
 is_custom source {parts = parts} name = begins_dashed (joined parts)
 
--- `@` and a name that is no keyword, or that begins with a keyword directly before a `#{}`
+-- `@` and a name that is no keyword, or that begins with a keyword directly before a `#{}`, or one that begins with a
+-- `#{}` or with a `-` before one
 abbrev pub names_rule : Sort → Bool → Bool
 names_rule sorts.AtName inserts = true
 names_rule sort inserts = is_keyword sort && (not (is_else sort) && inserts)
@@ -94,7 +96,7 @@ names_rule sort inserts = is_keyword sort && (not (is_else sort) && inserts)
 abbrev pub is_at_rule : (source : Source) {i j : ℕ} {parts : Parts} {tokens : List Tok}
     → SpellsAtName source i j parts tokens → Bool
 is_at_rule source (at_word {i} name) = names_rule (at_sort (bytes_at source i)) (name_inserts name)
-is_at_rule source _ = false
+is_at_rule source name = at_known source name
 
 -- declarations with a value, a block or both, custom properties and at-rules of CSS with such names, and such rules
 abbrev pub has_name : {source : Source} {i j : ℕ} {statement : Statement} {tokens : List Tok}

@@ -12,12 +12,13 @@ use Rattle.sw_parse_table.specs.Sources.{bytes_at, decoded_at, text_between}
 use Rattle.sw_parse_table.specs.Values.{qualified_of}
 use Rattle.sw_parse_table.specs.Actions.{mixin_of, name_at, names_at, stands_at, flags_at, url_at}
 use Rattle.sw_convert_written.specs.Expressions.{expr_text}
-use Rattle.sw_convert_written.specs.Heads.{raw_text, selector_text, queries_text, variable_text, assignment_text, declaration_text, custom_text, properties_head, use_text, forward_text, callable_head, include_text, using_params, content_text, say_word, each_head, for_head, at_root_head, at_rule_head}
+use Rattle.sw_convert_written.specs.Heads.{plain_text, raw_text, selector_text, queries_text, variable_text, assignment_text, declaration_text, custom_text, properties_head, use_text, forward_text, callable_head, include_text, using_params, content_text, say_word, each_head, for_head, at_root_head, at_rule_head}
 use Rattle.sw_convert_again.specs.Tokens.{Tok, tok, sign, Bytes, Dashed, Decoded}
 use Rattle.sw_convert_again.specs.Params.{dollar_tokens}
 use Rattle.sw_convert_again.specs.RawTexts.{raw_tokens}
 use Rattle.sw_convert_again.specs.Statements.{SpellsStatement, SpellsBlock, SpellsBranches, SpellsElse, SpellsStatements, flag_if, flag_tokens, say_name}
 use Rattle.sw_convert_again.specs.Statements as spells
+use Rattle.sw_convert_texts.specs.Comments.{CommentWritten}
 use Rattle.sw_convert_statements.specs.Segments.{FrontWritten, ElseWritten, RuleWritten}
 
 -- what is asked of a statement itself
@@ -109,8 +110,7 @@ FrontIs {source} (spells.supports_block {i} {k} {values = values} {tokens = toke
     (sign terminals.AtSupports ∷ raw_tokens source (suc i) k values extents tokens)
 FrontIs {source} (spells.rule_block {i} {k} {values = values} {tokens = tokens} {extents = extents} span raw block) =
     RuleWritten (selector_text (text_between source i k values)) (raw_tokens source i k values extents tokens)
--- of a loud comment this isn't said yet
-FrontIs (spells.comment_line comment) = ⊥
+FrontIs (spells.comment_line {text = text} {tokens = tokens} comment) = CommentWritten (plain_text text) tokens
 FrontIs {source} (spells.use_line {i} {namespace = namespace} {givens = givens} {tokens = tokens} {others = others} span one two name settings end) =
     FrontWritten modes.Use
     (use_text

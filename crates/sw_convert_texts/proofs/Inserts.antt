@@ -14,6 +14,7 @@ use Rattle.sw_tokens.specs.Pieces.{made, piece, code_piece, url_piece, comment_p
 use Rattle.sw_tokens.specs.Tokens.{is_spaced}
 use Rattle.sw_parse_terminals.specs.declared.terminal.Terminal.{Terminal}
 use Rattle.sw_parse_terminals.specs.declared.terminal.Terminal.TheVariants as terminals
+use Rattle.sw_parse_lexemes.specs.declared.sort.Sort.TheVariants as sorts
 use Rattle.sw_parse_lexemes.specs.declared.state.Mode.TheVariants as modes
 use Rattle.sw_convert_spelling.specs.Spelt.{behind_gap, innermost, is_sheet_code, is_gap}
 use Rattle.sw_convert_passing.specs.Values.{Items, items}
@@ -21,6 +22,7 @@ use Rattle.sw_convert_again.specs.Tokens.{Said, Tok}
 use Rattle.sw_convert_tokens.specs.Joints.{Seen, Joint, Token, text, Stand}
 use Rattle.sw_convert_tokens.specs.Written.{Follows, gap_of, AsRow, IsWritten, WrittenAs}
 use Rattle.sw_convert_tokens.proofs.Joins.{stand_append}
+use Rattle.sw_convert_tokens.proofs.Loud.{seen_by}
 
 -- where a `#{` opens a value
 abbrev pub takes_insert : Inside → Bool
@@ -101,10 +103,10 @@ some_one : 0 < length (codes "}")
 some_one = lit< tt
 
 -- tokens behind the `}`, and all from the `#{` on
-pub close_stand : (stack : List Inside) (said : Said) (joints : List Joint) (after : List ℕ)
-    → Stand stack befores.Other joints stack after
-    → Stand (insides.Interpolation ∷ stack) befores.Other (Token (closing said) ∷ joints) stack after
-close_stand stack said joints after more = (
+close_stand : (stack end : List Inside) (said : Said) (joints : List Joint) (after : List ℕ)
+    → Stand stack befores.Other joints end after
+    → Stand (insides.Interpolation ∷ stack) befores.Other (Token (closing said) ∷ joints) end after
+close_stand stack end said joints after more = (
   refl,
   some_one,
   (refl, refl),
@@ -113,25 +115,34 @@ close_stand stack said joints after more = (
   more,
 )
 
+pub value_stand_to : (stack end : List Inside) (before : Before) (gap : List ℕ) (terminal : Terminal) (first said : Said)
+    {value : List ℕ} {tokens : List Tok} (inner : Inner value tokens) (joints : List Joint) (after : List ℕ)
+    → takes_insert (innermost stack) ≡ true → is_gap (innermost stack) gap (codes "#{") ≡ true
+    → Stand stack befores.Other joints end after
+    → Stand stack before
+    (Token (opening_behind before gap terminal first) ∷ (inner.segment.joints ++ Token (closing said) ∷ joints)) end after
+value_stand_to stack end before gap terminal first said {value} inner joints after takes is more = (
+  is,
+  some_two,
+  (refl, seen_by sorts.OpenInsert (terminal ∷ []) refl),
+  λ e. absurd (cc),
+  open_token (innermost stack) (behind_gap before gap) _ takes,
+  stand_append (insides.Interpolation ∷ stack) (insides.Interpolation ∷ stack) end befores.Other inner.segment.joints
+      (Token (closing said) ∷ joints) after
+      (inner.segment.stand (insides.Interpolation ∷ stack) (text (Token (closing said) ∷ joints) ++ after) refl
+      (close_follows value (text joints ++ after)))
+      (subst (λ (b : Before). Stand (insides.Interpolation ∷ stack) b (Token (closing said) ∷ joints) end after)
+      (sym inner.segment.last) (close_stand stack end said joints after more)),
+)
+
 pub value_stand : (stack : List Inside) (before : Before) (gap : List ℕ) (terminal : Terminal) (first said : Said)
     {value : List ℕ} {tokens : List Tok} (inner : Inner value tokens) (joints : List Joint) (after : List ℕ)
     → takes_insert (innermost stack) ≡ true → is_gap (innermost stack) gap (codes "#{") ≡ true
     → Stand stack befores.Other joints stack after
     → Stand stack before
     (Token (opening_behind before gap terminal first) ∷ (inner.segment.joints ++ Token (closing said) ∷ joints)) stack after
-value_stand stack before gap terminal first said {value} inner joints after takes is more = (
-  is,
-  some_two,
-  (refl, refl),
-  λ e. absurd (cc),
-  open_token (innermost stack) (behind_gap before gap) _ takes,
-  stand_append (insides.Interpolation ∷ stack) (insides.Interpolation ∷ stack) stack befores.Other inner.segment.joints
-      (Token (closing said) ∷ joints) after
-      (inner.segment.stand (insides.Interpolation ∷ stack) (text (Token (closing said) ∷ joints) ++ after) refl
-      (close_follows value (text joints ++ after)))
-      (subst (λ (b : Before). Stand (insides.Interpolation ∷ stack) b (Token (closing said) ∷ joints) stack after)
-      (sym inner.segment.last) (close_stand stack said joints after more)),
-)
+value_stand stack before gap terminal first said inner joints after takes is more =
+    value_stand_to stack stack before gap terminal first said inner joints after takes is more
 
 pub insert_stand : (stack : List Inside) (before : Before) (spaced : Bool) (terminal : Terminal) (first said : Said)
     {value : List ℕ} {tokens : List Tok} (inner : Inner value tokens) (joints : List Joint) (after : List ℕ)

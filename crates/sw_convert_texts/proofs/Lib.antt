@@ -34,6 +34,12 @@ pub mod WordsWithValues
 pub mod Dotted
 mod UrlTokens
 pub mod Urls
+mod CommentTokens
+mod OldComments
+mod CommentRows
+pub mod Comments
+pub mod AtInserts
+pub mod OldNames
 mod AroundTexts
 mod SeamedTexts
 mod RawOlds

@@ -40,6 +40,7 @@ use Rattle.sw_convert_again.specs.RawTexts.{Brackets, parens, squares, braces, S
 use Rattle.sw_convert_tokens.specs.Joints.{Seen, Joint, Token, text, toks, writtens, Stand, Sit}
 use Rattle.sw_convert_tokens.proofs.Joins.{text_append, toks_append, writtens_append, behind_append, tell_append, stand_append, sit_left}
 use Rattle.sw_convert_tokens.proofs.Signs.{lone_token}
+use Rattle.sw_convert_tokens.proofs.Loud.{seen_by}
 use Rattle.sw_convert_texts.specs.RawKinds.{gap_before, row_text, opening_text, closing_text, is_bracketed}
 use Rattle.sw_convert_texts.proofs.AroundTexts.{lones, around_texts, CutFrom, cut_token, first_token}
 use Rattle.sw_convert_texts.proofs.RawOlds.{row_cut, AreBrackets}
@@ -342,7 +343,7 @@ module _ (source : Source) (mode : Mode) {i c : ℕ} {opening closing : Terminal
   close_stand after = (
     white_gap (gap_before source c) (bytes_at source c) inner_white last.black,
     last.some,
-    (refl, last.seen),
+    (refl, seen_by (sort_of (closing_kind kind) (bytes_at source c)) (closing ∷ []) last.seen),
     λ e. absurd (let no : true ≡ false = sym e ∙ last.closed in cc),
     last.token (behind_gap inner_end (gap_before source c)) (behind_text ++ after),
     refl,
@@ -360,7 +361,7 @@ module _ (source : Source) (mode : Mode) {i c : ℕ} {opening closing : Terminal
   all_stand white after ends = (
     white_gap gap (bytes_at source i) white first.black,
     first.some,
-    (refl, first.seen),
+    (refl, seen_by (sort_of (opening_kind kind) (bytes_at source i)) (opening ∷ []) first.seen),
     λ e. absurd (let no : true ≡ false = sym e ∙ first.closed in cc),
     first.token (behind_gap before gap) (text rest_joints ++ (behind_text ++ after)),
     subst (λ (b : Before). Stand [] b rest_joints [] (behind_text ++ after)) (sym first.other)

@@ -74,6 +74,23 @@ abbrev pub is_text_sort : Sort → Bool
 is_text_sort sorts.Text = true
 is_text_sort _ = false
 
+-- comments, and the parts of one, or text in a url
+abbrev pub is_whole_comment : Sort → Bool
+is_whole_comment sorts.Comment = true
+is_whole_comment _ = false
+
+abbrev pub is_opened_comment : Sort → Bool
+is_opened_comment sorts.CommentTemplate = true
+is_opened_comment _ = false
+
+abbrev pub is_closed_comment : Sort → Bool
+is_closed_comment sorts.CommentEnd = true
+is_closed_comment _ = false
+
+abbrev pub is_piece : Sort → Bool
+is_piece sorts.Piece = true
+is_piece _ = false
+
 -- a token of a sort may be a terminal, where it goes on with a word directly before it or not, and where a `#{` stands
 -- directly behind it or not; of the terminals that aren't named here nothing is said
 abbrev pub comes : Terminal → Sort → Bool → Bool → Bool → Bool
@@ -96,6 +113,12 @@ comes terminals.RawParen sort goes inserts touches = is_open_paren sort
 comes terminals.RawParenEnd sort goes inserts touches = is_close_paren sort
 comes terminals.RawBracket sort goes inserts touches = is_open_bracket sort
 comes terminals.RawBracketEnd sort goes inserts touches = is_close_bracket sort
+comes terminals.Named sort goes inserts touches = is_name sort
+comes terminals.Prefix sort goes inserts touches = is_name sort
+comes terminals.CommentWhole sort goes inserts touches = is_whole_comment sort
+comes terminals.CommentTemplate sort goes inserts touches = is_opened_comment sort
+comes terminals.CommentEnd sort goes inserts touches = is_closed_comment sort
+comes terminals.Piece sort goes inserts touches = is_piece sort
 comes _ sort goes inserts touches = true
 
 or_more : (a b : Bool) → b ≡ true → (a || b) ≡ true
@@ -158,11 +181,11 @@ module _ (it : Sort) (goes inserts touches : Bool) where
     load_fits sorts.With = leaf _ refl
     load_fits sorts.Show = leaf _ refl
     load_fits sorts.Hide = leaf _ refl
-    load_fits _ = leaf _ refl
+    load_fits _ = leaf _ n
 
     using_fits : (sort : Sort) → Fit it goes inserts touches (using_or_named sort)
     using_fits sorts.Using = leaf _ refl
-    using_fits _ = leaf _ refl
+    using_fits _ = leaf _ n
 
     module _ (state : State) (plains : List Plain) (at : ℕ) where
       expression_fits : Fit it goes inserts touches (name_in_expression state plains at)
@@ -183,8 +206,8 @@ module _ (it : Sort) (goes inserts touches : Bool) where
       include_fits : Fit it goes inserts touches (name_in_include state plains at)
       include_fits =
           choice (is state.before terminals.AtInclude) _ _
-          (pick (is_direct plains (at + 1) sorts.Dot) terminals.Owner terminals.Named refl refl)
-          (choice (is state.before terminals.OwnerDot) _ _ (leaf terminals.Named refl) (using_fits (sort_at plains at)))
+          (pick (is_direct plains (at + 1) sorts.Dot) terminals.Owner terminals.Named refl n)
+          (choice (is state.before terminals.OwnerDot) _ _ (leaf terminals.Named n) (using_fits (sort_at plains at)))
 
       media_fits : Fit it goes inserts touches (name_in_media state plains at)
       media_fits =
@@ -215,17 +238,17 @@ module _ (it : Sort) (goes inserts touches : Bool) where
       in_mode : (mode : Mode) → Fit it goes inserts touches (name_in (record state { mode = mode }) plains at)
       in_mode modes.Special = special_fits
       in_mode modes.CustomName = leaf terminals.Custom n
-      in_mode modes.Use = choice (is state.before terminals.As) _ _ (leaf terminals.Named refl)
+      in_mode modes.Use = choice (is state.before terminals.As) _ _ (leaf terminals.Named n)
           (load_fits (sort_at plains at))
       in_mode modes.Forward =
-          choice (is state.before terminals.As) _ _ (leaf terminals.Prefix refl)
-          (choice (before_member state.before) _ _ (leaf terminals.Named refl) (load_fits (sort_at plains at)))
-      in_mode modes.Head = leaf terminals.Named refl
+          choice (is state.before terminals.As) _ _ (leaf terminals.Prefix n)
+          (choice (before_member state.before) _ _ (leaf terminals.Named n) (load_fits (sort_at plains at)))
+      in_mode modes.Head = leaf terminals.Named n
       in_mode modes.Include = include_fits
       in_mode modes.Each =
-          pick (is state.before terminals.VariableName && is_in (sort_at plains at)) terminals.In terminals.Named refl refl
+          pick (is state.before terminals.VariableName && is_in (sort_at plains at)) terminals.In terminals.Named refl n
       in_mode modes.For =
-          pick (is state.before terminals.VariableName && is_from (sort_at plains at)) terminals.From terminals.Named refl refl
+          pick (is state.before terminals.VariableName && is_from (sort_at plains at)) terminals.From terminals.Named refl n
       in_mode modes.Bounds = bounds_fits (sort_at plains at)
       in_mode modes.BoundEnds = bounds_fits (sort_at plains at)
       in_mode modes.Else = leaf terminals.If refl

@@ -1,5 +1,5 @@
 -- Words and names with values in them are written as their tokens.
-use Rattle.std.proofs.Common.{◌≡◌, ◌≤◌, ℕ, suc, ◌+◌, ◌-◌, Bool, true, false, not, ◌||◌, inl, inr, List, [], ◌∷◌, ◌++◌, Some, refl, sym, ◌∙◌, ap, subst, arith, append_assoc, lit<}
+use Rattle.std.proofs.Common.{◌≡◌, ◌≤◌, ℕ, suc, ◌+◌, ◌-◌, Bool, true, false, not, ◌||◌, inl, inr, List, [], ◌∷◌, ◌++◌, Some, refl, sym, ◌∙◌, ap, subst, arith, append_assoc, append-nil, lit<}
 use Rattle.std.specs.Prelude.{slice_range, codes}
 use Rattle.sw_text_scan.specs.Bytes.{sign, is_white}
 use Rattle.sw_text_scan.specs.Words.{is_u}
@@ -43,6 +43,7 @@ use Rattle.sw_convert_tokens.specs.Values.{WasRead}
 use Rattle.sw_convert_tokens.specs.Written.{Follows, is_calm, gap_of, AsRow, WrittenAs}
 use Rattle.sw_convert_tokens.proofs.Joins.{as_text, as_behind, text_append, toks_append, writtens_append, behind_append, tell_append}
 use Rattle.sw_convert_tokens.proofs.Signs.{gap_is, sign_token}
+use Rattle.sw_convert_tokens.proofs.Loud.{seen_by}
 use Rattle.sw_convert_tokens.proofs.Words.{kind_of_name}
 use Rattle.sw_convert_tokens.proofs.Unclosed.{Ends}
 use Rattle.sw_convert_texts.specs.Adjoining.{Adjoins}
@@ -178,7 +179,7 @@ module _ (Behind : Followers) (ending : Ending Behind) (source : Source) (was : 
               let follows = subst (λ (t : List ℕ). Behind t after) text_is f in (
                 gap_is (innermost stack) spaced (bytes_at source i) code part.black,
                 part.some,
-                (refl, part.seen),
+                (refl, seen_by (sort_of part.kind (bytes_at source i)) (terminal ∷ []) part.seen),
                 λ e. absurd (let no : true ≡ false = sym e ∙ part.closed in cc),
                 ap (λ (t : List ℕ). piece (bytes_at source i ++ (t ++ after)) (innermost stack) (behind_gap before (gap_of spaced)) 0) more.spelling
                     ∙ stands_row Behind ending source was row i (bytes_at source i) part first.lexeme first.there refl after follows
@@ -195,30 +196,30 @@ module _ (Behind : Followers) (ending : Ending Behind) (source : Source) (was : 
       (close : Old source c (just terminals.InsertEnd))
       (row : SpellsRow source terminals.Part terminals.PartInsert 0 (suc c) j inserts count others)
       (written_so : WrittenAs AsRow (expr_text value) tokens) (has : RowHasValues row) where
-    behind_more : RowIs Behind source row
+    pub behind_more : RowIs Behind source row
     behind_more = row_is Behind ending source was row c close.lexeme close.there refl has
 
-    abbrev closed_said : Said
+    abbrev pub closed_said : Said
     closed_said = behind_insert source c inserts count
 
-    closed_said_is : closed_said ≡ said_behind (none inserts) count (lone (head_of source row))
+    pub closed_said_is : closed_said ≡ said_behind (none inserts) count (lone (head_of source row))
     closed_said_is =
         behind_is source c count inserts
         ∙ ap (said_behind (none inserts) count) (behind_text source was row close.lexeme close.there)
 
-    inner : Inner (expr_text value) tokens
+    pub inner : Inner (expr_text value) tokens
     inner = inner_of (expr_text value) tokens written_so
 
-    abbrev inserted_text : List ℕ
+    abbrev pub inserted_text : List ℕ
     inserted_text = codes "#{" ++ (expr_text value ++ (codes "}" ++ row_text source row))
 
-    abbrev inserted_tokens : Terminal → Said → List Tok
+    abbrev pub inserted_tokens : Terminal → Said → List Tok
     inserted_tokens terminal said = tok terminal said ∷ (tokens ++ tok terminals.InsertEnd closed_said ∷ others)
 
-    abbrev inserted_passed : Bool → Terminal → List Written
+    abbrev pub inserted_passed : Bool → Terminal → List Written
     inserted_passed spaced terminal = inserted spaced terminal inner.passed (writtens behind_more.joints)
 
-    insert_segment : (terminal : Terminal) (said : Said) (before : Before) (spaced : Bool)
+    unfoldable pub insert_segment : (terminal : Terminal) (said : Said) (before : Before) (spaced : Bool)
         → ((new : Source) (commented : Bool) (at : ℕ) (front after : List ℕ) (joints : List Joint)
         → Sit new commented at front (Token (opening before spaced terminal said) ∷ joints) after → Says new at said)
         → Segment before (gap_of spaced ++ inserted_text) (inserted_tokens terminal said)
@@ -257,14 +258,14 @@ module _ (Behind : Followers) (ending : Ending Behind) (source : Source) (was : 
         }
 
     -- the pieces behind the text before it
-    abbrev list_behind : List Piece
+    abbrev pub list_behind : List Piece
     list_behind =
         pieces_from source (record { from = to_at source (suc c - 1); to = to_at source (j - 1); first = suc c - 1; end = j - 1 }) inserts
 
-    abbrev list_from : List Piece
+    abbrev pub list_from : List Piece
     list_from = pieces.Inserted value ∷ list_behind
 
-    pieces_behind : (before : List ℕ) → joined_pieces (text_pieces (lone before) ++ list_from) ≡ before ++ inserted_text
+    pub pieces_behind : (before : List ℕ) → joined_pieces (text_pieces (lone before) ++ list_from) ≡ before ++ inserted_text
     pieces_behind before =
         text_more before list_from
         ∙ ap (λ (t : List ℕ). before ++ t)
@@ -292,33 +293,41 @@ module _ (Behind : Followers) (ending : Ending Behind) (source : Source) (was : 
       told = λ mode owned called. values.begun (inner_items inner) behind_more.parts;
     }
 
-    -- and one with a `-` before it
-    module _ (dash : bytes_at source i ≡ codes "-") (sticks : Adjoins source i) where
-      pub minus_text : joined (parts_between source i j (Inserts (suc i) (suc c) value ∷ inserts)) ≡ codes "-" ++ inserted_text
+    -- and one with a sign before it
+    module _ (first : List ℕ) (is : bytes_at source i ≡ first) (sticks : Adjoins source i) where
+      pub signed_text : joined (parts_between source i j (Inserts (suc i) (suc c) value ∷ inserts)) ≡ first ++ inserted_text
       unfolding texts
-      minus_text =
+      signed_text =
           mixed_text (pieces_from source (stretch_between source i j) (Inserts (suc i) (suc c) value ∷ inserts))
           ∙ ap (λ (n : ℕ). joined_pieces (text_pieces (texts_from source (from_at source (suc i)) (from_at source i) i n) ++ list_from)) (let z : suc i - i ≡ 1 = omega arith in z)
           ∙ ap (λ (t : Texts). joined_pieces (text_pieces t ++ list_from)) (flat_text source (from_at source (suc i)) (from_at source i) i 1 one_flat)
           ∙ ap (λ (n : ℕ). joined_pieces (text_pieces (lone (slice_range (bytes source) (from_at source i) n)) ++ list_from)) sticks.from
-          ∙ ap (λ (t : List ℕ). joined_pieces (text_pieces (lone t) ++ list_from)) dash
-          ∙ pieces_behind (codes "-")
+          ∙ ap (λ (t : List ℕ). joined_pieces (text_pieces (lone t) ++ list_from)) is
+          ∙ pieces_behind first
         where
           one_flat : Flat source i 1
           one_flat = (ap (is_commented source) (let z : i + 1 ≡ suc i = omega arith in z) ∙ sticks.calm, tt)
 
-      abbrev minus_said : Said
-      minus_said = BeforeIt 1 (text_up_to source (from_at source i) i (i + 1))
-
-      minus_said_is : minus_said ≡ said_start false 0 (lone (codes "-" ++ []))
+      pub signed_said_is : BeforeIt 1 (text_up_to source (from_at source i) i (i + 1)) ≡ said_start false 0 (lone (first ++ []))
       unfolding texts
-      minus_said_is =
+      signed_said_is =
           ap (λ (n : ℕ). BeforeIt 1 (texts_from source (from_at source n) (from_at source i) i (n - i))) (let z : i + 1 ≡ suc i = omega arith in z)
           ∙ ap (λ (n : ℕ). BeforeIt 1 (texts_from source (from_at source (suc i)) (from_at source i) i n)) (let z : suc i - i ≡ 1 = omega arith in z)
           ∙ ap (BeforeIt 1) (flat_text source (from_at source (suc i)) (from_at source i) i 1
           (ap (is_commented source) (let z : i + 1 ≡ suc i = omega arith in z) ∙ sticks.calm, tt))
           ∙ ap (λ (n : ℕ). BeforeIt 1 (lone (slice_range (bytes source) (from_at source i) n))) sticks.from
-          ∙ ap (λ (t : List ℕ). BeforeIt 1 (lone t)) dash
+          ∙ ap (λ (t : List ℕ). BeforeIt 1 (lone t)) (is ∙ sym (append-nil first))
+
+    -- a `-`
+    module _ (dash : bytes_at source i ≡ codes "-") (sticks : Adjoins source i) where
+      pub minus_text : joined (parts_between source i j (Inserts (suc i) (suc c) value ∷ inserts)) ≡ codes "-" ++ inserted_text
+      minus_text = signed_text (codes "-") dash sticks
+
+      abbrev minus_said : Said
+      minus_said = BeforeIt 1 (text_up_to source (from_at source i) i (i + 1))
+
+      minus_said_is : minus_said ≡ said_start false 0 (lone (codes "-" ++ []))
+      minus_said_is = signed_said_is (codes "-") dash sticks
 
       minus_written : NameWritten AsWord Behind (joined (parts_between source i j (Inserts (suc i) (suc c) value ∷ inserts)))
           (tok terminals.WordMinus minus_said ∷ inserted_tokens terminals.WordInsert Nothing)

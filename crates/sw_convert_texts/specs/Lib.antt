@@ -5,3 +5,5 @@ pub mod RawTexts
 pub mod RawKinds
 pub mod RuleTexts
 pub mod Urls
+pub mod Comments
+pub mod AtInserts

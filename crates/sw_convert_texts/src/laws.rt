@@ -1,5 +1,7 @@
 // What is written of a text in which values stand is its tokens.
 ghost use Rattle.sw_convert_texts.specs.Adjoining.{PartsAdjoin};
+ghost use Rattle.sw_convert_texts.specs.AtInserts.{AtInsertsAreWritten};
+ghost use Rattle.sw_convert_texts.specs.Comments.{CommentsAreWritten};
 ghost use Rattle.sw_convert_texts.specs.Names.{AtNamesAreWritten, CalledWordsAreWritten, CustomNamesAreWritten, WordsWithValuesAreWritten};
 ghost use Rattle.sw_convert_texts.specs.RawKinds.{RawTextsAreWritten, SelectorsAreWritten};
 ghost use Rattle.sw_convert_texts.specs.RuleTexts.{RuleTextsAreWritten};
@@ -27,6 +29,11 @@ pub fn at_names_are_written()
     ensures { AtNamesAreWritten }
 {}
 
+/// A law: and so is that of one with a `#{}` directly behind the `@`, or behind a `-` there.
+pub fn at_inserts_are_written()
+    ensures { AtInsertsAreWritten }
+{}
+
 /// A law: what is written of a url without a `}` and a `#{` is its token.
 pub fn urls_are_written()
     ensures { UrlsAreWritten }
@@ -52,4 +59,10 @@ pub fn selectors_are_written()
 /// of a declaration or a custom property stands.
 pub fn rule_texts_are_written()
     ensures { RuleTextsAreWritten }
+{}
+
+/// A law: what is written of a loud comment, with `#{}` in it or without, is its tokens, where this is so of the values in
+/// it.
+pub fn comments_are_written()
+    ensures { CommentsAreWritten }
 {}

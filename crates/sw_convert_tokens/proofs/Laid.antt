@@ -17,12 +17,12 @@ use Rattle.sw_tokens.specs.Ends.{opens, reaching, reached, tokens_of}
 use Rattle.sw_tokens.specs.Tokens.{before_of, is_spaced}
 use Rattle.sw_parse_lexemes.specs.declared.plain.Plain.{Plain}
 use Rattle.sw_parse_lexemes.specs.Plains.{end_by, holds_slash, has_slash, plain_of, plains_from}
-use Rattle.sw_parse_lexemes.specs.Classes.{is_comment}
+use Rattle.sw_parse_lexemes.specs.declared.sort.Sort.{Sort}
 use Rattle.sw_parse_lexemes.specs.Sorts.{sort_of}
 use Rattle.sw_convert_spelling.specs.Spelt.{behind_gap, innermost, opened, takes_gap, is_gap, end_of, placed_behind, IsToken, AreTokens}
 use Rattle.sw_convert_spelling.proofs.Choices.{neither}
 use Rattle.sw_convert_spelling.proofs.Walked.{these}
-use Rattle.sw_convert_tokens.specs.Joints.{Joint, Token as Seen, Apart, spelt_of, spelts, text, written_of, Direct, IsToldSo, Stand}
+use Rattle.sw_convert_tokens.specs.Joints.{Joint, Token as Seen, Apart, spelt_of, spelts, text, written_of, Direct, IsSeen, IsToldSo, Stand}
 
 -- ---- tokens
 
@@ -47,9 +47,10 @@ tokens_are joints stand unmarked = these [] (spelts joints) unmarked (are_tokens
 
 -- ---- as the pass over tokens finds them
 
-abbrev pub is_apart : Joint → Bool
-is_apart (Seen seen) = false
-is_apart Apart = true
+-- a token of such a sort is seen, where it isn't an empty comment
+abbrev pub IsSeenAs : Joint → Sort → Type 0
+IsSeenAs (Seen seen) sort = IsSeen sort seen.may_be
+IsSeenAs Apart sort = Unit {0}
 
 -- a token by itself, with so much text before it
 pub record IsPlain (front : List ℕ) (joint : Joint) (plain : Plain) (token : Token) : Type 0 where
@@ -59,7 +60,7 @@ pub record IsPlain (front : List ℕ) (joint : Joint) (plain : Plain) (token : T
   pub to : plain.to ≡ length (front ++ (spelt_of joint).gap) + length (spelt_of joint).bytes
   pub silent : plain.silent ≡ false
   pub kind : token.kind ≡ (spelt_of joint).kind
-  pub comment : is_comment plain.sort ≡ is_apart joint
+  pub seen : IsSeenAs joint plain.sort
 
 pub data Laid : List ℕ → List Joint → List Plain → List Token → Type 0 where
   laid_end : {front : List ℕ} → Laid front [] [] []
@@ -100,10 +101,9 @@ joint_sort : (joint : Joint) → (written_of joint).sort ≡ sort_of (spelt_of j
 joint_sort (Seen seen) = refl
 joint_sort Apart = refl
 
-joint_comment : (before : Before) (joint : Joint) → IsToldSo before joint
-    → is_comment (written_of joint).sort ≡ is_apart joint
-joint_comment before (Seen seen) told = told.1
-joint_comment before Apart told = refl
+joint_seen : (before : Before) (joint : Joint) → IsToldSo before joint → IsSeenAs joint (written_of joint).sort
+joint_seen before (Seen seen) told = told.1
+joint_seen before Apart told = tt
 
 joint_spaced : (before : Before) (joint : Joint) → IsToldSo before joint
     → is_spaced (behind_gap before (spelt_of joint).gap) ≡ (written_of joint).spaced
@@ -174,7 +174,7 @@ module _ (whole : List ℕ) where
       laid
       (record {
         sort = sort_is;
-        comment = ap is_comment sort_is ∙ joint_comment before x told;
+        seen = subst (IsSeenAs x) (sym sort_is) (joint_seen before x told);
         spaced = joint_spaced before x told;
         from = sym mid;
         to = own ∙ ap (λ (n : ℕ). n + length s.bytes) (sym mid);

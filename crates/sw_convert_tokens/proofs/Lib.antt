@@ -34,6 +34,7 @@ pub mod Undollared
 pub mod Calls
 pub mod Templates
 pub mod Hashes
+pub mod Loud
 pub mod Laid
 pub mod Sitting
 pub mod Counted

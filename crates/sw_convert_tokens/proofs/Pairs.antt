@@ -21,6 +21,7 @@ use Rattle.sw_convert_tokens.specs.Joints.{Seen, Token, Segment, Sits}
 use Rattle.sw_convert_tokens.specs.Written.{gap_of}
 use Rattle.sw_convert_tokens.proofs.Signs.{gap_is}
 use Rattle.sw_convert_tokens.proofs.Laid.{range_behind}
+use Rattle.sw_convert_tokens.proofs.Loud.{seen_by}
 
 -- their text
 pub pair_sits : (source : Source) (c d : Bool) (at : ℕ) (front : List ℕ) (one two : Seen) (rest more : List ℕ)
@@ -94,14 +95,14 @@ module _ (k l : TokenKind) (xs ys : List ℕ) (ts us : List Terminal) (said : Sa
     stand = λ stack after code ok. (
       gap_is (innermost stack) spaced xs code black,
       some_one,
-      (refl, seen_one),
+      (refl, seen_by (sort_of k xs) ts seen_one),
       λ e. absurd (wrong closed_one e),
       subst (λ (t : List ℕ). piece (xs ++ (t ++ after)) (innermost stack) (behind_gap before (gap_of spaced)) 0 ≡ made k (length xs) changes.Keep)
           (sym (append-nil ys)) (token_one (innermost stack) after code ok),
       (
         refl,
         some_two,
-        (refl, seen_two),
+        (refl, seen_by (sort_of l ys) us seen_two),
         λ e. absurd (wrong closed_two e),
         token_two (innermost stack) after code ok,
         refl,

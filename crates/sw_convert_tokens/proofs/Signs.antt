@@ -30,6 +30,7 @@ use Rattle.sw_parse_lexemes.specs.Classes.{is_comment}
 use Rattle.sw_parse_lexemes.specs.Sorts.{sort_of}
 use Rattle.sw_convert_again.specs.Tokens.{Said, Nothing, Says}
 use Rattle.sw_convert_tokens.specs.Joints.{Token, Segment, Sits}
+use Rattle.sw_convert_tokens.proofs.Loud.{seen_by}
 use Rattle.sw_convert_tokens.specs.Written.{is_calm, gap_of}
 
 -- a space may stand before what begins with none
@@ -86,7 +87,7 @@ token_segment kind bytes terminals said before spaced P closed seen black some t
   stand = λ stack after code ok. (
     gap_is (innermost stack) spaced bytes code black,
     some,
-    (refl, seen),
+    (refl, seen_by (sort_of kind bytes) terminals seen),
     λ e. absurd (wrong e),
     token (innermost stack) after code ok,
     refl,

@@ -27,6 +27,7 @@ use Rattle.sw_convert_again.specs.Tokens.{Among, Stands}
 use Rattle.sw_convert_tokens.specs.Joints.{Seen, Joint, Apart, spelt_of, text, writtens, toks, Sits, Sit, Tell}
 use Rattle.sw_convert_tokens.specs.Joints as joints
 use Rattle.sw_convert_tokens.proofs.Laid.{IsPlain, Laid, laid_end, laid}
+use Rattle.sw_convert_tokens.proofs.Loud.{no_unseen}
 
 -- ---- places in lists
 
@@ -221,14 +222,12 @@ module _ (source : Source) (whole : List Plain) where
       (all_sit list (before ++ lexeme_of it at new.commented terminal ∷ []) more rest (further p)
       (are ∙ sym (one_more before (lexeme_of it at new.commented terminal) lexemes))
       (rest_text (joints.Token seen) list front text_is)))
-  all_sit (joints.Token seen ∷ list) before (comment it w got here start ignored more) (laid laid_so rest) p are text_is =
-      absurd (let wrong : true ≡ false = ap is_comment (sym here ∙ sort_there p) ∙ laid_so.comment in cc)
-  all_sit (Apart ∷ list) before (token it w got seen_here start ignored kind more) (laid laid_so rest) p are text_is =
-      absurd (let wrong : false ≡ true = sym seen_here ∙ ap is_comment (sort_there p) ∙ laid_so.comment in cc)
-  all_sit (Apart ∷ list) before (begins it w got seen_here start ignored kind more) (laid laid_so rest) p are text_is =
-      absurd (let wrong : false ≡ true = sym seen_here ∙ ap is_comment (sort_there p) ∙ laid_so.comment in cc)
+  all_sit (joints.Token seen ∷ list) before (comment it w none got here start ignored more) (laid laid_so rest) p are text_is =
+      absurd (let wrong : true ≡ false = ap is_comment (sym here ∙ sort_there p) ∙ no_unseen _ seen.may_be none laid_so.seen in cc)
+  all_sit (Apart ∷ list) before (token it w got seen_here start ignored kind more) (laid laid_so rest) p are text_is = absurd kind
+  all_sit (Apart ∷ list) before (begins it w got seen_here start ignored kind more) (laid laid_so rest) p are text_is = absurd kind
   all_sit (Apart ∷ list) before {front}
-      (comment {state} {end} {at} {to} {tokens} {lexemes} it w got here start ignored more) (laid laid_so rest) p are text_is =
+      (comment {state} {end} {at} {to} {tokens} {lexemes} it w none got here start ignored more) (laid laid_so rest) p are text_is =
       let (sit, count) = all_sit list before more rest (further p) are (rest_text Apart list front text_is) in (
         subst (λ (f : List ℕ). Sit source true (length before) (f ++ apart) list []) (append-nil front)
             (subst (λ (c : Bool). Sit source c (length before) ((front ++ []) ++ apart) list []) (white_commented state it.sort) sit),

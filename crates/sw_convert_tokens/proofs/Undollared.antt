@@ -8,6 +8,7 @@ use Rattle.sw_parse_terminals.specs.declared.terminal.Terminal.{Terminal}
 use Rattle.sw_parse_terminals.specs.declared.terminal.Terminal.TheVariants as terminals
 use Rattle.sw_parse_lexemes.specs.declared.sort.Sort.{Sort}
 use Rattle.sw_parse_lexemes.specs.declared.sort.Sort.TheVariants as sorts
+use Rattle.sw_parse_lexemes.specs.Sorts.{sort_of}
 use Rattle.sw_parse_lexemes.specs.declared.state.Mode.{Mode}
 use Rattle.sw_parse_lexemes.specs.declared.state.Mode.TheVariants as modes
 use Rattle.sw_parse_lexemes.specs.Classes.{is_name, is_number}
@@ -18,8 +19,9 @@ use Rattle.sw_convert_passing.specs.Values.{Value, Word, Settles, stays_behind, 
 use Rattle.sw_convert_passing.specs.Values as passing
 use Rattle.sw_convert_again.specs.Spells.{is_named, without_named, undollared}
 use Rattle.sw_convert_again.specs.Tokens.{Tok, Among}
-use Rattle.sw_convert_tokens.specs.Joints.{Seen, Joint, Token, Apart, Segment, Sits, Tell, Stand, text, writtens, toks, behind}
+use Rattle.sw_convert_tokens.specs.Joints.{Seen, Joint, Token, Apart, IsSeen, Segment, Sits, Tell, Stand, text, writtens, toks, behind}
 use Rattle.sw_convert_tokens.specs.Written.{AsValue, WrittenAs}
+use Rattle.sw_convert_tokens.proofs.Loud.{seen_by}
 use Rattle.sw_convert_tokens.proofs.Arguments.{Exactly, IsArgument, same_append, settles_as}
 
 -- ---- what comes first
@@ -245,10 +247,16 @@ exact_tells (Token seen ∷ joints) (says, others) = (
 )
 exact_tells (Apart ∷ joints) e = e
 
+exact_told : (sort : Sort) (kinds : List Terminal) → IsSeen sort kinds → IsSeen sort (without_named kinds)
+exact_told sort (terminals.CommentWhole ∷ []) it = tt
+exact_told sort (terminals.CommentTemplate ∷ []) it = tt
+exact_told sort kinds it = seen_by sort (without_named kinds) it
+
 exact_stand : (stack end : List Inside) (before : Before) (joints : List Joint) (after : List ℕ)
     → Stand stack before joints end after → Stand stack before (exact_joints joints) end after
 exact_stand stack end before [] after s = s
-exact_stand stack end before (Token seen ∷ joints) after s = s
+exact_stand stack end before (Token seen ∷ joints) after (gap, some, (spaced, told), opening, token, rest) =
+    (gap, some, (spaced, exact_told (sort_of seen.kind seen.bytes) seen.may_be told), opening, token, rest)
 exact_stand stack end before (Apart ∷ joints) after s = s
 
 exact_segment : {before end : Before} {bytes : List ℕ} {tokens : List Tok} {passed : List Written}

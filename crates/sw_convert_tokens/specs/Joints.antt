@@ -9,7 +9,9 @@ use Rattle.sw_tokens.specs.declared.token.TokenKind.TheVariants as kinds
 use Rattle.sw_tokens.specs.Ends.{opens}
 use Rattle.sw_tokens.specs.Tokens.{before_of, is_spaced}
 use Rattle.sw_parse_terminals.specs.declared.terminal.Terminal.{Terminal}
+use Rattle.sw_parse_terminals.specs.declared.terminal.Terminal.TheVariants as terminals
 use Rattle.sw_parse_terminals.specs.declared.lexeme.Lexeme.{Lexeme}
+use Rattle.sw_parse_lexemes.specs.declared.sort.Sort.{Sort}
 use Rattle.sw_parse_lexemes.specs.Classes.{is_comment}
 use Rattle.sw_parse_lexemes.specs.Sorts.{sort_of}
 use Rattle.sw_parse_table.specs.declared.source.Source.{Source}
@@ -58,10 +60,16 @@ abbrev pub behind : Before → List Joint → Before
 behind before [] = before
 behind before (joint ∷ joints) = behind (before_of (Some (spelt_of joint).kind)) joints
 
--- what is told of a token: white space as it stands, and no comment
+-- a token that the grammar sees is no comment, or begins a loud one
+abbrev pub IsSeen : Sort → List Terminal → Type 0
+IsSeen sort (terminals.CommentWhole ∷ []) = Unit {0}
+IsSeen sort (terminals.CommentTemplate ∷ []) = Unit {0}
+IsSeen sort may_be = is_comment sort ≡ false
+
+-- what is told of a token: white space as it stands, and that it is seen
 abbrev pub IsToldSo : Before → Joint → Type 0
 IsToldSo before (Token seen) =
-    (seen.spaced ≡ is_spaced (behind_gap before seen.gap)) × (is_comment (sort_of seen.kind seen.bytes) ≡ false)
+    (seen.spaced ≡ is_spaced (behind_gap before seen.gap)) × IsSeen (sort_of seen.kind seen.bytes) seen.may_be
 IsToldSo before Apart = is_spaced before ≡ false
 
 -- a token stands directly behind
