@@ -1,5 +1,5 @@
 -- Names of at-rules whose `#{}` stands directly behind the `@`, or behind a `-` there, are written as their tokens.
-use Rattle.std.proofs.Common.{◌≡◌, ◌<◌, ℕ, suc, ◌+◌, ◌-◌, Bool, true, false, not, ◌&&◌, inl, inr, List, [], ◌∷◌, ◌++◌, length, refl, sym, ◌∙◌, ap, subst, arith, append_assoc, lit<}
+use Rattle.std.proofs.Common.{◌≡◌, ◌<◌, ℕ, suc, ◌+◌, ◌-◌, Bool, true, false, not, inr, List, [], ◌∷◌, ◌++◌, length, refl, sym, ◌∙◌, ap, subst, arith, lit<}
 use Rattle.std.specs.Prelude.{◌==◌, slice_range, bytes_eq, codes}
 use Rattle.std.proofs.lemmas.Slice.Eq.{bytes_eq-Decides}
 use Rattle.sw_text_scan.specs.Bytes.{sign, byte, is_white}
@@ -8,7 +8,6 @@ use Rattle.sw_text_scan.specs.Words.{is_u}
 use Rattle.sw_text_scan.proofs.Bounds.{and_left, and_right, not_true}
 use Rattle.sw_text_locality.proofs.Lexical.{equal}
 use Rattle.sw_tree.specs.declared.expr.Expr.{Expr}
-use Rattle.sw_tree.specs.declared.text.Parts.{Parts}
 use Rattle.sw_tokens.specs.declared.pieces.Before.{Before}
 use Rattle.sw_tokens.specs.declared.pieces.Before.TheVariants as befores
 use Rattle.sw_tokens.specs.declared.pieces.Change.TheVariants as changes
@@ -31,14 +30,14 @@ use Rattle.sw_convert_passing.specs.Written.{Written, written, direct}
 use Rattle.sw_convert_again.specs.Tokens.{Said, Nothing, Before as BeforeIt, Says, text_up_to, Tok, tok, Old}
 use Rattle.sw_convert_again.specs.Tokens as again
 use Rattle.sw_convert_again.specs.Spells.{SpellsRow}
-use Rattle.sw_convert_again.specs.Statements.{SpellsAtName, at_word, at_insert, at_minus}
+use Rattle.sw_convert_again.specs.Statements.{at_word, at_insert, at_minus}
 use Rattle.sw_convert_tokens.specs.Joints.{Seen, Token, Segment, text}
 use Rattle.sw_convert_tokens.specs.Values.{WasRead}
 use Rattle.sw_convert_tokens.specs.Written.{Follows, is_calm, gap_of, AsRow, WrittenAs}
 use Rattle.sw_convert_tokens.proofs.Signs.{gap_is, token_by, sign_token}
 use Rattle.sw_convert_tokens.proofs.Unclosed.{Ends}
 use Rattle.sw_convert_texts.specs.Adjoining.{Adjoins}
-use Rattle.sw_convert_texts.specs.AtInserts.{at_known, AsInsertedAt, at_inserted, at_minused, AtInsertsAreWritten}
+use Rattle.sw_convert_texts.specs.AtInserts.{AsInsertedAt, at_inserted, at_minused, AtInsertsAreWritten}
 use Rattle.sw_convert_texts.specs.Comments.{adjoins}
 use Rattle.sw_convert_texts.specs.Inserted.{RowHasValues}
 use Rattle.sw_convert_texts.specs.Names.{joined, NameWritten}

@@ -1,13 +1,11 @@
 -- What a loud comment goes on with, up to its end, is written as its tokens.
-use Rattle.std.proofs.Common.{◌≡◌, ◌<◌, ℕ, suc, ◌+◌, ◌-◌, Bool, true, false, not, ◌&&◌, List, [], ◌∷◌, ◌++◌, length, refl, sym, ◌∙◌, ap, subst, arith, append_assoc, lit<}
+use Rattle.std.proofs.Common.{◌≡◌, ◌<◌, ℕ, suc, ◌+◌, ◌-◌, Bool, true, false, not, List, [], ◌∷◌, ◌++◌, length, refl, sym, ◌∙◌, ap, subst, arith, append_assoc, lit<}
 use Rattle.std.specs.Prelude.{◌==◌, codes}
 use Rattle.std.proofs.lemmas.Bool.Decides.{nat_tests}
 use Rattle.sw_text_scan.proofs.Bounds.{and_left, and_right}
 use Rattle.sw_tree.specs.declared.expr.Expr.{Expr}
-use Rattle.sw_tokens.specs.declared.pieces.Before.{Before}
 use Rattle.sw_tokens.specs.declared.pieces.Before.TheVariants as befores
 use Rattle.sw_tokens.specs.declared.pieces.Change.TheVariants as changes
-use Rattle.sw_tokens.specs.declared.skips.Inside.{Inside}
 use Rattle.sw_tokens.specs.declared.skips.Inside.TheVariants as insides
 use Rattle.sw_tokens.specs.declared.token.TokenKind.TheVariants as kinds
 use Rattle.sw_tokens.specs.Pieces.{made, piece}
@@ -17,7 +15,6 @@ use Rattle.sw_parse_lexemes.specs.declared.sort.Sort.TheVariants as sorts
 use Rattle.sw_parse_table.specs.declared.source.Source.{Source}
 use Rattle.sw_parse_table.specs.Parts.{Part}
 use Rattle.sw_parse_table.specs.Sources.{from_in, to_in, from_at, to_at, bytes_at}
-use Rattle.sw_parse_table.specs.Lined.{is_made}
 use Rattle.sw_convert_written.specs.Expressions.{expr_text}
 use Rattle.sw_convert_passing.specs.Written.{Written, direct}
 use Rattle.sw_convert_passing.specs.Values.{Pieces, no_piece, text_piece, piece_insert, inserted}

@@ -1,11 +1,10 @@
 -- Loud comments that were read are written as their tokens.
-use Rattle.std.proofs.Common.{◌≡◌, ◌≤◌, ◌<◌, ℕ, suc, ◌+◌, ◌-◌, Bool, true, false, ◌&&◌, List, [], ◌∷◌, ◌++◌, length, refl, sym, ◌∙◌, ap, subst, arith, append_assoc, length-append, lit<}
+use Rattle.std.proofs.Common.{◌≡◌, ◌≤◌, ◌<◌, ℕ, suc, ◌+◌, true, List, [], ◌∷◌, ◌++◌, length, refl, sym, ◌∙◌, ap, subst, arith, append_assoc, length-append, lit<}
 use Rattle.std.specs.Prelude.{bytes_eq, codes}
 use Rattle.std.proofs.lemmas.Slice.Eq.{bytes_eq-Decides}
 use Rattle.sw_text_scan.proofs.Bounds.{and_left, and_right}
 use Rattle.sw_tree.specs.declared.text.Parts.{Parts}
 use Rattle.sw_tree.specs.declared.text.Parts.TheVariants as parts
-use Rattle.sw_tree.specs.declared.text.Text.{Text}
 use Rattle.sw_tokens.specs.declared.pieces.Before.{Before}
 use Rattle.sw_tokens.specs.declared.pieces.Change.TheVariants as changes
 use Rattle.sw_tokens.specs.declared.skips.Inside.TheVariants as insides
@@ -26,10 +25,10 @@ use Rattle.sw_convert_heads_passing.specs.Comments.{whole, with_values}
 use Rattle.sw_convert_again.specs.Tokens.{Said, Plain, Worded, Says, Tok, tok, saying}
 use Rattle.sw_convert_again.specs.Tokens as again
 use Rattle.sw_convert_again.specs.Spells.{SpellsRow, from_start}
-use Rattle.sw_convert_again.specs.Comments.{SpellsComment, behind_opening, before_closing, whole_comment, comment_template, whole_lines, lines_template}
-use Rattle.sw_convert_tokens.specs.Joints.{Seen, Joint, Token, text}
+use Rattle.sw_convert_again.specs.Comments.{behind_opening, before_closing, whole_comment, comment_template, whole_lines, lines_template}
+use Rattle.sw_convert_tokens.specs.Joints.{Seen, Token, text}
 use Rattle.sw_convert_tokens.proofs.Words.{bytes_sit, parts_are}
-use Rattle.sw_convert_texts.specs.Comments.{is_comment_text, is_whole_comment, comment_row, has_inserts, comment_known, CommentHasValues, CommentWritten, CommentsAreWritten}
+use Rattle.sw_convert_texts.specs.Comments.{is_whole_comment, comment_row, has_inserts, CommentWritten, CommentsAreWritten}
 use Rattle.sw_convert_texts.specs.Names.{joined}
 use Rattle.sw_convert_texts.proofs.CommentRows.{RowIs, row_is, says_worded, BeginsSo, begins_so}
 use Rattle.sw_convert_texts.proofs.CommentTokens.{whole_token, template_token}

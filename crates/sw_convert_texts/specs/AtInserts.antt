@@ -1,6 +1,6 @@
 -- Names of at-rules whose `#{}` stands directly behind the `@`, or behind a `-` there: what is written of them is their
 -- tokens.
-use Rattle.std.specs.Prelude.{◌≡◌, ℕ, suc, Bool, true, false, ◌&&◌, List, [], ◌∷◌, bytes_eq, codes}
+use Rattle.std.specs.Prelude.{◌≡◌, ℕ, Bool, true, false, ◌&&◌, List, ◌∷◌, bytes_eq, codes}
 use Rattle.sw_tree.specs.declared.text.Parts.{Parts}
 use Rattle.sw_parse_terminals.specs.declared.terminal.Terminal.TheVariants as terminals
 use Rattle.sw_parse_lexemes.specs.declared.sort.Sort.TheVariants as sorts

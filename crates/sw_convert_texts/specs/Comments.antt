@@ -14,7 +14,7 @@ use Rattle.sw_convert_heads_passing.specs.Comments.{Comment}
 use Rattle.sw_convert_again.specs.Tokens.{Tok}
 use Rattle.sw_convert_again.specs.Spells.{SpellsRow}
 use Rattle.sw_convert_again.specs.Spells as spells
-use Rattle.sw_convert_again.specs.Comments.{SpellsComment, behind_opening, before_closing, whole_comment, comment_template, whole_lines, lines_template}
+use Rattle.sw_convert_again.specs.Comments.{SpellsComment, behind_opening, before_closing, whole_comment, comment_template}
 use Rattle.sw_convert_tokens.specs.Written.{is_calm}
 use Rattle.sw_convert_texts.specs.Inserted.{RowHasValues}
 use Rattle.sw_convert_texts.specs.RawTexts.{SheetSegment}
