@@ -1,0 +1,13 @@
+pub mod Going
+pub mod Behind
+pub mod Sorts
+pub mod Taken
+pub mod White
+pub mod Steps
+pub mod Inner
+pub mod Heads
+pub mod Depths
+pub mod Begun
+pub mod Placed
+pub mod Rows
+pub mod Sheets

@@ -1,0 +1,7 @@
+//! What the layout of a sheet in lines makes of lines that are written token by token: their tokens flow in, the tokens
+//! that the text stands for flow out, with the signs that lines stand for. Definitions and laws alone; no code runs.
+#![tactic(auto)]
+
+mod laws;
+
+pub use laws::lines_are_laid;
