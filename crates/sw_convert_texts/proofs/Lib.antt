@@ -42,6 +42,7 @@ pub mod AtInserts
 pub mod OldNames
 mod AroundTexts
 mod SeamedTexts
+mod CommentedTexts
 mod RawOlds
 mod Levels
 mod RawStrings

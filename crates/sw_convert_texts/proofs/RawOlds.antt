@@ -1,11 +1,12 @@
 -- Raw text that was read, item by item: the texts around its values, and what is written of it.
-use Rattle.std.proofs.Common.{◌≡◌, ◌≤◌, ◌<◌, ℕ, suc, ◌-◌, Bool, true, false, not, ◌&&◌, if◌then◌else◌, Option, Some, None, List, [], ◌∷◌, ◌++◌, length, refl, sym, ◌∙◌, ap, subst, arith, append_assoc}
+use Rattle.std.proofs.Common.{◌≡◌, ◌⊎◌, inl, inr, ◌||◌, ◌≤◌, ◌<◌, ℕ, suc, ◌-◌, Bool, true, false, not, ◌&&◌, if◌then◌else◌, Option, Some, None, List, [], ◌∷◌, ◌++◌, length, refl, sym, ◌∙◌, ap, subst, arith, append_assoc}
 use Rattle.std.specs.Prelude.{nat_le, nat_lt, bytes_eq, slice_range}
 use Rattle.std.specs.List.{list_all}
 use Rattle.std.proofs.lemmas.Bool.Decides.{nat_tests}
 use Rattle.std.proofs.lemmas.Slice.Eq.{bytes_eq-Decides}
 use Rattle.sw_text_scan.specs.Bytes.{byte, is_white, is_quote}
-use Rattle.sw_text_scan.proofs.Bounds.{and_left, and_right, not_true}
+use Rattle.sw_text_scan.proofs.Bounds.{if_true, if_false, and_left, and_right}
+use Rattle.sw_tree.specs.declared.expr.Expr.{Expr}
 use Rattle.sw_tokens.specs.declared.pieces.Before.{Before}
 use Rattle.sw_tokens.specs.declared.pieces.Before.TheVariants as befores
 use Rattle.sw_parse_terminals.specs.declared.terminal.Terminal.{Terminal}
@@ -16,7 +17,7 @@ use Rattle.sw_parse_lexemes.specs.declared.sort.Sort.TheVariants as sorts
 use Rattle.sw_parse_lexemes.specs.declared.state.Mode.{Mode}
 use Rattle.sw_parse_table.specs.declared.source.Source.{Source}
 use Rattle.sw_parse_table.specs.Parts.{Part, Inserts}
-use Rattle.sw_parse_table.specs.Sources.{Texts, begun, bytes, from_at, to_at, bytes_at, is_commented, pieces_from}
+use Rattle.sw_parse_table.specs.Sources.{Texts, begun, bytes, from_at, to_at, bytes_at, is_commented, gap_at, pieces_from}
 use Rattle.sw_convert_spelling.specs.Spelt.{behind_gap}
 use Rattle.sw_convert_again.specs.Tokens.{Old, Tok, Extent, extent}
 use Rattle.sw_convert_again.specs.Spells.{extents_of}
@@ -24,6 +25,7 @@ use Rattle.sw_convert_again.specs.RawTexts.{Brackets, parens, squares, braces, S
 use Rattle.sw_convert_texts.specs.RawKinds.{closing_text, gap_before, is_beside, is_bracketed, is_some, item_known, item_text, leaves, opening_text, row_known, row_text, sort_there, token_stays, stands_behind, is_opening, is_next, opens_string, token_known, string_behind}
 use Rattle.sw_convert_texts.proofs.JoinedTexts.{slice_some}
 use Rattle.sw_convert_texts.proofs.AroundTexts.{lones, cut_before, around_texts, CutFrom, Step, Beside, cut_token, cut_insert, first_token, first_insert}
+use Rattle.sw_convert_texts.proofs.CommentedTexts.{first_of, begins_insert, Parted, cut_parted, seamed_parted}
 use Rattle.sw_convert_texts.proofs.SeamedTexts.{in_insert, IsSeamed, SeamedFrom, seamed_token, seamed_value, seamed_first, value_first}
 
 -- ---- the texts around its values
@@ -60,24 +62,21 @@ closing_some parens = refl
 closing_some squares = refl
 closing_some braces = refl
 
--- what stands beside the token before
+-- what stands beside the token before: white space, or a comment beside some
 pub record IsBeside (source : Source) (i : ℕ) : Type 0 where
   pub place : suc (i - 1) ≡ i
-  pub beside : Beside source (i - 1) (gap_before source i)
+  pub stands : Beside source (i - 1) (gap_before source i) ⊎ Parted source (i - 1) (gap_before source i)
   pub white : list_all is_white (gap_before source i) ≡ true
 
 pub beside_told : (source : Source) (i : ℕ) → is_beside source i ≡ true → IsBeside source i
 beside_told source i e =
     let rest = and_right (nat_lt 0 i) _ e in
-    let more = and_right (not (is_commented source i)) _ rest in
+    let some = and_left (not (is_commented source i) || is_some (gap_before source i)) _ rest in
+    let more = and_right (not (is_commented source i) || is_some (gap_before source i)) _ rest in
     let place : suc (i - 1) ≡ i = behind i (and_left (nat_lt 0 i) _ e) in record {
       place = place;
-      beside = record {
-        calm = ap (is_commented source) place ∙ not_true (is_commented source i) (and_left (not (is_commented source i)) _ rest);
-        gap_is = ap (λ (m : ℕ). slice_range (bytes source) (to_at source (i - 1)) (from_at source m)) place;
-        low = subst (λ (m : ℕ). to_at source (i - 1) ≤ from_at source m) (sym place)
-            (le (to_at source (i - 1)) (from_at source i) (and_left (nat_le (to_at source (i - 1)) (from_at source i)) _ more));
-      };
+      stands = go place some (le (to_at source (i - 1)) (from_at source i) (and_left (nat_le (to_at source (i - 1)) (from_at source i)) _ more))
+          (is_commented source i) refl;
       white = and_right (nat_le (to_at source (i - 1)) (from_at source i)) _ more;
     }
   where
@@ -87,6 +86,25 @@ beside_told source i e =
     le : (a b : ℕ) → nat_le a b ≡ true → a ≤ b
     le a b l = grind (arith, nat_tests)
 
+    second : (a b : Bool) → a ≡ true → (not a || b) ≡ true → b ≡ true
+    second true b f g = g
+    second false b f g = absurd (let wrong : false ≡ true = f in cc)
+
+    go : suc (i - 1) ≡ i → (not (is_commented source i) || is_some (gap_before source i)) ≡ true
+        → to_at source (i - 1) ≤ from_at source i → (t : Bool) → is_commented source i ≡ t
+        → Beside source (i - 1) (gap_before source i) ⊎ Parted source (i - 1) (gap_before source i)
+    go place some low false c = inl (record {
+      calm = ap (is_commented source) place ∙ c;
+      gap_is = ap (λ (m : ℕ). slice_range (bytes source) (to_at source (i - 1)) (from_at source m)) place
+          ∙ sym (if_false (is_commented source i) (gap_at source i) _ c);
+      low = subst (λ (m : ℕ). to_at source (i - 1) ≤ from_at source m) (sym place) low;
+    })
+    go place some low true c = inr (record {
+      commented = ap (is_commented source) place ∙ c;
+      gap_is = ap (gap_at source) place ∙ sym (if_true (is_commented source i) (gap_at source i) _ c);
+      some = second (is_commented source i) (is_some (gap_before source i)) c some;
+    })
+
 -- it ends behind its begin
 pub lies : (source : Source) (i : ℕ) → is_some (bytes_at source i) ≡ true → from_at source i ≤ to_at source i
 lies source i some =
@@ -94,15 +112,15 @@ lies source i some =
     omega (arith, lt)
 
 -- a token with text of its own
-pub step_told : (source : Source) (i : ℕ) → IsBeside source i → is_some (bytes_at source i) ≡ true
-    → Step source (i - 1) (gap_before source i) (bytes_at source i)
-step_told source i it some =
+pub step_told : (source : Source) (i : ℕ) → suc (i - 1) ≡ i → Beside source (i - 1) (gap_before source i)
+    → is_some (bytes_at source i) ≡ true → Step source (i - 1) (gap_before source i) (bytes_at source i)
+step_told source i place beside some =
     let high = lies source i some in record {
-      calm = it.beside.calm;
-      gap_is = it.beside.gap_is;
-      text_is = ap (bytes_at source) it.place;
-      low = it.beside.low;
-      high = subst (λ (m : ℕ). from_at source m ≤ to_at source m) (sym it.place) high;
+      calm = beside.calm;
+      gap_is = beside.gap_is;
+      text_is = ap (bytes_at source) place;
+      low = beside.low;
+      high = subst (λ (m : ℕ). from_at source m ≤ to_at source m) (sym place) high;
     }
 
 some_as : (text other : List ℕ) → bytes_eq text other ≡ true → is_some other ≡ true → is_some text ≡ true
@@ -157,17 +175,81 @@ module _ (source : Source) (mode : Mode) where
     pub record From (at : ℕ) (parts : List Part) (cuts : Texts) (text : List ℕ) : Type 0 where
       pub cut : CutFrom source to end at (extents_of parts) cuts
       pub seamed : SeamedFrom source to end at parts text
+      pub ahead : at ≤ first_of end (extents_of parts)
+      pub inserts : begins_insert parts ≡ true
 
     token_from : (i at : ℕ) (parts : List Part) (cuts : Texts) (text : List ℕ) → IsBeside source i
         → is_some (bytes_at source i) ≡ true → at ≡ i → From at parts cuts text
         → From (i - 1) parts (begun (gap_before source i) (begun (bytes_at source i) cuts))
         (gap_before source i ++ (bytes_at source i ++ text))
-    token_from i at parts cuts text it some e more =
-        let step = step_told source i it some in
-        let here : From (suc (i - 1)) parts cuts text = subst (λ (m : ℕ). From m parts cuts text) (e ∙ sym it.place) more in record {
-          cut = cut_token source to end (i - 1) (gap_before source i) (bytes_at source i) (extents_of parts) cuts step here.cut;
-          seamed = seamed_token source to end (i - 1) (gap_before source i) (bytes_at source i) parts text step here.seamed;
+    token_from i at parts cuts text it some e more = go it.stands
+      where
+        gap : List ℕ
+        gap = gap_before source i
+
+        own : List ℕ
+        own = bytes_at source i
+
+        here : From (suc (i - 1)) parts cuts text
+        here = subst (λ (m : ℕ). From m parts cuts text) (e ∙ sym it.place) more
+
+        before : i - 1 ≤ first_of end (extents_of parts)
+        before = let far = more.ahead in omega (arith, e, far)
+
+        go : Beside source (i - 1) (gap_before source i) ⊎ Parted source (i - 1) (gap_before source i)
+            → From (i - 1) parts (begun (gap_before source i) (begun (bytes_at source i) cuts))
+            (gap_before source i ++ (bytes_at source i ++ text))
+        go (inl beside) =
+            let step = step_told source i it.place beside some in record {
+              cut = cut_token source to end (i - 1) gap own (extents_of parts) cuts step here.cut;
+              seamed = seamed_token source to end (i - 1) gap own parts text step here.seamed;
+              ahead = before;
+              inserts = more.inserts;
+            }
+        go (inr parted) =
+            let high : from_at source (suc (i - 1)) ≤ to_at source (suc (i - 1)) =
+            subst (λ (m : ℕ). from_at source m ≤ to_at source m) (sym it.place) (lies source i some) in
+            let there = first_token source to end (suc (i - 1)) (extents_of parts) cuts high here.cut
+            ∙ ap (λ (m : ℕ). lones (begun (bytes_at source m) cuts)) it.place in record {
+              cut = cut_parted source (i - 1) gap parted to end (extents_of parts) (begun own cuts) here.ahead there;
+              seamed = seamed_parted source (i - 1) gap parted to end parts (begun own cuts) (own ++ text) here.inserts here.ahead there
+                  (subst (λ (m : ℕ). IsSeamed (pieces_from source (record { from = from_at source (suc (i - 1)); to = to; first = suc (i - 1); end = end }) parts)
+                  (bytes_at source m ++ text)) it.place
+                  (seamed_first source to end (suc (i - 1)) parts text high here.seamed));
+              ahead = before;
+              inserts = more.inserts;
+            }
+
+    -- a value behind what stands there
+    value_from : (i c : ℕ) (value : Expr) (parts : List Part) (cuts : Texts) (text : List ℕ) → IsBeside source i
+        → From c parts cuts text
+        → From (i - 1) (Inserts i (suc c) value ∷ parts) (begun (gap_before source i) (cut_before cuts))
+        (gap_before source i ++ in_insert value text)
+    value_from i c value parts cuts text it here =
+        subst (λ (m : ℕ). From (i - 1) (Inserts m (suc c) value ∷ parts) (begun gap (cut_before cuts)) (gap ++ in_insert value text))
+        it.place (go it.stands)
+      where
+        gap : List ℕ
+        gap = gap_before source i
+
+        go : Beside source (i - 1) (gap_before source i) ⊎ Parted source (i - 1) (gap_before source i)
+            → From (i - 1) (Inserts (suc (i - 1)) (suc c) value ∷ parts) (begun (gap_before source i) (cut_before cuts))
+            (gap_before source i ++ in_insert value text)
+        go (inl beside) = record {
+          cut = cut_insert source to end (i - 1) c gap (extents_of parts) cuts beside here.cut;
+          seamed = seamed_value source to end (i - 1) c gap value parts text beside here.seamed;
+          ahead = omega arith;
+          inserts = refl;
         }
+        go (inr parted) =
+            let there = first_insert source to end (suc (i - 1)) c (extents_of parts) cuts here.cut in record {
+              cut = cut_parted source (i - 1) gap parted to end (extent (suc (i - 1)) (suc c) ∷ extents_of parts) (cut_before cuts) (omega arith) there;
+              seamed = seamed_parted source (i - 1) gap parted to end (Inserts (suc (i - 1)) (suc c) value ∷ parts) (cut_before cuts)
+                  (in_insert value text) refl (omega arith) there
+                  (value_first source to end (suc (i - 1)) c value parts text here.seamed);
+              ahead = omega arith;
+              inserts = refl;
+            }
 
     mutual
       pub old_item : {i k : ℕ} {parts : List Part} {tokens : List Tok} {extents : List Extent}
@@ -179,14 +261,8 @@ module _ (source : Source) (mode : Mode) where
           token_from i (suc i - 1) more cuts behind (beside_told source i b) (some_token old quotes before behind e)
           (let z : suc i - 1 ≡ i = omega arith in z) rest
       old_item (raw_insert {i = i} {c = c} {value = value} opens inner close) quotes before behind b e more cuts rest =
-          let it = beside_told source i b in
-          let here : From c more cuts behind =
-          subst (λ (m : ℕ). From m more cuts behind) (let z : suc c - 1 ≡ c = omega arith in z) rest in record {
-            cut = subst (λ (m : ℕ). CutFrom source to end (i - 1) (extent m (suc c) ∷ extents_of more) (begun (gap_before source i) (cut_before cuts)))
-                it.place (cut_insert source to end (i - 1) c (gap_before source i) (extents_of more) cuts it.beside here.cut);
-            seamed = subst (λ (m : ℕ). SeamedFrom source to end (i - 1) (Inserts m (suc c) value ∷ more) (gap_before source i ++ in_insert value behind))
-                it.place (seamed_value source to end (i - 1) c (gap_before source i) value more behind it.beside here.seamed);
-          }
+          value_from i c value more cuts behind (beside_told source i b)
+          (subst (λ (m : ℕ). From m more cuts behind) (let z : suc c - 1 ≡ c = omega arith in z) rest)
       old_item (raw_brackets kind opens text close) (Some q) before behind b e more cuts rest =
           absurd (let wrong : false ≡ true = e in cc)
       old_item (raw_brackets {i = i} {c = c} {parts = parts} kind opens text close) None before behind b e more cuts rest =

@@ -193,6 +193,8 @@ module _ (source : Source) (was : WasRead source) (mode : Mode) {i k j : ℕ} {p
       let last : From source mode to (j - 1) (j - 1) [] (lone []) [] = record {
         cut = cut_end source to (j - 1) (j - 1) refl refl;
         seamed = seamed_end source to (j - 1) (j - 1) refl refl;
+        ahead = omega arith;
+        inserts = refl;
       } in
       subst (λ (list : List Part). Whole source mode to (j - 1) i (parts ++ list) (item_cut source item (row_cut source row (lone [])))
       (item_text source item (row_text source row [])))

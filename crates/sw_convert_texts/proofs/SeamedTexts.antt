@@ -65,7 +65,7 @@ pub text_loose : (text : List ℕ) → no_value (text_pieces (lone text)) ≡ tr
 text_loose [] = refl
 text_loose (b ∷ text) = ap (λ (w : Written). is_loose (w ∷ [])) (unrolled.said_is (b ∷ text))
 
-insert_loose : (text : List ℕ) (value : Expr) (list : List Piece)
+pub insert_loose : (text : List ℕ) (value : Expr) (list : List Piece)
     → no_value (text_pieces (lone text) ++ pieces.Inserted value ∷ list) ≡ true
 insert_loose [] value list = ap (λ (w : Written). is_loose (w ∷ map piece_written list)) (unrolled.inserted_is value)
 insert_loose (b ∷ text) value list =

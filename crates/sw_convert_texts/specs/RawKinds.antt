@@ -19,7 +19,7 @@ use Rattle.sw_parse_lexemes.specs.Classes.{is_name}
 use Rattle.sw_parse_lexemes.specs.Plains.{plains_of}
 use Rattle.sw_parse_table.specs.declared.source.Source.{Source}
 use Rattle.sw_parse_table.specs.Parts.{Part}
-use Rattle.sw_parse_table.specs.Sources.{bytes, from_at, to_at, bytes_from, bytes_at, is_commented, parts_between}
+use Rattle.sw_parse_table.specs.Sources.{bytes, from_at, to_at, bytes_from, bytes_at, is_commented, gap_at, parts_between}
 use Rattle.sw_convert_spelling.specs.Spelt.{behind_gap}
 use Rattle.sw_convert_written.specs.Escapes.{ends_unclosed}
 use Rattle.sw_convert_written.specs.Expressions.{is_url, expr_text, parts_written}
@@ -36,9 +36,10 @@ use Rattle.sw_convert_texts.specs.Urls.{is_unbroken}
 
 -- ---- what is written of it
 
--- the white space before the token at a place
+-- the white space before the token at a place, without the comments there
 abbrev pub gap_before : Source → ℕ → List ℕ
-gap_before source i = bytes_from source (to_at source (i - 1)) (from_at source i)
+gap_before source i =
+    if is_commented source i then gap_at source i else bytes_from source (to_at source (i - 1)) (from_at source i)
 
 -- an item, and items with the white space before each, where this stands behind them
 abbrev mutual
@@ -287,11 +288,11 @@ abbrev pub is_bracketed : Mode → {opening closing : Terminal} → Brackets ope
 is_bracketed mode braces = is_custom mode
 is_bracketed mode _ = true
 
--- white space alone, or nothing, stands between a token and the one before
+-- white space, with comments or without, or nothing, stands between a token and the one before
 abbrev pub is_beside : Source → ℕ → Bool
 is_beside source i =
     nat_lt 0 i
-    && (not (is_commented source i)
+    && ((not (is_commented source i) || is_some (gap_before source i))
     && (nat_le (to_at source (i - 1)) (from_at source i) && list_all is_white (gap_before source i)))
 
 -- in a string nothing does
@@ -311,7 +312,7 @@ string_behind {source} (raw_token {i = i} old) quotes = open_behind (sort_there 
 string_behind _ quotes = quotes
 
 -- an item, and items, where this string is open and behind what stands before them, and behind which this is written:
--- without comments, tokens that stay what they are there, strings with `#{}`, values in `#{}`, and brackets
+-- tokens that stay what they are there, strings with `#{}`, values in `#{}`, and brackets
 abbrev mutual
   pub item_known : (source : Source) → Mode → {i k : ℕ} {parts : List Part} {tokens : List Tok} {extents : List Extent}
       → SpellsRawItem source i k parts tokens extents → Option ℕ → Before → List ℕ → Bool

@@ -44,8 +44,8 @@ pub fn parts_adjoin()
     ensures { PartsAdjoin }
 {}
 
-/// A law: what is written of raw text without comments is its tokens, with values in `#{}` and through any number of
-/// brackets, where this is so of the values in it.
+/// A law: what is written of raw text is its tokens, with values in `#{}` and through any number of brackets, where this is
+/// so of the values in it, and white space stands beside each comment.
 pub fn raw_texts_are_written()
     ensures { RawTextsAreWritten }
 {}
