@@ -45,6 +45,7 @@ mod SeamedTexts
 mod CommentedTexts
 mod RawOlds
 mod Levels
+pub mod UrlNames
 mod RawStrings
 mod RawHeads
 mod RawNames

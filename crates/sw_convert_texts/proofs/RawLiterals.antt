@@ -38,7 +38,7 @@ use Rattle.sw_convert_tokens.proofs.Hashes.{hex_token}
 use Rattle.sw_convert_tokens.proofs.Numbers.{numeric_opens, numeric_seen, numeric_sort, numeric_behind, calm_hash}
 use Rattle.sw_convert_tokens.proofs.Leaves.{no_other}
 use Rattle.sw_convert_tokens.proofs.Signs.{token_by}
-use Rattle.sw_convert_texts.specs.RawKinds.{is_some, is_other, goes_on, is_colour, string_end, is_string, is_digits, is_unescaped, is_number_text, ends_number, number_stays, told_by, is_at, is_hex, stands_behind, sort_behind}
+use Rattle.sw_convert_texts.specs.RawKinds.{is_some, is_other, goes_on, is_colour, string_end, is_string, is_digits, is_unescaped, is_number_text, ends_number, number_stays, told_by, is_at, is_equals, is_hex, stands_behind, sort_behind}
 use Rattle.sw_convert_texts.proofs.DigitTokens.{digit_token}
 use Rattle.sw_convert_texts.proofs.UnitTokens.{HasUnit, cut_unit, unit_black, unit_token}
 use Rattle.sw_convert_texts.proofs.Parts.{unit_stop}
@@ -92,6 +92,7 @@ pub record IsPlain (sort : Sort) : Type 0 where
   pub unnamed : is_name sort ≡ false
   pub unat : is_at sort ≡ false
   pub unhex : is_hex sort ≡ false
+  pub unequal : is_equals sort ≡ false
   pub leaves : befores.Other ≡ sort_behind sort
   pub literal : is_literal sort ≡ true
 
@@ -129,7 +130,7 @@ string_raw sort (b ∷ c ∷ rest) plain e =
       black = black_byte b (c ∷ rest) first.0;
       token = λ after stays before stands.
           token_by (kinds.Quoted told_text) b (c ∷ rest) after insides.Sheet before refl
-          (calm_by before sort (b ∷ c ∷ rest) plain.unnamed plain.unhex stands) first.1 first.2
+          (calm_by before sort (b ∷ c ∷ rest) plain.unnamed plain.unhex plain.unequal stands) first.1 first.2
           (string_alone (b ∷ c ∷ rest) e) (ap not (no_other b ((c ∷ rest) ++ after) first.1));
       raw = λ mode around spaced rest more. told.raw_token (quoted_sort told_text) (pick_raw (has_namespace told_text)) more;
       told = inr (plain.literal, pick_literal (has_namespace told_text));
@@ -248,7 +249,7 @@ number_raw sort text behind plain same some e = go (is_digits text) refl
       token = λ after stays before stands.
           digits_here text after (some_long text some) d
           (digits_stay text after d (same after (stays_is sort text after plain.unnamed plain.unat stays))) before
-          (calm_by before sort text plain.unnamed plain.unhex stands);
+          (calm_by before sort text plain.unnamed plain.unhex plain.unequal stands);
       raw = λ mode around spaced rest more. told.raw_number sorts.Digits refl more;
       told = inr (plain.literal, refl);
       digits = λ e. refl;
@@ -267,7 +268,7 @@ number_raw sort text behind plain same some e = go (is_digits text) refl
               numbers.number_at text counts after
               (counted_follows text after told_text
               (and_right (is_number_text text) _ (counted_stay text after d (same after (stays_is sort text after plain.unnamed plain.unat stays)))))
-              insides.Sheet before refl (calm_hash before (calm_by before sort text plain.unnamed plain.unhex stands));
+              insides.Sheet before refl (calm_hash before (calm_by before sort text plain.unnamed plain.unhex plain.unequal stands));
           raw = λ mode around spaced rest more.
               told.raw_number (sort_of (numbers.kind text counts) text)
               (numeric_sort (numbers.kind text counts) text (numbers.numeric text counts)) more;
@@ -339,7 +340,7 @@ other_by b u brace white alone joins = record {
   some = omega arith;
   black = black_byte b [] white;
   token = λ after stays before stands.
-      token_by kinds.Other b [] after insides.Sheet before refl (calm_by before sorts.Other (b ∷ []) refl refl stands) u brace alone
+      token_by kinds.Other b [] after insides.Sheet before refl (calm_by before sorts.Other (b ∷ []) refl refl refl stands) u brace alone
       (fits b after u (joins after));
   raw = λ mode around spaced rest more. told.raw_token sorts.Other refl more;
   told = inl refl;

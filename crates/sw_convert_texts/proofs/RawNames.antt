@@ -1,5 +1,5 @@
 -- Names of raw text are the tokens that they were, before what is written behind them.
-use Rattle.std.proofs.Common.{◌≡◌, inl, ◌<◌, ℕ, Bool, true, false, not, ◌&&◌, List, [], ◌∷◌, ◌++◌, length, Option, Some, None, refl, sym, ◌∙◌, ap, subst, ◌-◌, arith}
+use Rattle.std.proofs.Common.{◌≡◌, inl, ◌<◌, ℕ, Bool, true, false, not, ◌&&◌, ◌||◌, List, [], ◌∷◌, ◌++◌, length, Option, Some, None, refl, sym, ◌∙◌, ap, subst, ◌-◌, arith}
 use Rattle.std.specs.Prelude.{◌==◌, if◌then◌else◌}
 use Rattle.std.specs.List.{list_all}
 use Rattle.std.proofs.lemmas.Bool.Decides.{nat_tests}
@@ -39,9 +39,10 @@ use Rattle.sw_convert_tokens.proofs.NamePieces.{name_in, name_keep}
 use Rattle.sw_convert_tokens.proofs.Names.{token_at, dollar_at, hash_at, name_black}
 use Rattle.sw_convert_tokens.proofs.Stops.{Behind, nothing_parts}
 use Rattle.sw_convert_tokens.proofs.Words.{kind_of_name, name_opens, name_behind, name_comment}
-use Rattle.sw_convert_texts.specs.RawKinds.{goes_on, is_colour, is_digits, is_hex, stands_behind, sort_behind, is_some, is_unescaped, name_stays, is_at, at_stays, told_by, token_stays}
+use Rattle.sw_convert_texts.specs.RawKinds.{goes_on, is_colour, is_digits, is_hex, stands_behind, sort_behind, is_some, is_unescaped, name_stays, calls_url, is_at, at_stays, told_by, token_stays}
 use Rattle.sw_convert_texts.proofs.LexemePairs.{plains_in}
 use Rattle.sw_convert_texts.proofs.OldPieces.{old_piece, whole_bytes, Whole}
+use Rattle.sw_convert_texts.proofs.UrlNames.{begins_opaque, url_called}
 
 -- a token as raw text, wherever what is written behind it leaves it one
 pub record RawToken (sort : Sort) (text : List ℕ) : Type 0 where
@@ -60,6 +61,12 @@ pub record RawToken (sort : Sort) (text : List ℕ) : Type 0 where
   pub neutral : is_neutral (sort_of kind text) ≡ true
 
 -- ---- names
+
+-- `url` before arguments that are no raw text
+url_after : (text after : List ℕ) → calls_url text after ≡ true → (is_url text && begins_opaque after) ≡ true
+url_after text [] e = absurd (let wrong : false ≡ true = e in cc)
+url_after text (b ∷ []) e = absurd (let wrong : false ≡ true = e in cc)
+url_after text (b ∷ c ∷ after) e = e
 
 state_none : (xs : List ℕ) → list_all is_unescaped xs ≡ true → behind_text None xs ≡ None
 state_none [] all = refl
@@ -99,15 +106,15 @@ behind_name text after e =
     same n e = grind (arith, nat_tests)
 
 name_there : (sort : Sort) (text after : List ℕ) → is_name sort ≡ true → token_stays sort text after ≡ true
-    → name_stays text (byte after 0) ≡ true
+    → (name_stays text (byte after 0) || calls_url text after) ≡ true
 name_there sort text after n e =
-    sym (if_true (is_name sort) (name_stays text (byte after 0)) (if is_at sort then at_stays text after else told_by sort text after) n)
+    sym (if_true (is_name sort) (name_stays text (byte after 0) || calls_url text after) (if is_at sort then at_stays text after else told_by sort text after) n)
     ∙ and_right (is_some text) _ e
 
 pub at_there : (sort : Sort) (text after : List ℕ) → is_name sort ≡ false → is_at sort ≡ true → token_stays sort text after ≡ true
     → at_stays text after ≡ true
 at_there sort text after n a e =
-    sym (if_false (is_name sort) (name_stays text (byte after 0)) (if is_at sort then at_stays text after else told_by sort text after) n
+    sym (if_false (is_name sort) (name_stays text (byte after 0) || calls_url text after) (if is_at sort then at_stays text after else told_by sort text after) n
     ∙ if_true (is_at sort) (at_stays text after) (told_by sort text after) a)
     ∙ and_right (is_some text) _ e
 
@@ -150,7 +157,7 @@ module _ (source : Source) (was : WasRead source) (k : ℕ) (lexeme : Lexeme) (t
             some = it.some;
             black = name_black text it.after [] kind it.change k_is it.some named (nothing_parts text);
             token = λ after stays before stands.
-                by before stands after (behind_name text after (name_there sort_here text after n stays)) named
+                either before stands after (name_stays text (byte after 0)) refl (name_there sort_here text after n stays) named
                 ∙ ap (made kind (length text)) keep;
             raw = λ mode around spaced rest more. told.raw_name (sort_of kind text) (ap is_name (sym sort) ∙ n) more;
             told = inl (sym sort);
@@ -166,3 +173,10 @@ module _ (source : Source) (was : WasRead source) (k : ℕ) (lexeme : Lexeme) (t
           by befores.Dollar stands after beyond named = dollar_at text it.after after kind it.change k_is it.some named beyond insides.Sheet refl
           by befores.Hash stands after beyond named =
               hash_at text it.after after kind it.change k_is it.some named beyond (no_colour sort_here text n stands) insides.Sheet refl
+
+          either : (before : Before) → stands_behind before sort_here text ≡ true → (after : List ℕ) (t : Bool)
+              → name_stays text (byte after 0) ≡ t → (t || calls_url text after) ≡ true
+              → name_piece (text ++ it.after) 0 ≡ made kind (length text) it.change
+              → piece (text ++ after) insides.Sheet before 0 ≡ made kind (length text) it.change
+          either before stands after true s e named = by before stands after (behind_name text after s) named
+          either before stands after false s e named = url_called text it.after after kind it.change named (url_after text after e) before

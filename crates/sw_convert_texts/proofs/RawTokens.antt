@@ -19,7 +19,7 @@ use Rattle.sw_convert_spelling.proofs.MovedRuns.{first_byte}
 use Rattle.sw_convert_spelling.proofs.Choices.{left_no, both, right_no}
 use Rattle.sw_convert_written.specs.Expressions.{is_url}
 use Rattle.sw_convert_tokens.specs.Values.{WasRead}
-use Rattle.sw_convert_texts.specs.RawKinds.{sign_text, is_some, sign_stays, goes_on, name_stays, is_colour, is_digits, is_number_text, number_stays, told_by, is_at, at_stays, token_stays}
+use Rattle.sw_convert_texts.specs.RawKinds.{sign_text, is_some, sign_stays, goes_on, name_stays, is_colour, is_digits, is_number_text, number_stays, told_by, calls_url, is_at, at_stays, token_stays}
 use Rattle.sw_convert_texts.specs.Urls.{is_unbroken}
 use Rattle.sw_convert_texts.proofs.RawWords.{url_raw, range_raw, at_name_raw}
 use Rattle.sw_convert_texts.proofs.LexemePairs.{plains_in}
@@ -36,14 +36,14 @@ told_raw : (sort : Sort) (text behind : List ℕ) → (sort ≡ sorts.Url → is
 told_raw sorts.Url text behind url range some at e = url refl e
 told_raw sorts.Range text behind url range some at e = range refl
 told_raw sorts.Quoted text behind url range some at e =
-    string_raw sorts.Quoted text (record { unnamed = refl; unat = refl; unhex = refl; leaves = refl; literal = refl }) e
+    string_raw sorts.Quoted text (record { unnamed = refl; unat = refl; unhex = refl; unequal = refl; leaves = refl; literal = refl }) e
 told_raw sorts.Unnamed text behind url range some at e =
-    string_raw sorts.Unnamed text (record { unnamed = refl; unat = refl; unhex = refl; leaves = refl; literal = refl }) e
+    string_raw sorts.Unnamed text (record { unnamed = refl; unat = refl; unhex = refl; unequal = refl; leaves = refl; literal = refl }) e
 told_raw sorts.Digits text behind url range some at e =
-    number_raw sorts.Digits text behind (record { unnamed = refl; unat = refl; unhex = refl; leaves = refl; literal = refl })
+    number_raw sorts.Digits text behind (record { unnamed = refl; unat = refl; unhex = refl; unequal = refl; leaves = refl; literal = refl })
     (λ after f. f) some e
 told_raw sorts.Number text behind url range some at e =
-    number_raw sorts.Number text behind (record { unnamed = refl; unat = refl; unhex = refl; leaves = refl; literal = refl })
+    number_raw sorts.Number text behind (record { unnamed = refl; unat = refl; unhex = refl; unequal = refl; leaves = refl; literal = refl })
     (λ after f. f) some e
 told_raw sorts.Hex text behind url range some at e = colour_raw text behind some e
 told_raw sorts.Other text behind url range some at e = other_raw text e
@@ -69,7 +69,7 @@ raw_token source was k lexeme there behind e = go (is_name sort) refl (and_right
         (and_left (is_some text) _ e) a f
 
     go : (t : Bool) → is_name sort ≡ t
-        → (if t then name_stays text (byte behind 0) else (if is_at sort then at_stays text behind else told_by sort text behind)) ≡ true
+        → (if t then name_stays text (byte behind 0) || calls_url text behind else (if is_at sort then at_stays text behind else told_by sort text behind)) ≡ true
         → RawToken sort text
     go true n f = name_raw source was k lexeme there n
     go false n f = other (is_at sort) refl f
@@ -164,16 +164,26 @@ end_told sort text b rest e f =
     both (bytes_eq text (sign_text sort)) _ (and_left (bytes_eq text (sign_text sort)) _ f)
     (ap (sign_stays sort) (first_byte b rest) ∙ end_sign sort b e (and_right (bytes_eq text (sign_text sort)) _ f))
 
+first_or : (x y : Bool) → x ≡ true → (x || y) ≡ true
+first_or true y f = refl
+first_or false y f = absurd (cc)
+
+first_of : (x : Bool) → (x || false) ≡ true → x ≡ true
+first_of true f = refl
+first_of false f = absurd (cc)
+
 end_stays : (sort : Sort) (text : List ℕ) (b : ℕ) (rest : List ℕ) → is_end b ≡ true → token_stays sort text [] ≡ true
     → token_stays sort text (b ∷ rest) ≡ true
 end_stays sort text b rest e f =
     both (is_some text) _ (and_left (is_some text) _ f) (go (is_name sort) (is_at sort) (and_right (is_some text) _ f))
   where
     go : (t u : Bool)
-        → (if t then name_stays text (byte [] 0) else (if u then at_stays text [] else told_by sort text [])) ≡ true
-        → (if t then name_stays text (byte (b ∷ rest) 0)
+        → (if t then name_stays text (byte [] 0) || calls_url text [] else (if u then at_stays text [] else told_by sort text [])) ≡ true
+        → (if t then name_stays text (byte (b ∷ rest) 0) || calls_url text (b ∷ rest)
         else (if u then at_stays text (b ∷ rest) else told_by sort text (b ∷ rest))) ≡ true
-    go true u f = ap (name_stays text) (first_byte b rest) ∙ end_name text (byte [] 0) b e f
+    go true u f =
+        first_or (name_stays text (byte (b ∷ rest) 0)) _
+        (ap (name_stays text) (first_byte b rest) ∙ end_name text (byte [] 0) b e (first_of (name_stays text (byte [] 0)) f))
     go false true f = end_at text b rest e f
     go false false f = end_told sort text b rest e f
 
@@ -191,17 +201,34 @@ same_told sorts.Hex text b xs ys f = f
 same_told sorts.Other text b xs ys f = f
 same_told sort text b xs ys f = f
 
-same_stays : (sort : Sort) (text : List ℕ) (b : ℕ) (xs ys : List ℕ) → token_stays sort text (b ∷ xs) ≡ true
+each : (x u y v : Bool) → u ≡ x → (y ≡ true → v ≡ true) → (x || y) ≡ true → (u || v) ≡ true
+each true u y v e f g = first_or u v e
+each false u y v e f g = second_or u v (f g)
+  where
+    second_or : (x y : Bool) → y ≡ true → (x || y) ≡ true
+    second_or true y h = refl
+    second_or false y h = h
+
+-- what stands behind an `(` is there with more behind it
+calls_more : (text : List ℕ) (b : ℕ) (behind after : List ℕ) → calls_url text (b ∷ behind) ≡ true
+    → calls_url text (b ∷ (behind ++ after)) ≡ true
+calls_more text b [] after f = absurd (let wrong : false ≡ true = f in cc)
+calls_more text b (c ∷ behind) after f = f
+
+same_stays : (sort : Sort) (text : List ℕ) (b : ℕ) (xs ys : List ℕ)
+    → (calls_url text (b ∷ xs) ≡ true → calls_url text (b ∷ ys) ≡ true) → token_stays sort text (b ∷ xs) ≡ true
     → token_stays sort text (b ∷ ys) ≡ true
-same_stays sort text b xs ys f =
+same_stays sort text b xs ys calls f =
     both (is_some text) _ (and_left (is_some text) _ f) (go (is_name sort) (is_at sort) (and_right (is_some text) _ f))
   where
     go : (t u : Bool)
-        → (if t then name_stays text (byte (b ∷ xs) 0)
+        → (if t then name_stays text (byte (b ∷ xs) 0) || calls_url text (b ∷ xs)
         else (if u then at_stays text (b ∷ xs) else told_by sort text (b ∷ xs))) ≡ true
-        → (if t then name_stays text (byte (b ∷ ys) 0)
+        → (if t then name_stays text (byte (b ∷ ys) 0) || calls_url text (b ∷ ys)
         else (if u then at_stays text (b ∷ ys) else told_by sort text (b ∷ ys))) ≡ true
-    go true u f = ap (name_stays text) (first_byte b ys ∙ sym (first_byte b xs)) ∙ f
+    go true u f =
+        each (name_stays text (byte (b ∷ xs) 0)) (name_stays text (byte (b ∷ ys) 0)) (calls_url text (b ∷ xs))
+        (calls_url text (b ∷ ys)) (ap (name_stays text) (first_byte b ys ∙ sym (first_byte b xs))) calls f
     go false true f = f
     go false false f = same_told sort text b xs ys f
 
@@ -210,4 +237,4 @@ pub stays_behind : (sort : Sort) (text behind after : List ℕ) → is_end (byte
     → token_stays sort text (behind ++ after) ≡ true
 stays_behind sort text [] [] e f = f
 stays_behind sort text [] (b ∷ after) e f = end_stays sort text b after (ap is_end (sym (first_byte b after)) ∙ e) f
-stays_behind sort text (b ∷ behind) after e f = same_stays sort text b behind (behind ++ after) f
+stays_behind sort text (b ∷ behind) after e f = same_stays sort text b behind (behind ++ after) (calls_more text b behind after) f

@@ -36,7 +36,7 @@ use Rattle.sw_convert_tokens.proofs.OriginChoices.{is_range}
 use Rattle.sw_convert_tokens.proofs.Ranges.{range_black, range_token}
 use Rattle.sw_convert_tokens.proofs.Stops.{stopped}
 use Rattle.sw_convert_tokens.proofs.Words.{kind_of_range}
-use Rattle.sw_convert_texts.specs.RawKinds.{is_at, is_digits, is_hex, sort_behind, ends_number, at_stays}
+use Rattle.sw_convert_texts.specs.RawKinds.{is_at, is_digits, is_equals, is_hex, sort_behind, ends_number, at_stays}
 use Rattle.sw_convert_texts.specs.Urls.{is_unbroken}
 use Rattle.sw_convert_texts.proofs.RawHeads.{is_neutral}
 use Rattle.sw_convert_texts.proofs.TerminalChoices.{is_url}
@@ -71,7 +71,7 @@ url_by source lexeme text whole unbroken =
       some = url_some text whole.after [] closed shut at;
       black = url_black text whole.after [] closed shut at;
       token = λ after stays before stands.
-          url_token text whole.after after closed shut at insides.Sheet before refl (calm_by before sorts.Url text refl refl stands);
+          url_token text whole.after after closed shut at insides.Sheet before refl (calm_by before sorts.Url text refl refl refl stands);
       raw = λ mode around spaced rest more. told.raw_token sorts.Url refl more;
       told = inl refl;
       digits = λ e. absurd (let wrong : false ≡ true = e in cc);
@@ -145,7 +145,7 @@ range_by source lexeme text whole =
       black = range_black text whole.after [] end begins run;
       token = λ after stays before stands.
           range_token text whole.after after (stopped after (end_stops after (stays_is sorts.Range text after refl refl stays)))
-          begins run insides.Sheet before refl (calm_by before sorts.Range text refl refl stands);
+          begins run insides.Sheet before refl (calm_by before sorts.Range text refl refl refl stands);
       raw = λ mode around spaced rest more. told.raw_token sorts.Range refl more;
       told = inl refl;
       digits = λ e. absurd (let wrong : false ≡ true = e in cc);
@@ -227,6 +227,10 @@ at_unhex : (sort : Sort) → is_at sort ≡ true → is_hex sort ≡ false
 at_unhex sorts.Hex e = absurd (cc)
 at_unhex _ e = refl
 
+at_unequal : (sort : Sort) → is_at sort ≡ true → is_equals sort ≡ false
+at_unequal sorts.Equals e = absurd (cc)
+at_unequal _ e = refl
+
 at_uncounted : (sort : Sort) → is_at sort ≡ true → is_number sort ≡ false
 at_uncounted sorts.Digits e = absurd (cc)
 at_uncounted sorts.Number e = absurd (cc)
@@ -271,7 +275,7 @@ at_by source k text sort token kind_is sort_is at =
       black = token.black;
       token = λ after stays before stands.
           token.token after (at_settled text after (at_there sort text after (at_unnamed sort at) at stays)) insides.Sheet refl before
-          (calm_by before sort text (at_unnamed sort at) (at_unhex sort at) stands);
+          (calm_by before sort text (at_unnamed sort at) (at_unhex sort at) (at_unequal sort at) stands);
       raw = λ mode around spaced rest more. told.raw_token (sort_of token.kind text) (at_raw _ (ap is_at same ∙ at)) more;
       told = inl same;
       digits = λ e. absurd (let none = left_no (is_number sort) (is_digits text) (at_uncounted sort at) in let wrong : true ≡ false = sym e ∙ none in cc);

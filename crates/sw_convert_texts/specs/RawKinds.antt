@@ -120,6 +120,11 @@ name_stays text b =
     && (not ((b == sign "+") && ((length text == 1) && is_u (byte text 0)))
     && not ((b == sign "(") && is_url text))))
 
+-- nor one before a `(` and a quote or a `$`
+abbrev pub calls_url : List ℕ → List ℕ → Bool
+calls_url text (b ∷ c ∷ behind) = is_url text && ((b == sign "(") && (is_quote c || (c == sign "$")))
+calls_url text _ = false
+
 -- `@` with a name
 abbrev pub is_at : Sort → Bool
 is_at sorts.AtUse = true
@@ -201,17 +206,21 @@ told_by sort text behind = bytes_eq text (sign_text sort) && sign_stays sort (by
 abbrev pub token_stays : Sort → List ℕ → List ℕ → Bool
 token_stays sort text behind =
     is_some text
-    && (if is_name sort then name_stays text (byte behind 0)
+    && (if is_name sort then name_stays text (byte behind 0) || calls_url text behind
     else (if is_at sort then at_stays text behind else told_by sort text behind))
 
 abbrev pub is_hex : Sort → Bool
 is_hex sorts.Hex = true
 is_hex _ = false
 
--- behind a `#` stand names and colours alone, and no colour elsewhere; behind a `$` names
+abbrev pub is_equals : Sort → Bool
+is_equals sorts.Equals = true
+is_equals _ = false
+
+-- behind a `#` stand names and colours alone, and no colour elsewhere; behind a `$` names and `=`
 abbrev pub stands_behind : Before → Sort → List ℕ → Bool
 stands_behind befores.Hash sort text = if is_name sort then not (is_colour text) else is_hex sort
-stands_behind befores.Dollar sort text = is_name sort
+stands_behind befores.Dollar sort text = is_name sort || is_equals sort
 stands_behind _ sort text = not (is_hex sort)
 
 abbrev pub sort_behind : Sort → Before

@@ -1,7 +1,6 @@
 mod Quotients
 mod Shapes
 mod Firsts
-mod UrlNames
 mod UrlCalls
 pub mod Starts
 mod ReservedWords

@@ -66,7 +66,7 @@ use Rattle.sw_convert_tokens.proofs.Arguments.{IsItems}
 use Rattle.sw_convert_values.specs.Values.{has_arguments, is_url_called}
 use Rattle.sw_convert_values.proofs.Shapes.{same}
 use Rattle.sw_convert_values.proofs.Firsts.{IsBegun}
-use Rattle.sw_convert_values.proofs.UrlNames.{is_opaque_byte, NoText, opaque, guarded, url_name}
+use Rattle.sw_convert_texts.proofs.UrlNames.{is_opaque_byte, NoText, opaque, guarded, url_name}
 
 -- ---- texts that begin with a quote or a `$`
 

@@ -1,26 +1,29 @@
 -- The name `url` before arguments that are no raw text.
-use Rattle.std.proofs.Common.{◌≡◌, ℕ, zero, suc, ◌+◌, ◌-◌, Bool, true, false, not, ◌&&◌, ◌||◌, if◌then◌else◌, List, ◌∷◌, length, Option, None, is_some, refl, sym, ◌∙◌, ap, arith}
+use Rattle.std.proofs.Common.{◌≡◌, ℕ, zero, suc, ◌+◌, ◌-◌, Bool, true, false, not, ◌&&◌, ◌||◌, if◌then◌else◌, List, [], ◌∷◌, ◌++◌, length, Option, None, is_some, refl, sym, ◌∙◌, ap, arith}
 use Rattle.std.specs.Prelude.{◌==◌, nat_lt}
 use Rattle.std.proofs.lemmas.Bool.Decides.{nat_tests}
 use Rattle.sw_text_scan.specs.declared.signs.TheConstants.{END}
 use Rattle.sw_text_scan.specs.declared.runs.Class.{Class}
 use Rattle.sw_text_scan.specs.declared.runs.Class.TheVariants as classes
-use Rattle.sw_text_scan.specs.Bytes.{sign, byte, is_white, is_digit, is_letter, is_quote, is_url_byte, opens_at, begins_silent, begins_loud}
-use Rattle.sw_text_scan.specs.Runs.{run_end, escape_end, is_word_byte, goes_in_url, goes_in_inner_url}
+use Rattle.sw_text_scan.specs.Bytes.{sign, byte, is_white, is_digit, is_hex_digit, is_letter, is_quote, is_url_byte, opens_at, begins_silent, begins_loud}
+use Rattle.sw_text_scan.specs.Runs.{next, run_end, escape_end, is_word_byte, goes_in_url, goes_in_inner_url}
 use Rattle.sw_text_scan.specs.Words.{is_u, is_r, is_l, begins_number, begins_range, begins_url, url_text_end, url_close}
-use Rattle.sw_text_scan.proofs.Bounds.{if_true, if_false, and_left, and_right, run_step, run_stop}
+use Rattle.sw_text_scan.proofs.Bounds.{if_true, if_false, and_left, and_right, run_step, run_stop, run_forward}
 use Rattle.sw_tokens.specs.declared.pieces.Before.{Before}
 use Rattle.sw_tokens.specs.declared.pieces.Before.TheVariants as befores
+use Rattle.sw_tokens.specs.declared.pieces.Change.{Change}
 use Rattle.sw_tokens.specs.declared.pieces.Change.TheVariants as changes
 use Rattle.sw_tokens.specs.declared.skips.Inside.{Inside}
 use Rattle.sw_tokens.specs.declared.skips.Inside.TheVariants as insides
 use Rattle.sw_tokens.specs.declared.skips.Skim.{Skim}
 use Rattle.sw_tokens.specs.declared.skips.Skim.TheVariants as skims
+use Rattle.sw_tokens.specs.declared.token.TokenKind.{TokenKind}
 use Rattle.sw_tokens.specs.declared.token.TokenKind.TheVariants as kinds
-use Rattle.sw_tokens.specs.Pieces.{made, piece, letter_kind, name_piece, is_hex_form, is_open_ended, opens_url, url_class, url_inside, after_dollar, after_hash, word_piece, in_interpolation, code_piece}
+use Rattle.sw_tokens.specs.Pieces.{made, piece, letter_kind, name_piece, has_hex_length, is_hex_form, is_open_ended, opens_url, url_class, url_inside, after_dollar, after_hash, word_piece, in_interpolation, code_piece}
 use Rattle.sw_tokens.specs.Skips.{skim, skim_in, skim_url, skip, skip_with, skip_rest, skip_on, closed_at, passed, closes_url}
 use Rattle.sw_convert_spelling.specs.Spelt.{is_sheet_code}
-use Rattle.sw_convert_spelling.proofs.Choices.{left_no, right_no, both, neither}
+use Rattle.sw_convert_spelling.proofs.Choices.{left_no, right_no, both, neither, ends_here}
+use Rattle.sw_convert_written.specs.Expressions.{is_url}
 use Rattle.sw_convert_tokens.specs.Written.{is_calm}
 use Rattle.sw_convert_tokens.proofs.Names.{ends}
 
@@ -136,6 +139,7 @@ record Begins (u : ℕ) : Type 0 where
   digit : is_digit u ≡ false
   dot : (u == sign ".") ≡ false
   letter : is_letter u ≡ true
+  hex : is_hex_digit u ≡ false
   word : is_word_byte u ≡ true
 
 begins : (u : ℕ) → is_u u ≡ true → Begins u
@@ -148,6 +152,7 @@ begins u e = record {
   digit = grind (arith, nat_tests);
   dot = grind (arith, nat_tests);
   letter = grind (arith, nat_tests);
+  hex = grind (arith, nat_tests);
   word = grind (arith, nat_tests);
 }
 
@@ -301,9 +306,9 @@ module _ (u r l : ℕ) (after : List ℕ) (is : (is_u u && (is_r r && is_l l)) �
       ∙ ap (λ (k : ℕ). made (letter_kind 3 k) k changes.Keep) name_end
 
   code : (top : Inside) → is_raw (url_class top) ≡ true → is_raw_inside (url_inside top) ≡ true → (before : Before)
-      → after_hash before ≡ false → code_piece bs top before 0 ≡ made kinds.Word 3 changes.Keep
+      → (after_hash before && is_hex_form bs 0) ≡ false → code_piece bs top before 0 ≡ made kinds.Word 3 changes.Keep
   unfolding code_piece word_piece opens_url byte
-  code top c i before calm =
+  code top c i before form =
       let b = begins u is_first in
       if_false (is_white u) _ _ b.white
       ∙ if_false (is_quote u) _ _ b.quote
@@ -311,7 +316,7 @@ module _ (u r l : ℕ) (after : List ℕ) (is : (is_u u && (is_r r && is_l l)) �
       ∙ if_false ((u == sign "}") && in_interpolation top) _ _ (left_no (u == sign "}") _ b.brace)
       ∙ if_false (begins_silent bs 0) _ _ (left_no (u == sign "/") _ b.slash)
       ∙ if_false (begins_loud bs 0) _ _ (left_no (u == sign "/") _ b.slash)
-      ∙ if_false (after_hash before && is_hex_form bs 0) _ _ (left_no (after_hash before) _ calm)
+      ∙ if_false (after_hash before && is_hex_form bs 0) _ _ form
       ∙ if_false (begins_number bs 0) _ _ (neither (is_digit u) _ b.digit (left_no (u == sign ".") _ b.dot))
       ∙ if_false (not (after_dollar before) && begins_range bs 0) _ _
       (right_no (not (after_dollar before)) _ (right_no (is_u u) _ (left_no (r == sign "+") _ (r_word r is_second).1)))
@@ -327,7 +332,75 @@ module _ (u r l : ℕ) (after : List ℕ) (is : (is_u u && (is_r r && is_l l)) �
 
   pub url_name : (inside : Inside) (before : Before) → is_sheet_code inside ≡ true → is_calm before ≡ true
       → piece bs inside before 0 ≡ made kinds.Word 3 changes.Keep
-  url_name insides.Sheet before code_is calm = code insides.Sheet refl refl before (calm_hash before calm)
+  url_name insides.Sheet before code_is calm = code insides.Sheet refl refl before (left_no (after_hash before) _ (calm_hash before calm))
   url_name insides.Interpolation before code_is calm =
-      code insides.Interpolation refl refl before (calm_hash before calm)
+      code insides.Interpolation refl refl before (left_no (after_hash before) _ (calm_hash before calm))
   url_name _ before code_is calm = absurd (cc)
+
+  -- behind a `#` too, since no hexadecimal form begins with a `u`
+  no_form : is_hex_form bs 0 ≡ false
+  unfolding is_hex_form byte
+  no_form =
+      let on = if_false (is_hex_digit u) (0 + 1) 0 (begins u is_first).hex in
+      let none : run_end classes.HexDigit bs 0 ≡ 0 = run_stop bs classes.HexDigit 0 (omega (arith, on)) in
+      ap (λ (k : ℕ). has_hex_length (k - 0) && not (nat_lt k (next classes.Name bs k))) none
+
+  pub url_sheet : (before : Before) → piece bs insides.Sheet before 0 ≡ made kinds.Word 3 changes.Keep
+  url_sheet before = code insides.Sheet refl refl before (right_no (after_hash before) _ no_form)
+
+-- ---- one that was read
+
+-- a quote or a `$` behind a `(`
+abbrev pub begins_opaque : List ℕ → Bool
+begins_opaque (b ∷ c ∷ behind) = (b == sign "(") && is_opaque_byte c
+begins_opaque _ = false
+
+module _ (u r l : ℕ) (old : List ℕ) (is : (is_u u && (is_r r && is_l l)) ≡ true) where
+  abbrev read : List ℕ
+  read = u ∷ r ∷ l ∷ old
+
+  letters : run_end classes.Word read 0 ≡ run_end classes.Word read 3
+  unfolding byte
+  letters =
+      word_goes read 0 (begins u (and_left (is_u u) _ is)).word
+      ∙ word_goes read 1 (r_word r (and_left (is_r r) _ (and_right (is_u u) _ is))).0
+      ∙ word_goes read 2 (l_word l (and_right (is_r r) _ (and_right (is_u u) _ is)))
+
+  -- where it is a name it is a word
+  word_read : (kind : TokenKind) (change : Change) → name_piece read 0 ≡ made kind 3 change
+      → made kinds.Word 3 changes.Keep ≡ made kind 3 change
+  unfolding name_piece byte
+  word_read kind change e =
+      let w = run_end classes.Word read 0 in
+      let z = run_end classes.Name read w in
+      let first : name_piece read 0 ≡ made (letter_kind w z) z changes.Keep =
+      if_true (is_letter u) _ _ (begins u (and_left (is_u u) _ is)).letter in
+      let long : z ≡ 3 = ends_here (letter_kind w z) z changes.Keep (sym first ∙ e) in
+      let name = run_forward read classes.Name w in
+      let word = run_forward read classes.Word 3 in
+      let same = letters in
+      let short : w ≡ 3 = omega (arith, long, name, word, same) in
+      sym (ap (λ (k : ℕ). made (letter_kind w k) k changes.Keep) long ∙ ap (λ (k : ℕ). made (letter_kind k 3) 3 changes.Keep) short)
+      ∙ sym first ∙ e
+
+-- it is the same before arguments that are no raw text
+pub url_called : (text old after : List ℕ) (kind : TokenKind) (change : Change)
+    → name_piece (text ++ old) 0 ≡ made kind (length text) change → (is_url text && begins_opaque after) ≡ true → (before : Before)
+    → piece (text ++ after) insides.Sheet before 0 ≡ made kind (length text) change
+url_called (u ∷ r ∷ l ∷ []) old (b ∷ c ∷ after) kind change e it before =
+    let url = and_left (is_url (u ∷ r ∷ l ∷ [])) _ it in
+    let more = and_right (is_url (u ∷ r ∷ l ∷ [])) _ it in
+    ap (λ (x : ℕ). piece (u ∷ r ∷ l ∷ x ∷ c ∷ after) insides.Sheet before 0) (equal b (sign "(") (and_left (b == sign "(") _ more))
+    ∙ url_sheet u r l (c ∷ after) url (opaque c after (and_right (b == sign "(") _ more)) before
+    ∙ word_read u r l old url kind change e
+  where
+    equal : (x y : ℕ) → (x == y) ≡ true → x ≡ y
+    equal x y f = grind (arith, nat_tests)
+url_called text old [] kind change e it before =
+    absurd (let none = right_no (is_url text) false refl in let wrong : true ≡ false = sym it ∙ none in cc)
+url_called text old (b ∷ []) kind change e it before =
+    absurd (let none = right_no (is_url text) false refl in let wrong : true ≡ false = sym it ∙ none in cc)
+url_called [] old (b ∷ c ∷ after) kind change e it before = absurd (let wrong : false ≡ true = it in cc)
+url_called (u ∷ []) old (b ∷ c ∷ after) kind change e it before = absurd (let wrong : false ≡ true = it in cc)
+url_called (u ∷ r ∷ []) old (b ∷ c ∷ after) kind change e it before = absurd (let wrong : false ≡ true = it in cc)
+url_called (u ∷ r ∷ l ∷ x ∷ text) old (b ∷ c ∷ after) kind change e it before = absurd (let wrong : false ≡ true = it in cc)
