@@ -46,7 +46,7 @@ use Rattle.sw_convert_heads_passing.specs.Properties.{colon, is_dashed, Property
 use Rattle.sw_convert_heads_passing.specs.Statements.{begins_else}
 use Rattle.sw_convert_again.specs.Comments.{SpellsComment, whole_comment, comment_template, whole_lines, lines_template}
 use Rattle.sw_convert_texts.specs.Comments.{CommentHasValues}
-use Rattle.sw_convert_texts.specs.AtInserts.{at_known, AsInsertedAt, at_inserted, at_minused}
+use Rattle.sw_convert_texts.specs.AtInserts.{begins_inserted, AsInsertedAt, at_inserted, at_minused}
 use Rattle.sw_convert_texts.specs.Inserted.{RowHasValues, WordHasValues, NameHasValues, AtNameHasValues}
 use Rattle.sw_convert_texts.specs.Names.{joined, is_mixed, AsName, as_name, AsAtName, as_at}
 use Rattle.sw_convert_texts.specs.RawTexts.{SheetSegment}
@@ -296,7 +296,7 @@ module _ (source : Source) (was : WasRead source) (values : ValuesAreKnown sourc
   inserted_head (at_minused inner parts) = (heads.minus_head inner parts, λ more. refl)
 
   inserted_rule : {i j : ℕ} {parts : Parts} {tokens : List Tok} → (name : SpellsAtName source i j parts tokens)
-      → at_known source name ≡ true → NamedAs TextHead (joined parts) tokens
+      → begins_inserted name ≡ true → NamedAs TextHead (joined parts) tokens
   inserted_rule {i} {j} {parts} {tokens} name t before calm =
       let it = at_inserts_written source i j parts tokens was name t (at_values name) before false calm in
       let (head, first) = inserted_head it.told in record {

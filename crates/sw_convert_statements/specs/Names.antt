@@ -31,7 +31,7 @@ use Rattle.sw_convert_heads_passing.specs.Heads.{is_keyword}
 use Rattle.sw_convert_heads_passing.specs.Statements.{begins_else}
 use Rattle.sw_convert_texts.specs.Names.{joined, name_inserts}
 use Rattle.sw_convert_texts.specs.RawKinds.{raw_known, is_uncut}
-use Rattle.sw_convert_texts.specs.AtInserts.{at_known}
+use Rattle.sw_convert_texts.specs.AtInserts.{begins_inserted}
 use Rattle.sw_convert_texts.specs.RawTexts.{SheetSegment}
 use Rattle.sw_convert_texts.specs.RuleTexts.{begins_rule}
 use Rattle.sw_convert_statements.specs.Segments.{RuleWritten}
@@ -96,7 +96,7 @@ names_rule sort inserts = is_keyword sort && (not (is_else sort) && inserts)
 abbrev pub is_at_rule : (source : Source) {i j : ℕ} {parts : Parts} {tokens : List Tok}
     → SpellsAtName source i j parts tokens → Bool
 is_at_rule source (at_word {i} name) = names_rule (at_sort (bytes_at source i)) (name_inserts name)
-is_at_rule source name = at_known source name
+is_at_rule source name = begins_inserted name
 
 -- declarations with a value, a block or both, custom properties and at-rules of CSS with such names, and such rules
 abbrev pub has_name : {source : Source} {i j : ℕ} {statement : Statement} {tokens : List Tok}

@@ -1,12 +1,9 @@
 -- Names of at-rules whose `#{}` stands directly behind the `@`, or behind a `-` there, are written as their tokens.
 use Rattle.std.proofs.Common.{◌≡◌, ◌<◌, ℕ, suc, ◌+◌, ◌-◌, Bool, true, false, not, inr, List, [], ◌∷◌, ◌++◌, length, refl, sym, ◌∙◌, ap, subst, arith, lit<}
-use Rattle.std.specs.Prelude.{◌==◌, slice_range, bytes_eq, codes}
-use Rattle.std.proofs.lemmas.Slice.Eq.{bytes_eq-Decides}
+use Rattle.std.specs.Prelude.{slice_range, codes}
 use Rattle.sw_text_scan.specs.Bytes.{sign, byte, is_white}
 use Rattle.sw_text_scan.specs.Runs.{begins_name, escape_end}
 use Rattle.sw_text_scan.specs.Words.{is_u}
-use Rattle.sw_text_scan.proofs.Bounds.{and_left, and_right, not_true}
-use Rattle.sw_text_locality.proofs.Lexical.{equal}
 use Rattle.sw_tree.specs.declared.expr.Expr.{Expr}
 use Rattle.sw_tokens.specs.declared.pieces.Before.{Before}
 use Rattle.sw_tokens.specs.declared.pieces.Before.TheVariants as befores
@@ -38,9 +35,9 @@ use Rattle.sw_convert_tokens.proofs.Signs.{gap_is, token_by, sign_token}
 use Rattle.sw_convert_tokens.proofs.Unclosed.{Ends}
 use Rattle.sw_convert_texts.specs.Adjoining.{Adjoins}
 use Rattle.sw_convert_texts.specs.AtInserts.{AsInsertedAt, at_inserted, at_minused, AtInsertsAreWritten}
-use Rattle.sw_convert_texts.specs.Comments.{adjoins}
 use Rattle.sw_convert_texts.specs.Inserted.{RowHasValues}
 use Rattle.sw_convert_texts.specs.Names.{joined, NameWritten}
+use Rattle.sw_convert_texts.proofs.AtBefore.{at_inserts, at_minuses}
 use Rattle.sw_convert_texts.proofs.Endings.{follows_ending}
 use Rattle.sw_convert_texts.proofs.Inserts.{inner_items}
 use Rattle.sw_convert_texts.proofs.JoinedTexts.{slice_more, slice_some, lone, Flat, flat_text, flat_more, joined_pieces, mixed_text}
@@ -86,14 +83,6 @@ at_seen before spaced said = record {
   spaced = is_spaced (behind_gap before (gap_of spaced));
   may_be = terminals.AtInsert ∷ [];
   said = said;
-}
-
-adjoined : (source : Source) (i : ℕ) → adjoins source i ≡ true → Adjoins source i
-adjoined source i e = record {
-  from = equal (from_at source (suc i)) (to_at source i)
-      (and_left (from_at source (suc i) == to_at source i) (not (is_commented source (suc i))) e);
-  calm = not_true (is_commented source (suc i))
-      (and_right (from_at source (suc i) == to_at source i) (not (is_commented source (suc i))) e);
 }
 
 module _ (source : Source) (was : WasRead source) (i : ℕ) {c j count : ℕ} (value : Expr) {inserts : List Part}
@@ -269,17 +258,12 @@ module _ (source : Source) (was : WasRead source) (i : ℕ) {c j count : ℕ} (v
               (behind_more Follows follows_ending source was i value close row has more).parts;
         }
 
-begins_at : (source : Source) (i : ℕ) → bytes_eq (bytes_at source i) (codes "@") ≡ true → bytes_at source i ≡ codes "@"
-begins_at source i e = (bytes_eq-Decides (bytes_at source i) (codes "@")).0 e
-
 pub at_inserts_written : AtInsertsAreWritten
 at_inserts_written source i j parts tokens was (at_insert {value = value} old opens inner close row) told (has, more) =
-    insert_written source was i value close row has more
-    (begins_at source i (and_left (bytes_eq (bytes_at source i) (codes "@")) _ told))
-    (adjoined source i (and_right (bytes_eq (bytes_at source i) (codes "@")) _ told))
+    let it = at_inserts source was i old opens in
+    insert_written source was i value close row has more it.at it.sticks
 at_inserts_written source i j parts tokens was (at_minus {value = value} old minus opens inner close row) told (has, more) =
-    let it = minus_there source was (suc i) minus opens in
-    minus_written source was i value close row has more
-    (begins_at source i (and_left (bytes_eq (bytes_at source i) (codes "@")) _ told))
-    (adjoined source i (and_right (bytes_eq (bytes_at source i) (codes "@")) _ told)) it.dash it.sticks
+    let it = at_minuses source was i old minus in
+    let dash = minus_there source was (suc i) minus opens in
+    minus_written source was i value close row has more it.at it.sticks dash.dash dash.sticks
 at_inserts_written source i j parts tokens was (at_word name) told has = absurd (cc)

@@ -38,6 +38,8 @@ mod CommentTokens
 mod OldComments
 mod CommentRows
 pub mod Comments
+mod LoneAts
+mod AtBefore
 pub mod AtInserts
 pub mod OldNames
 mod AroundTexts

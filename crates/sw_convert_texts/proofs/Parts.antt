@@ -40,7 +40,7 @@ use Rattle.sw_convert_texts.proofs.OldRows.{PartThere, part_closed}
 use Rattle.sw_convert_texts.proofs.PartKinds.{is_sign, part_kind, part_comment, IsDash, IsDigits, sign_told}
 use Rattle.sw_convert_texts.proofs.PartTokens.{name_bars, dash_bars, name_undigit, NextIs, rejoins, Goes, PartToken, no_next, no_goes, dash_goes, digits_goes, minus_fits}
 
-one_byte : (xs : List ℕ) → length xs ≡ 1 → (b : ℕ) × (xs ≡ b ∷ [])
+pub one_byte : (xs : List ℕ) → length xs ≡ 1 → (b : ℕ) × (xs ≡ b ∷ [])
 one_byte [] e = absurd (omega (arith, e))
 one_byte (b ∷ []) e = (b, refl)
 one_byte (b ∷ c ∷ xs) e = absurd (omega (arith, e))

@@ -74,6 +74,10 @@ abbrev pub is_text_sort : Sort → Bool
 is_text_sort sorts.Text = true
 is_text_sort _ = false
 
+abbrev pub is_opened_insert : Sort → Bool
+is_opened_insert sorts.OpenInsert = true
+is_opened_insert _ = false
+
 -- comments, and the parts of one, or text in a url
 abbrev pub is_whole_comment : Sort → Bool
 is_whole_comment sorts.Comment = true
@@ -113,6 +117,7 @@ comes terminals.RawParen sort goes inserts touches = is_open_paren sort
 comes terminals.RawParenEnd sort goes inserts touches = is_close_paren sort
 comes terminals.RawBracket sort goes inserts touches = is_open_bracket sort
 comes terminals.RawBracketEnd sort goes inserts touches = is_close_bracket sort
+comes terminals.WordInsert sort goes inserts touches = is_opened_insert sort
 comes terminals.Named sort goes inserts touches = is_name sort
 comes terminals.Prefix sort goes inserts touches = is_name sort
 comes terminals.CommentWhole sort goes inserts touches = is_whole_comment sort
@@ -283,15 +288,17 @@ module _ (it : Sort) (goes inserts touches : Bool) where
     string_fits named terminals.AtUse = loaded_fits named
     string_fits named _ = leaf terminals.Quoted refl
 
-    inserted_fits : Fit it goes inserts touches (if is_apart state plains at then terminals.Other else terminals.WordInsert)
-    inserted_fits = pick (is_apart state plains at) terminals.Other terminals.WordInsert refl refl
+    inserted_fits : is_opened_insert it ≡ true
+        → Fit it goes inserts touches (if is_apart state plains at then terminals.Other else terminals.WordInsert)
+    inserted_fits opened = pick (is_apart state plains at) terminals.Other terminals.WordInsert refl opened
 
-    pub insert_fits : (mode : Mode) → Fit it goes inserts touches (insert_in (record state { mode = mode }) plains at)
-    insert_fits modes.Raw = pick (names_rule state plains at) terminals.WordInsert terminals.Insert refl refl
-    insert_fits modes.Custom = leaf terminals.Insert refl
-    insert_fits modes.Special = leaf terminals.Insert refl
-    insert_fits modes.Text = leaf terminals.Insert refl
-    insert_fits _ = inserted_fits
+    pub insert_fits : is_opened_insert it ≡ true → (mode : Mode)
+        → Fit it goes inserts touches (insert_in (record state { mode = mode }) plains at)
+    insert_fits opened modes.Raw = pick (names_rule state plains at) terminals.WordInsert terminals.Insert opened refl
+    insert_fits opened modes.Custom = leaf terminals.Insert refl
+    insert_fits opened modes.Special = leaf terminals.Insert refl
+    insert_fits opened modes.Text = leaf terminals.Insert refl
+    insert_fits opened _ = inserted_fits opened
 
     opened_fits : Fit it goes inserts touches (if continues state plains at then terminals.CallParen else plain_paren plains at)
     opened_fits =

@@ -65,7 +65,7 @@ module _ (state : State) (plains : List Plain) (at : ℕ) where
       (leaf sorts.CommentEnd goes inserts touches terminals.CommentEnd refl)
   sort_fits sorts.OpenInsert e = rw (e, terminal_of)
       (when sorts.OpenInsert goes inserts touches goes _ _ (λ c. leaf sorts.OpenInsert goes inserts touches terminals.PartInsert c)
-      (insert_fits sorts.OpenInsert goes inserts touches state plains at state.mode))
+      (insert_fits sorts.OpenInsert goes inserts touches state plains at refl state.mode))
   sort_fits sorts.CloseInsert e = rw (e, terminal_of)
       (leaf sorts.CloseInsert goes inserts touches terminals.InsertEnd refl)
   sort_fits sorts.OpenBrace e = rw (e, terminal_of)

@@ -1,29 +1,25 @@
 -- Names of at-rules whose `#{}` stands directly behind the `@`, or behind a `-` there: what is written of them is their
 -- tokens.
-use Rattle.std.specs.Prelude.{◌≡◌, ℕ, Bool, true, false, ◌&&◌, List, ◌∷◌, bytes_eq, codes}
+use Rattle.std.specs.Prelude.{◌≡◌, ℕ, Bool, true, false, List, ◌∷◌}
 use Rattle.sw_tree.specs.declared.text.Parts.{Parts}
 use Rattle.sw_parse_terminals.specs.declared.terminal.Terminal.TheVariants as terminals
 use Rattle.sw_parse_lexemes.specs.declared.sort.Sort.TheVariants as sorts
 use Rattle.sw_parse_table.specs.declared.source.Source.{Source}
-use Rattle.sw_parse_table.specs.Sources.{bytes_at}
 use Rattle.sw_convert_passing.specs.Written.{Written, written, direct}
 use Rattle.sw_convert_passing.specs.Values.{Items, Parts as WordParts, inserted}
 use Rattle.sw_convert_again.specs.Tokens.{Tok}
 use Rattle.sw_convert_again.specs.Statements.{SpellsAtName, at_word, at_insert, at_minus}
 use Rattle.sw_convert_tokens.specs.Written.{Follows}
 use Rattle.sw_convert_tokens.specs.Values.{WasRead}
-use Rattle.sw_convert_texts.specs.Comments.{adjoins}
 use Rattle.sw_convert_texts.specs.Inserted.{AtNameHasValues}
 use Rattle.sw_convert_texts.specs.Names.{joined, NameWritten}
 
--- it begins with an `@` with nothing behind it, as that of every sheet that was read
-abbrev pub at_known : (source : Source) {i j : ℕ} {parts : Parts} {tokens : List Tok} → SpellsAtName source i j parts tokens
-    → Bool
-at_known source (at_insert {i} old opens inner close row) =
-    bytes_eq (bytes_at source i) (codes "@") && adjoins source i
-at_known source (at_minus {i} old minus opens inner close row) =
-    bytes_eq (bytes_at source i) (codes "@") && adjoins source i
-at_known source (at_word name) = false
+-- it is such a name
+abbrev pub begins_inserted : {source : Source} {i j : ℕ} {parts : Parts} {tokens : List Tok}
+    → SpellsAtName source i j parts tokens → Bool
+begins_inserted (at_insert old opens inner close row) = true
+begins_inserted (at_minus old minus opens inner close row) = true
+begins_inserted (at_word name) = false
 
 -- what its tokens are to the pass over tokens, with white space before them or not
 pub data AsInsertedAt : Bool → List Written → Type 0 where
@@ -37,5 +33,5 @@ pub data AsInsertedAt : Bool → List Written → Type 0 where
 abbrev pub AtInsertsAreWritten : Type 0
 AtInsertsAreWritten =
     (source : Source) (i j : ℕ) (parts : Parts) (tokens : List Tok) → WasRead source
-    → (spelt : SpellsAtName source i j parts tokens) → at_known source spelt ≡ true → AtNameHasValues spelt
+    → (spelt : SpellsAtName source i j parts tokens) → begins_inserted spelt ≡ true → AtNameHasValues spelt
     → NameWritten AsInsertedAt Follows (joined parts) tokens
