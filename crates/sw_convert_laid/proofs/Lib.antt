@@ -11,3 +11,8 @@ pub mod Begun
 pub mod Placed
 pub mod Rows
 pub mod Sheets
+pub mod SameRuns
+pub mod SameStrings
+pub mod SamePieces
+pub mod Sound
+pub mod LineFeeds

@@ -1,6 +1,8 @@
 // What lines that are written stand for.
 ghost use Rattle.std.specs.Prelude.{List, ℕ};
+ghost use Rattle.sw_convert_laid.specs.LineFeeds.{StandBeforeLineFeed};
 ghost use Rattle.sw_convert_laid.specs.Rows.{Row, HasLayout};
+ghost use Rattle.sw_convert_spelling.specs.Spelt.{Spelt};
 
 /// A law: lines that are written token by token, each a statement or what stands before its block, stand for these
 /// tokens: between two of them a `;`, an empty `{` before deeper lines, and as many empty `}` as blocks end.
@@ -9,3 +11,9 @@ pub fn lines_are_laid(text: &str)
 {
     let _end = text.len();
 }
+
+/// A law: tokens that stand before a space, and leave nothing open there, stand before a line feed too, where their
+/// last byte goes on over no line, and no `url(` stands among them but in a url without `#{}`.
+pub fn tokens_stand_before_line_feeds()
+    ensures { (list : List Spelt) (after : List ℕ) → StandBeforeLineFeed list after }
+{}
