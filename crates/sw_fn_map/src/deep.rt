@@ -1,5 +1,5 @@
 // Changes of maps in maps.
-ghost use Rattle.std.specs.Prelude.{◌≡◌, ◌++◌, ◌∷◌, [], filter, IfOk, Some, None};
+ghost use Rattle.std.specs.Prelude.{◌≡◌, ◌++◌, ◌∷◌, [], filter, IfOk, OnOk, Some, None};
 ghost use Rattle.std.specs.Option.{option_copied};
 ghost use Rattle.sw_fn_call.specs.Answers.{IsAnswer};
 ghost use Rattle.sw_fn_map.specs.Changes.{is_new, without, parted as parted_values};
@@ -10,25 +10,35 @@ use crate::changes::{innermost, parted, push_new, rebuilt_along, without_value};
 use crate::pairs::{map_value, nested, pairs_of};
 use std::alloc::Global;
 use sw_fn_call::{Argument, FnFault, rest, three, two};
-use sw_text::{List, Memory};
+use sw_text::{List, Memory, Shared};
 use sw_values::{Pairs, Value};
 
 // ---- deep-merge
 
+// The values that a merge makes lie behind pointers, since a level of it that is open keeps place for each on the stack.
+
+// One more owner of a value, behind a pointer.
+#[inline(never)]
+fn boxed(alloc: Global, value: &Value) -> Result<Shared<Value>, Memory>
+    ensures { IfOk result (λ shared. shared ≡ value.now) }
+{
+    Shared::new(alloc, value.share()?)
+}
+
 // What becomes of two values of one key: two maps are merged, else the second stands.
 #[cycle(deep)]
-fn met(alloc: Global, levels: u16, old: &Value, new: &Value) -> Result<Value, FnFault>
+fn met(alloc: Global, levels: u16, old: &Value, new: &Value) -> Result<Shared<Value>, FnFault>
     ensures { IsAnswer result (deep_value_of (deep_merged_of levels) old.now (Some new.now)) }
 {
     let one = match pairs_of(alloc, old) {
         Ok(pairs) => pairs,
         Err(FnFault::Memory) => return Err(FnFault::Memory),
-        Err(_) => return Ok(new.share()?),
+        Err(_) => return Ok(boxed(alloc, new)?),
     };
     let other = match pairs_of(alloc, new) {
         Ok(pairs) => pairs,
         Err(FnFault::Memory) => return Err(FnFault::Memory),
-        Err(_) => return Ok(new.share()?),
+        Err(_) => return Ok(boxed(alloc, new)?),
     };
     deep_merged(alloc, levels, &one, &other)
 }
@@ -39,19 +49,20 @@ fn deep_value(
     levels: u16,
     old: &Value,
     new: Option<&Value>,
-) -> Result<Value, FnFault>
+) -> Result<Shared<Value>, FnFault>
     ensures { IsAnswer result (deep_value_of (deep_merged_of levels) old.now (option_copied new.entry)) }
 {
     match new {
-        None => Ok(old.share()?),
+        None => Ok(boxed(alloc, old)?),
         Some(new) => met(alloc, levels, old, new),
     }
 }
 
-fn keyed(key: &Value, value: Value) -> Result<(Value, Value), FnFault>
-    ensures { IsAnswer result (Ok (key.now, value)) }
+#[inline(never)]
+fn keyed(alloc: Global, key: &Value, value: &Value) -> Result<Shared<(Value, Value)>, FnFault>
+    ensures { IsAnswer result (Ok (key.now, value.now)) }
 {
-    Ok((key.share()?, value))
+    Ok(Shared::new(alloc, (key.share()?, value.share()?))?)
 }
 
 #[cycle(deep)]
@@ -60,14 +71,21 @@ fn deep_pair(
     levels: u16,
     pair: &(Value, Value),
     other: &Pairs,
-) -> Result<(Value, Value), FnFault>
+) -> Result<Shared<(Value, Value)>, FnFault>
     ensures { IsAnswer result (deep_pair_of (deep_merged_of levels) pair.now other.now) }
 {
     let canon = pair.0.canon(alloc)?;
     match deep_value(alloc, levels, &pair.1, other.get(&canon)) {
-        Ok(value) => keyed(&pair.0, value),
+        Ok(value) => keyed(alloc, &pair.0, value.get()),
         Err(fault) => Err(fault),
     }
+}
+
+#[inline(never)]
+fn push_pair(all: &mut List<(Value, Value)>, pair: &(Value, Value)) -> Result<(), Memory>
+    ensures { OnOk result (all.new ≡ all.old ++ pair.now ∷ []) }
+{
+    all.push((pair.0.share()?, pair.1.share()?))
 }
 
 #[cycle(deep)]
@@ -81,31 +99,49 @@ fn deep_pairs(
 {
     let mut all = List::new(alloc);
     'pairs: for at in 0..pairs.len() {
-        all.push(deep_pair(alloc, levels, &pairs[at], other)?)?;
+        let pair = deep_pair(alloc, levels, &pairs[at], other)?;
+        push_pair(&mut all, pair.get())?;
     }
     Ok(all)
 }
 
+// The map of some pairs, behind a pointer.
+#[inline(never)]
+fn boxed_map(alloc: Global, pairs: &[(Value, Value)]) -> Result<Shared<Value>, FnFault>
+    ensures { IsAnswer result (map_of_pairs pairs.now) }
+{
+    match map_value(alloc, pairs) {
+        Ok(value) => Ok(Shared::new(alloc, value)?),
+        Err(fault) => Err(fault),
+    }
+}
+
 // The map of some pairs and of those of another map whose keys a map doesn't have.
+#[inline(never)]
 fn with_new(
     alloc: Global,
     mut all: List<(Value, Value)>,
     pairs: &Pairs,
     other: &Pairs,
-) -> Result<Value, FnFault>
+) -> Result<Shared<Value>, FnFault>
     ensures { IsAnswer result (map_of_pairs (all ++ filter (is_new pairs.now) other.now)) }
 {
     push_new(alloc, &mut all, pairs, other.as_slice())?;
-    map_value(alloc, all.as_slice())
+    boxed_map(alloc, all.as_slice())
 }
 
 #[cycle(deep)]
 #[tactic(auto, unfolding(crate::specs::Deep::deep_merged))]
-fn deep_merged(alloc: Global, levels: u16, pairs: &Pairs, other: &Pairs) -> Result<Value, FnFault>
+fn deep_merged(
+    alloc: Global,
+    levels: u16,
+    pairs: &Pairs,
+    other: &Pairs,
+) -> Result<Shared<Value>, FnFault>
     ensures { IsAnswer result (deep_merged_of levels pairs.now other.now) }
 {
     if levels == 0 {
-        return map_value(alloc, other.as_slice());
+        return boxed_map(alloc, other.as_slice());
     }
     match deep_pairs(alloc, levels - 1, pairs.as_slice(), other) {
         Ok(all) => with_new(alloc, all, pairs, other),
@@ -119,7 +155,10 @@ pub(crate) fn deep_merge(alloc: Global, args: &[Argument]) -> Result<Value, FnFa
     let (first, second) = two(args)?;
     let pairs = pairs_of(alloc, first)?;
     let other = pairs_of(alloc, second)?;
-    deep_merged(alloc, 1001, &pairs, &other)
+    match deep_merged(alloc, 1001, &pairs, &other) {
+        Ok(value) => Ok(value.get().share()?),
+        Err(fault) => Err(fault),
+    }
 }
 
 // ---- deep-remove
