@@ -4,6 +4,7 @@ pub mod Callables
 pub mod State
 pub mod BuiltIns
 pub mod Names
+pub mod Noted
 pub mod Loads
 pub mod Outside
 pub mod Fresh

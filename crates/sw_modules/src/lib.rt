@@ -7,6 +7,7 @@ mod built_ins;
 mod callables;
 mod confirm;
 mod ends;
+mod holders;
 mod interfaces;
 mod laws;
 mod live;

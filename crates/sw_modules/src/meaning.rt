@@ -1,5 +1,5 @@
 // What a name means at a place.
-ghost use Rattle.std.specs.Prelude.{◌≡◌, find, ℕ, List, Some, IfOk};
+ghost use Rattle.std.specs.Prelude.{◌≡◌, find, ℕ, List, Some, IfOk, IfSome};
 ghost use Rattle.std.specs.List.{list_any};
 ghost use Rattle.std.specs.Option.{option_copied, option_map};
 ghost use Rattle.std.specs.Map.{lookup};
@@ -10,11 +10,12 @@ ghost use Rattle.sw_modules.specs.Names.{member_of, forwarded_origin, public_ori
 
 use crate::built_ins::is_sass;
 use crate::live::Recent;
+use crate::loaded::FEW;
 use crate::loads::is_innermost;
 use crate::names::{Found, built_in_member, has_meaning, has_own, is_member, own_member};
 use crate::{Live, Module, Origin, Used, Uses};
 use sw_builtins::find;
-use sw_text::{Memory, Name};
+use sw_text::{List, Memory, Name};
 use sw_tree::Kind;
 use sw_world::Answer;
 
@@ -30,9 +31,36 @@ impl<'a> Live<'a> {
         ensures found { IfOk result (λ answer. answer ≡ found self.old site.now space.now kind name.now) }
         ensures same { self.new ≡ self.old }
     {
+        if self.uses_many(site, space) {
+            self.note()?;
+        }
         let Found { answer, recent } = self.found(site, space, kind, name)?;
         self.recent = recent;
         Ok(answer)
+    }
+
+    // Whether the name is looked for in many modules.
+    fn uses_many(&self, site: &Name, space: &Option<Name>) -> bool {
+        if space.is_some() {
+            return false;
+        }
+        if is_innermost(self.opened(), site) {
+            return match self.opened().last() {
+                None => false,
+                Some(load) => load.uses.stars.len() > FEW,
+            };
+        }
+        match self.loaded().find(site, self.recent.module) {
+            None => false,
+            Some((_, held)) => held.uses.stars.len() > FEW,
+        }
+    }
+
+    // The names of all modules are noted.
+    fn note(&mut self) -> Result<(), Memory>
+        ensures { self.new ≡ self.old }
+    {
+        self.loaded.note(self.alloc)
     }
 
     fn found(
@@ -135,7 +163,24 @@ impl<'a> Live<'a> {
 
     // ---- without a namespace
 
+    // Of many modules those are asked that may have the name.
     fn star_member(&self, stars: &[Name], kind: Kind, name: &Name) -> Result<Found, Memory>
+        ensures { IfOk result (λ it. it.answer ≡ star_member self.now kind name.now stars.now) }
+    {
+        match self.few(stars, name)? {
+            None => self.star_among(stars, kind, name),
+            Some(few) => self.star_among(few.as_slice(), kind, name),
+        }
+    }
+
+    fn few(&self, stars: &[Name], name: &Name) -> Result<Option<List<Name>>, Memory>
+        ensures { IfOk result (λ few. IfSome few (λ few. (kind : Kind)
+            → star_member self.now kind name.now few ≡ star_member self.now kind name.now stars.now)) }
+    {
+        self.loaded().few(self.alloc, stars, name)
+    }
+
+    fn star_among(&self, stars: &[Name], kind: Kind, name: &Name) -> Result<Found, Memory>
         ensures { IfOk result (λ it. it.answer ≡ star_member self.now kind name.now stars.now) }
     {
         match self.first_star(stars, kind, name) {

@@ -1,22 +1,7 @@
-use Rattle.std.proofs.Common.{◌≡◌, bytes_eq, OnErr, Result, Ok, Err, sym, ap, ◌∙◌}
-use Rattle.std.specs.Map.{lookup, set_value}
-use Rattle.std.proofs.lemmas.Map.Steps.{set_value_same}
-use Rattle.sw_modules.specs.declared.module.Module.{Module}
+use Rattle.sw_modules.proofs.Noting.{first_given}
 use Rattle.sw_modules.proofs.loaded.Loaded.assign.Goals as goal
 
-on_err : {T E P : Type 0} → (r : Result T E) → P → OnErr r P
-on_err (Ok x) p = tt
-on_err (Err x) p = p
-
--- src/loaded.rt:72:13
-pub returns-in_err-set-clause-err : goal.returns-in_err-set-clause-err
-returns-in_err-set-clause-err c =
-    let held : Module = c.in-Some.held.now in
-    let left : Module = record held { variables = c.set.new.self } in
-    let same : left ≡ held = ap (λ v. record held { variables = v }) c.in_err-set.ensures.err in
-    on_err c.from_residual.result (
-    (c.get_mut.follows.holds left).0
-    ∙ ap (λ es. set_value (bytes_eq c.args.owner.now) es left) c.self.view_is
-    ∙ ap (λ m. set_value (bytes_eq c.args.owner.now) c.args.self.now m) same
-    ∙ set_value_same (bytes_eq c.args.owner.now) c.args.self.now held (ap (λ es. lookup (bytes_eq c.args.owner.now) es) (sym c.self.view_is) ∙ sym c.in-Some.ensures.value)
-    )
+pub invariant_of-self : goal.invariant_of-self
+invariant_of-self c =
+    first_given c.self.inside.holders c.self.inside.entries.entries c.give_value.new.entries.entries c.args.owner.now c.args.name.now c.args.value c.self.inside.noted
+    c.give_value.result c.give_value.ensures.ok c.give_value.ensures.err c.self.invariant
