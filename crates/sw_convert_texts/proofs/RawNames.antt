@@ -5,7 +5,7 @@ use Rattle.std.specs.List.{list_all}
 use Rattle.std.proofs.lemmas.Bool.Decides.{nat_tests}
 use Rattle.sw_parse_lexemes.specs.declared.sort.Sort.TheVariants as sorts
 use Rattle.sw_convert_texts.proofs.RawHeads.{ToldSort, is_neutral, name_neutral}
-use Rattle.sw_text_scan.specs.declared.signs.TheConstants.{LINE_FEED, CARRIAGE_RETURN}
+use Rattle.sw_text_scan.specs.declared.signs.TheConstants.{END, LINE_FEED, CARRIAGE_RETURN}
 use Rattle.sw_text_scan.specs.Bytes.{sign, byte, is_white, is_name_byte}
 use Rattle.sw_text_scan.specs.Words.{is_u}
 use Rattle.sw_text_scan.proofs.Bounds.{if_true, if_false, and_left, and_right, or_left, or_right, not_true}
@@ -26,6 +26,7 @@ use Rattle.sw_parse_lexemes.specs.Classes.{is_name, is_number, is_comment}
 use Rattle.sw_parse_lexemes.specs.Sorts.{sort_of}
 use Rattle.sw_parse_table.specs.declared.source.Source.{Source}
 use Rattle.sw_parse_table.specs.Sources.{lexeme_at, bytes_at}
+use Rattle.sw_convert_spelling.proofs.MovedRuns.{first_byte}
 use Rattle.sw_convert_spelling.proofs.Choices.{left_no, right_no}
 use Rattle.sw_convert_spelling.proofs.Choices as names
 use Rattle.sw_convert_written.specs.Escapes.{takes_white, behind_text, ends_unclosed}
@@ -39,7 +40,7 @@ use Rattle.sw_convert_tokens.proofs.NamePieces.{name_in, name_keep}
 use Rattle.sw_convert_tokens.proofs.Names.{token_at, dollar_at, hash_at, name_black}
 use Rattle.sw_convert_tokens.proofs.Stops.{Behind, nothing_parts}
 use Rattle.sw_convert_tokens.proofs.Words.{kind_of_name, name_opens, name_behind, name_comment}
-use Rattle.sw_convert_texts.specs.RawKinds.{goes_on, is_colour, is_digits, is_hex, stands_behind, sort_behind, is_some, is_unescaped, name_stays, calls_url, is_at, at_stays, told_by, token_stays}
+use Rattle.sw_convert_texts.specs.RawKinds.{goes_on, is_colour, is_digits, is_hex, stands_behind, sort_behind, is_some, is_unescaped, escape_stays, name_stays, calls_url, is_at, at_stays, told_by, token_stays}
 use Rattle.sw_convert_texts.proofs.LexemePairs.{plains_in}
 use Rattle.sw_convert_texts.proofs.OldPieces.{old_piece, whole_bytes, Whole}
 use Rattle.sw_convert_texts.proofs.UrlNames.{begins_opaque, url_called}
@@ -83,11 +84,21 @@ second : (a c : Bool) → a ≡ true → (a && c) ≡ false → c ≡ false
 second true c e f = f
 second false c e f = absurd (cc)
 
+-- no white space goes into an escape
+shut_behind : (t : Bool) (after : List ℕ) → (not t || not ((byte after 0 == END) || is_white (byte after 0))) ≡ true
+    → (begins_white after && t) ≡ false
+shut_behind false after e = right_no (begins_white after) false refl
+shut_behind true [] e = refl
+shut_behind true (b ∷ after) e =
+    left_no (is_white b) true
+    (sym (ap is_white (first_byte b after))
+    ∙ or_right (byte (b ∷ after) 0 == END) _ (not_true ((byte (b ∷ after) 0 == END) || is_white (byte (b ∷ after) 0)) e))
+
 -- what the byte behind a name isn't
 behind_name : (text after : List ℕ) → name_stays text (byte after 0) ≡ true → Behind text after
 behind_name text after e =
     let b = byte after 0 in
-    let one = and_right (not (ends_unclosed text)) _ e in
+    let one = and_right (escape_stays text b) _ e in
     let dark = not_true (goes_on b) (and_left (not (goes_on b)) _ one) in
     let two = and_right (not (goes_on b)) _ one in
     let feed = not_true _ (and_left (not ((byte text (length text - 1) == CARRIAGE_RETURN) && (b == LINE_FEED))) _ two) in
@@ -97,7 +108,7 @@ behind_name text after e =
       name = or_left (is_name_byte b) _ dark;
       slash = or_right (is_name_byte b) _ dark;
       feed = feed;
-      closed = right_no (begins_white after) (ends_unclosed text) (not_true (ends_unclosed text) (and_left (not (ends_unclosed text)) _ e));
+      closed = shut_behind (ends_unclosed text) after (and_left (escape_stays text b) _ e);
       range = λ plus one. second (length text == 1) (is_u (byte text 0)) (same (length text) one) (second (b == sign "+") _ plus range);
       url = λ paren. second (b == sign "(") (is_url text) paren url;
     }

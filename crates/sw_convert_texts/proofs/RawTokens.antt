@@ -5,7 +5,7 @@ use Rattle.std.proofs.lemmas.Bool.Decides.{nat_tests}
 use Rattle.sw_convert_written.specs.Escapes.{ends_unclosed}
 use Rattle.sw_convert_tokens.specs.Written.{is_stop}
 use Rattle.sw_text_scan.specs.declared.signs.TheConstants.{LINE_FEED, END, CARRIAGE_RETURN}
-use Rattle.sw_text_scan.specs.Bytes.{sign, byte, is_digit, starts_plainly}
+use Rattle.sw_text_scan.specs.Bytes.{sign, byte, is_white, is_digit, starts_plainly}
 use Rattle.sw_text_scan.specs.Words.{is_u}
 use Rattle.sw_text_scan.proofs.Bounds.{and_left, and_right}
 use Rattle.sw_parse_terminals.specs.declared.lexeme.Lexeme.{Lexeme}
@@ -19,7 +19,7 @@ use Rattle.sw_convert_spelling.proofs.MovedRuns.{first_byte}
 use Rattle.sw_convert_spelling.proofs.Choices.{left_no, both, right_no}
 use Rattle.sw_convert_written.specs.Expressions.{is_url}
 use Rattle.sw_convert_tokens.specs.Values.{WasRead}
-use Rattle.sw_convert_texts.specs.RawKinds.{sign_text, is_some, sign_stays, goes_on, name_stays, is_colour, is_digits, is_number_text, number_stays, told_by, calls_url, is_at, at_stays, token_stays}
+use Rattle.sw_convert_texts.specs.RawKinds.{sign_text, is_some, sign_stays, goes_on, name_stays, escape_stays, is_colour, is_digits, is_number_text, number_stays, told_by, calls_url, is_at, at_stays, token_stays}
 use Rattle.sw_convert_texts.specs.Urls.{is_unbroken}
 use Rattle.sw_convert_texts.proofs.RawWords.{url_raw, range_raw, at_name_raw}
 use Rattle.sw_convert_texts.proofs.LexemePairs.{plains_in}
@@ -83,9 +83,14 @@ is_end b = (b == sign ";") || ((b == sign " ") || (b == sign "/"))
 end_goes : (b : ℕ) → is_end b ≡ true → goes_on b ≡ false
 end_goes b e = grind (arith, nat_tests)
 
-end_name : (text : List ℕ) (c b : ℕ) → is_end b ≡ true → name_stays text c ≡ true → name_stays text b ≡ true
-end_name text c b e f =
-    both (not (ends_unclosed text)) _ (and_left (not (ends_unclosed text)) _ f)
+-- none is open where a text ends with it
+end_escape : (t : Bool) (b : ℕ) → (not t || not ((END == END) || is_white END)) ≡ true → (not t || not ((b == END) || is_white b)) ≡ true
+end_escape false b e = refl
+end_escape true b e = absurd (let wrong : false ≡ true = e in cc)
+
+end_name : (text : List ℕ) (b : ℕ) → is_end b ≡ true → name_stays text END ≡ true → name_stays text b ≡ true
+end_name text b e f =
+    both (escape_stays text b) _ (end_escape (ends_unclosed text) b (and_left (escape_stays text END) _ f))
     (both (not (goes_on b)) _ (ap not (end_goes b e))
     (both (not ((byte text (length text - 1) == CARRIAGE_RETURN) && (b == LINE_FEED))) _
     (ap not (right_no (byte text (length text - 1) == CARRIAGE_RETURN) _ (feed b e)))
@@ -174,6 +179,7 @@ first_of false f = absurd (cc)
 
 end_stays : (sort : Sort) (text : List ℕ) (b : ℕ) (rest : List ℕ) → is_end b ≡ true → token_stays sort text [] ≡ true
     → token_stays sort text (b ∷ rest) ≡ true
+unfolding byte
 end_stays sort text b rest e f =
     both (is_some text) _ (and_left (is_some text) _ f) (go (is_name sort) (is_at sort) (and_right (is_some text) _ f))
   where
@@ -183,7 +189,7 @@ end_stays sort text b rest e f =
         else (if u then at_stays text (b ∷ rest) else told_by sort text (b ∷ rest))) ≡ true
     go true u f =
         first_or (name_stays text (byte (b ∷ rest) 0)) _
-        (ap (name_stays text) (first_byte b rest) ∙ end_name text (byte [] 0) b e (first_of (name_stays text (byte [] 0)) f))
+        (ap (name_stays text) (first_byte b rest) ∙ end_name text b e (first_of (name_stays text END) f))
     go false true f = end_at text b rest e f
     go false false f = end_told sort text b rest e f
 

@@ -111,10 +111,14 @@ is_other text = bytes_eq text (codes "~") || (bytes_eq text (codes "|") || bytes
 abbrev pub goes_on : ℕ → Bool
 goes_on b = is_name_byte b || (b == sign "\\")
 
--- a name at whose end no escape is open doesn't go on with the byte behind it, and begins no range and no url with it
+-- an escape is open at the end of a name only before what is no white space
+abbrev pub escape_stays : List ℕ → ℕ → Bool
+escape_stays text b = not (ends_unclosed text) || not ((b == END) || is_white b)
+
+-- a name doesn't go on with the byte behind it, and begins no range and no url with it
 abbrev pub name_stays : List ℕ → ℕ → Bool
 name_stays text b =
-    not (ends_unclosed text)
+    escape_stays text b
     && (not (goes_on b)
     && (not ((byte text (length text - 1) == CARRIAGE_RETURN) && (b == LINE_FEED))
     && (not ((b == sign "+") && ((length text == 1) && is_u (byte text 0)))
