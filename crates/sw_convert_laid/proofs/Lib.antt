@@ -16,3 +16,4 @@ pub mod SameStrings
 pub mod SamePieces
 pub mod Sound
 pub mod LineFeeds
+pub mod Blocks

@@ -1,3 +1,4 @@
 pub mod Heads
 pub mod Rows
 pub mod LineFeeds
+pub mod Blocks

@@ -1,5 +1,6 @@
 // What lines that are written stand for.
 ghost use Rattle.std.specs.Prelude.{List, ℕ};
+ghost use Rattle.sw_convert_laid.specs.Blocks.{Statements, HasSigns};
 ghost use Rattle.sw_convert_laid.specs.LineFeeds.{StandBeforeLineFeed};
 ghost use Rattle.sw_convert_laid.specs.Rows.{Row, HasLayout};
 ghost use Rattle.sw_convert_spelling.specs.Spelt.{Spelt};
@@ -16,4 +17,10 @@ pub fn lines_are_laid(text: &str)
 /// last byte goes on over no line, and no `url(` stands among them but in a url without `#{}`.
 pub fn tokens_stand_before_line_feeds()
     ensures { (list : List Spelt) (after : List ℕ) → StandBeforeLineFeed list after }
+{}
+
+/// A law: the signs that the lines of statements stand for are those of these statements: a `;` behind each that has no
+/// block, and braces around the statements of each block.
+pub fn blocks_are_told_by_lines()
+    ensures { (statements : Statements) → HasSigns statements }
 {}

@@ -4,4 +4,4 @@
 
 mod laws;
 
-pub use laws::{lines_are_laid, tokens_stand_before_line_feeds};
+pub use laws::{blocks_are_told_by_lines, lines_are_laid, tokens_stand_before_line_feeds};
