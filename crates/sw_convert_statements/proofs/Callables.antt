@@ -1,5 +1,5 @@
 -- The heads of functions and mixins, and `@include` without arguments.
-use Rattle.std.proofs.Common.{◌≡◌, ℕ, true, false, List, [], ◌∷◌, ◌++◌, Option, Some, None, append-nil, inl, refl, sym, ◌∙◌, ap, subst, lit<}
+use Rattle.std.proofs.Common.{◌≡◌, ℕ, Bool, true, false, ◌&&◌, if◌then◌else◌, List, [], ◌∷◌, ◌++◌, Option, Some, None, append-nil, inl, refl, sym, ◌∙◌, ap, subst, lit<}
 use Rattle.std.specs.Prelude.{codes}
 use Rattle.sw_text.specs.Names.{dashed}
 use Rattle.sw_text_scan.specs.Bytes.{sign, byte}
@@ -24,6 +24,7 @@ use Rattle.sw_parse_table.specs.declared.source.Source.{Source}
 use Rattle.sw_parse_table.specs.Sources.{bytes_at}
 use Rattle.sw_parse_table.specs.Actions.{name_at}
 use Rattle.sw_convert_written.specs.Escapes.{ends_unclosed}
+use Rattle.sw_convert_written.specs.Escapes as escapes
 use Rattle.sw_convert_written.specs.Expressions.{is_url}
 use Rattle.sw_convert_written.specs.Heads.{none_in, has_none, params_text, callable_head}
 use Rattle.sw_convert_written.specs.Names.{name_text}
@@ -44,7 +45,7 @@ use Rattle.sw_convert_texts.proofs.OldNames.{NamedSo, named_there}
 use Rattle.sw_convert_statements.specs.Segments.{FrontWritten}
 use Rattle.sw_convert_statements.specs.Fronts.{ValuesAreKnown, is_callable}
 use Rattle.sw_convert_statements.proofs.Keywords.{keyword}
-use Rattle.sw_convert_statements.proofs.OneName.{name_segment, name_sort, dashed_text}
+use Rattle.sw_convert_statements.proofs.OneName.{url_named, name_segment, name_sort, dashed_text}
 use Rattle.sw_convert_statements.proofs.Params.{parens_written}
 use Rattle.sw_convert_statements.proofs.Segments.{sheet, join, as_text, as_behind, text_follows}
 
@@ -97,11 +98,11 @@ member_written source i was old =
     }
 
 module _ (source : Source) (was : WasRead source) (values : ValuesAreKnown source) where
-  pub function_written : (i : ℕ) → Old source i (just terminals.Named) → is_callable source i ≡ true → {j k : ℕ} {params : TreeParams}
+  function_parens : (i : ℕ) → Old source i (just terminals.Named) → is_callable source i ≡ true → {j k : ℕ} {params : TreeParams}
       {tokens : List Tok} → SpellsHeadParams source j k params tokens
-      → FrontWritten modes.Head (callable_head callables.Function (name_at source i) params)
+      → FrontWritten modes.Head (codes "@function " ++ (name_text (name_at source i) ++ params_text params))
       (again.sign terminals.AtFunction ∷ tok terminals.Named (Dashed (name_at source i)) ∷ tokens)
-  function_written i old t {params = params} head before calm =
+  function_parens i old t {params = params} head before calm =
       let name = member_written source i was old in
       let parens = parens_written source was values head false in
       let text = name_text (name_at source i) in record {
@@ -116,6 +117,19 @@ module _ (source : Source) (was : WasRead source) (values : ValuesAreKnown sourc
             (join (sheet name.segment) (sheet parens.segment) (λ after ok. paren_behind text _ (not_true (is_url text) t)))
             (λ after ok. ((text ++ params_text params) ++ after, inl refl)));
       }
+
+  -- behind any other name than `url` no comment stands before the parameters
+  pub function_written : (i : ℕ) → Old source i (just terminals.Named) → is_callable source i ≡ true → {j k : ℕ} {params : TreeParams}
+      {tokens : List Tok} → SpellsHeadParams source j k params tokens
+      → FrontWritten modes.Head (callable_head callables.Function (name_at source i) params)
+      (again.sign terminals.AtFunction ∷ tok terminals.Named (Dashed (name_at source i)) ∷ tokens)
+  function_written i old t {params = params} {tokens = tokens} head =
+      let name = name_at source i in
+      subst
+      (λ (x : List ℕ). FrontWritten modes.Head (codes "@function " ++ (name_text name ++ x)) (again.sign terminals.AtFunction ∷ tok terminals.Named (Dashed name) ∷ tokens))
+      (ap (λ (u : Bool). (if u && has_none params then escapes.apart else []) ++ params_text params)
+      (sym (url_named name (not_true (is_url (name_text name)) t))))
+      (function_parens i old t head)
 
   mixin_parens : (i : ℕ) → Old source i (just terminals.Named) → is_callable source i ≡ true → {j k : ℕ} {params : TreeParams}
       {tokens : List Tok} → SpellsHeadParams source j k params tokens

@@ -1,16 +1,17 @@
 -- Statements with values, by their kinds.
-use Rattle.std.proofs.Common.{◌≡◌, ℕ, suc, true, List, ◌∷◌, ◌++◌, refl, subst, append_assoc}
+use Rattle.std.proofs.Common.{◌≡◌, ℕ, suc, Bool, true, false, List, ◌∷◌, ◌++◌, refl, sym, ◌∙◌, ap, subst, append_assoc}
 use Rattle.std.specs.Prelude.{codes}
 use Rattle.sw_text_scan.proofs.Bounds.{and_left, and_right}
 use Rattle.sw_tree.specs.declared.text.Parts.TheVariants.{Mixed}
+use Rattle.sw_tree.specs.declared.expr.Argument.{Argument}
 use Rattle.sw_tree.specs.declared.statement.Level.{Level}
 use Rattle.sw_tree.specs.declared.statement.Level.TheVariants as levels
 use Rattle.sw_parse_terminals.specs.Numbers.{just}
 use Rattle.sw_parse_table.specs.Actions.{flags_at, name_at, mixin_of}
 use Rattle.sw_parse_terminals.specs.declared.terminal.Terminal.TheVariants as terminals
 use Rattle.sw_parse_lexemes.specs.declared.state.Mode.TheVariants as modes
-use Rattle.sw_convert_written.specs.Expressions.{expr_text, space_text}
-use Rattle.sw_convert_written.specs.Heads.{given_arguments, include_text, using_params}
+use Rattle.sw_convert_written.specs.Expressions.{is_url, expr_text, space_text}
+use Rattle.sw_convert_written.specs.Heads.{given_behind_name, given_arguments, include_text, using_params}
 use Rattle.sw_convert_written.specs.Names.{name_text}
 use Rattle.sw_convert_again.specs.Tokens.{Tok}
 use Rattle.sw_convert_again.specs.Tokens as again
@@ -30,7 +31,7 @@ use Rattle.sw_convert_statements.specs.Segments.{FrontWritten}
 use Rattle.sw_convert_statements.proofs.Bounds.{for_written}
 use Rattle.sw_convert_statements.proofs.Assignments.{no_global, assignment_written}
 use Rattle.sw_convert_statements.proofs.Arguments.{given_written}
-use Rattle.sw_convert_statements.proofs.Includes.{content_called, include_line_written, using_written}
+use Rattle.sw_convert_statements.proofs.Includes.{mixin_no_url, content_called, include_line_written, using_written}
 use Rattle.sw_convert_statements.proofs.Callables.{function_written, mixin_written}
 use Rattle.sw_convert_statements.proofs.Flow.{each_written, charset_written, at_root_written}
 
@@ -38,6 +39,13 @@ say_clear : (level : Level) → is_clear (just (say_name level)) ≡ true
 say_clear levels.Warn = refl
 say_clear levels.Debug = refl
 say_clear levels.Error = refl
+
+-- behind any other name than `url` no comment stands before the arguments
+unguarded : (space name : List ℕ) (url : Bool) (arguments : List Argument) → url ≡ false
+    → (space ++ name) ++ given_arguments arguments ≡ space ++ (name ++ given_behind_name url arguments)
+unguarded space name url arguments e =
+    append_assoc space name (given_arguments arguments)
+    ∙ ap (λ (u : Bool). space ++ (name ++ given_behind_name u arguments)) (sym e)
 
 pub fronts_written : FrontsAreWritten
 fronts_written source was known i j statement tokens (spells.return_line span old inner end) t =
@@ -58,7 +66,7 @@ fronts_written source was known i j statement tokens
     using end) t =
     subst
     (λ (x : List ℕ). FrontWritten modes.Include (codes "@include " ++ x) (again.sign terminals.AtInclude ∷ (ks ++ os)))
-    (append_assoc (space_text namespace) (name_text (name_at source at)) (given_arguments arguments))
+    (unguarded (space_text namespace) (name_text (name_at source at)) (is_url (name_at source at)) arguments (mixin_no_url source mixin t))
     (include_line_written source was known mixin t (given_written source was known given))
 fronts_written source was known i j statement tokens
     (spells.include_block {namespace = namespace} {name = at} {arguments = arguments} {params = params} {tokens = ks} {others = os} {more = more} span name_span
@@ -68,7 +76,7 @@ fronts_written source was known i j statement tokens
     (append_assoc ks os more)
     (subst
     (λ (x : List ℕ). FrontWritten modes.Include (using_params params (codes "@include " ++ x)) (again.sign terminals.AtInclude ∷ ((ks ++ os) ++ more)))
-    (append_assoc (space_text namespace) (name_text (name_at source at)) (given_arguments arguments))
+    (unguarded (space_text namespace) (name_text (name_at source at)) (is_url (name_at source at)) arguments (mixin_no_url source mixin t))
     (using_written source was known mixin t (given_written source was known given) using))
 fronts_written source was known i j statement tokens (spells.at_root_block span old block) t = at_root_written
 fronts_written source was known i j statement tokens

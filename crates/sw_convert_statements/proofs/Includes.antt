@@ -55,7 +55,7 @@ use Rattle.sw_convert_texts.proofs.OldNames.{NamedSo, name_start, named_there}
 use Rattle.sw_convert_statements.proofs.Callables.{name_ends, none_there, some_there, word_using, member_written}
 use Rattle.sw_convert_statements.proofs.Flow.{content_written}
 use Rattle.sw_convert_statements.proofs.Keywords.{keyword}
-use Rattle.sw_convert_statements.proofs.OneName.{name_segment, name_sort, dashed_text}
+use Rattle.sw_convert_statements.proofs.OneName.{url_named, name_segment, name_sort, dashed_text}
 use Rattle.sw_convert_statements.proofs.Params.{parens_written}
 use Rattle.sw_convert_statements.proofs.Segments.{sheet, join, as_text, as_toks, as_passed, as_behind, text_follows, value_pads, padded}
 
@@ -122,6 +122,15 @@ mixin_written source was (owned_name {i} owner dot old) t =
           (joins.join first (joins.join middle second (λ after ok. dotted text it after))
           (λ after ok. (text ++ after, refl)));
     }
+
+-- and isn't `url`
+pub mixin_no_url : (source : Source) {i j at : ℕ} {namespace : Option Namespaced} {tokens : List Tok}
+    → (mixin : SpellsMixinName source i j namespace at tokens) → is_mixin_name source mixin ≡ true
+    → is_url (name_at source at) ≡ false
+mixin_no_url source (own_name {i} old) t =
+    url_named (name_at source i) (not_true (is_url (name_text (name_at source i))) t)
+mixin_no_url source (owned_name {i} owner dot old) t =
+    url_named (name_at source (suc (suc i))) (not_true (is_url (name_text (name_at source (suc (suc i))))) t)
 
 -- ---- with arguments
 

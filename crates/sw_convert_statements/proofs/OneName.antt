@@ -3,6 +3,9 @@ use Rattle.std.proofs.Common.{◌≡◌, ℕ, Bool, true, false, ◌&&◌, if◌
 use Rattle.std.specs.Prelude.{◌==◌}
 use Rattle.std.proofs.lemmas.Bool.Decides.{nat_tests}
 use Rattle.sw_text.specs.Names.{hyphen, underscore, dash, dashed}
+use Rattle.sw_text_scan.specs.Bytes.{is_digit}
+use Rattle.sw_text_scan.specs.Words.{is_u, is_r, is_l}
+use Rattle.sw_text_scan.proofs.Bounds.{and_left}
 use Rattle.sw_tokens.specs.declared.pieces.Before.{Before}
 use Rattle.sw_tokens.specs.declared.pieces.Before.TheVariants as befores
 use Rattle.sw_tokens.specs.declared.pieces.Change.TheVariants as changes
@@ -13,6 +16,7 @@ use Rattle.sw_parse_lexemes.specs.Sorts.{sort_of}
 use Rattle.sw_parse_table.specs.declared.source.Source.{Source}
 use Rattle.sw_parse_table.specs.Sources.{bytes_at}
 use Rattle.sw_convert_spelling.specs.Spelt.{behind_gap}
+use Rattle.sw_convert_written.specs.Expressions.{is_url}
 use Rattle.sw_convert_written.specs.Names.{begins_no_name, name_text}
 use Rattle.sw_convert_passing.specs.Written.{written}
 use Rattle.sw_convert_again.specs.Tokens.{Said, Says, tok}
@@ -23,6 +27,21 @@ use Rattle.sw_convert_tokens.proofs.Stops.{Behind, nothing_parts}
 use Rattle.sw_convert_tokens.proofs.Names.{token_at, name_black}
 use Rattle.sw_convert_tokens.proofs.Words.{name_yes, name_opens, name_behind, name_comment, bytes_sit}
 use Rattle.sw_convert_texts.proofs.OldNames.{NamedSo}
+
+-- a stored name is `url` where what is written of it is
+pub url_named : (name : List ℕ) → is_url (name_text name) ≡ false → is_url name ≡ false
+url_named [] e = refl
+url_named (a ∷ []) e = refl
+url_named (a ∷ b ∷ []) e = refl
+url_named (a ∷ b ∷ c ∷ []) e = go ((a == hyphen) && is_digit b) refl
+  where
+    no_u : (n : ℕ) → (n == hyphen) ≡ true → is_u n ≡ false
+    no_u n h = grind (arith, nat_tests)
+
+    go : (t : Bool) → ((a == hyphen) && is_digit b) ≡ t → is_url (a ∷ b ∷ c ∷ []) ≡ false
+    go true p = ap (λ (u : Bool). u && (is_r b && is_l c)) (no_u a (and_left (a == hyphen) _ p))
+    go false p = ap (λ (t : Bool). is_url ((if t then underscore else a) ∷ b ∷ c ∷ [])) (sym p) ∙ e
+url_named (a ∷ b ∷ c ∷ d ∷ rest) e = refl
 
 -- ---- its token
 

@@ -16,8 +16,8 @@ use Rattle.sw_parse_table.specs.declared.gap.Stretch.{Stretch}
 use Rattle.sw_parse_table.specs.Sources.{Texts, to_at, text_pieces, texts, plain_parts, stretch_between, pieces_from, text_between, behind as behind_value, parts_between}
 use Rattle.sw_convert_spelling.proofs.MovedRuns.{first_byte}
 use Rattle.sw_convert_written.specs.declared.manner.Manner.TheVariants as manners
-use Rattle.sw_convert_written.specs.Escapes.{ends_unclosed}
-use Rattle.sw_convert_written.specs.Heads.{raw_text}
+use Rattle.sw_convert_written.specs.Escapes.{ends_unclosed, ends_open, break_by}
+use Rattle.sw_convert_written.specs.Heads.{unescaping, seamed_text}
 use Rattle.sw_convert_written.specs.Pieces.{pieces_text, Written as Piece}
 use Rattle.sw_convert_written.specs.Expressions.{parts_written}
 use Rattle.sw_convert_written.proofs.Unrolled as unrolled
@@ -31,7 +31,7 @@ use Rattle.sw_convert_tokens.specs.Values.{WasRead}
 use Rattle.sw_convert_tokens.specs.Written.{gap_of, is_calm}
 use Rattle.sw_convert_tokens.proofs.Joins.{text_behind, toks_append, behind_append, sit_left}
 use Rattle.sw_convert_texts.specs.Inserted.{RawItemHasValues, RawTextHasValues}
-use Rattle.sw_convert_texts.specs.RawKinds.{is_uncut, SelectorsAreWritten, string_behind, leaves, item_text, row_text, item_known, row_known, RawTextsAreWritten}
+use Rattle.sw_convert_texts.specs.RawKinds.{is_uncut, SelectorsAreWritten, string_behind, leaves, item_text, row_text, item_known, row_known, raw_stays, RawTextsAreWritten}
 use Rattle.sw_convert_texts.specs.RawTexts.{ends_statement, EndsText, IsText, RawWritten, SheetSegment}
 use Rattle.sw_convert_texts.proofs.JoinedTexts.{lone}
 use Rattle.sw_convert_texts.proofs.AroundTexts.{lones, around_texts, around_is, CutFrom, cut_end}
@@ -41,6 +41,10 @@ use Rattle.sw_convert_texts.proofs.RawSits.{shifted_append, shifted_twice, ends_
 use Rattle.sw_convert_texts.proofs.RawTokens.{is_end}
 use Rattle.sw_convert_texts.proofs.RawRows.{row_leaves, Begun, EndThere, FirstSays, Placed, ItemIs, RowIs}
 use Rattle.sw_convert_texts.proofs.RawJoined.{row_raw, item_is, row_is}
+
+-- a text at whose end no `\` stands by itself has no line break behind it
+pub unescaped : (own : List ℕ) → ends_open own ≡ false → unescaping own ≡ own
+unescaped own closed = ap (λ (open_there : Bool). own ++ break_by open_there) closed ∙ append-nil own
 
 -- ---- what was read
 
@@ -54,11 +58,11 @@ module _ (source : Source) (mode : Mode) (i j : ℕ) (parts : List Part) (cuts :
       first (y ∷ ys) = y
 
   -- what is written of it
-  pub written_is : raw_text (text_between source i j parts) ≡ own
+  pub written_is : seamed_text (text_between source i j parts) ≡ own
   written_is = go parts it
     where
       go : (list : List Part) → Whole source mode (to_at source (j - 1)) (j - 1) i list cuts own
-          → raw_text (text_between source i j list) ≡ own
+          → seamed_text (text_between source i j list) ≡ own
       go [] it =
           let same = head_is (texts source (stretch_between source i j)) (map lone cuts.rest) it.cut in
           ap (λ (t : Texts). pieces_text manners.Seamed (parts_written (plain_parts t))) same
@@ -215,7 +219,7 @@ module _ (source : Source) (was : WasRead source) (mode : Mode) {i k j : ℕ} {p
 
   -- what is written of it
   abbrev pub own_text : List ℕ
-  own_text = raw_text (text_between source i j (parts ++ more))
+  own_text = seamed_text (text_between source i j (parts ++ more))
 
   abbrev pub own_tokens : List Tok
   own_tokens = raw_tokens source i j (parts ++ more) (extents ++ shifted (length tokens) further) (tokens ++ others)
@@ -266,10 +270,10 @@ module _ (source : Source) (was : WasRead source) (mode : Mode) {i k j : ℕ} {p
       → RawText mode around others → RawText mode around (writtens (it.one.joints ++ it.rest.joints) ++ others)
   whole_raw it around others told = row_raw mode it.one.joints it.rest.joints it.one.raw it.rest.raw around others told
 
-  whole_written : item_known source mode item None befores.Other (row_text source row []) ≡ true
+  stays_written : item_known source mode item None befores.Other (row_text source row []) ≡ true
       → row_known source mode row (string_behind item None) (leaves item) [] ≡ true → RawItemHasValues item → RawTextHasValues row
-      → IsText source mode i j (parts ++ more) (extents ++ shifted (length tokens) further) (tokens ++ others)
-  whole_written first then has values before spaced calm =
+      → RawWritten mode own_text own_tokens
+  stays_written first then has values before spaced calm =
       let it = whole_text first then has values before spaced calm in record {
         end = row_leaves (leaves item) row;
         passed = writtens (it.one.joints ++ it.rest.joints);
@@ -278,11 +282,21 @@ module _ (source : Source) (was : WasRead source) (mode : Mode) {i k j : ℕ} {p
             (whole_raw it Outside [] told.raw_end);
       }
 
+  whole_written : item_known source mode item None befores.Other (row_text source row []) ≡ true
+      → row_known source mode row (string_behind item None) (leaves item) [] ≡ true → ends_open own_text ≡ false → RawItemHasValues item
+      → RawTextHasValues row
+      → IsText source mode i j (parts ++ more) (extents ++ shifted (length tokens) further) (tokens ++ others)
+  whole_written first then closed has values =
+      subst (λ (own : List ℕ). RawWritten mode own own_tokens) (sym (unescaped own_text closed))
+      (stays_written first then has values)
+
 pub raw_texts_written : RawTextsAreWritten
 raw_texts_written source mode i j values tokens extents was raw_end known has = absurd (cc)
 raw_texts_written source mode i j values tokens extents was (raw_more item row) known (has, more) =
-    whole_written source was mode item row (and_left (item_known source mode item None befores.Other (row_text source row [])) _ known)
-    (and_right (item_known source mode item None befores.Other (row_text source row [])) _ known) has more
+    let stays = and_left (raw_stays source mode (raw_more item row)) _ known in
+    whole_written source was mode item row (and_left (item_known source mode item None befores.Other (row_text source row [])) _ stays)
+    (and_right (item_known source mode item None befores.Other (row_text source row [])) _ stays)
+    (not_true (ends_open (seamed_text (text_between source i j values))) (and_right (raw_stays source mode (raw_more item row)) _ known)) has more
 
 -- ---- before the block of a rule
 
@@ -294,5 +308,5 @@ uncut_same (piece ∷ pieces) e =
 pub selectors_written : SelectorsAreWritten
 selectors_written source mode i j values tokens extents was spelt known uncut has =
     subst (λ (own : List ℕ). RawWritten mode own (raw_tokens source i j values extents tokens))
-    (sym (uncut_same (parts_written (parts_between source i j values)) uncut))
+    (sym (ap unescaping (uncut_same (parts_written (parts_between source i j values)) uncut)))
     (raw_texts_written source mode i j values tokens extents was spelt known has)

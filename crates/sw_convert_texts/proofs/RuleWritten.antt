@@ -13,26 +13,28 @@ use Rattle.sw_parse_lexemes.specs.Ahead.{in_insert}
 use Rattle.sw_parse_lexemes.specs.Classes.{is_name, goes_on as goes_on_sort, same}
 use Rattle.sw_parse_table.specs.declared.source.Source.{Source}
 use Rattle.sw_parse_table.specs.Parts.{Part}
-use Rattle.sw_parse_table.specs.Sources.{parts_between}
+use Rattle.sw_parse_table.specs.Sources.{parts_between, text_between}
 use Rattle.sw_convert_spelling.specs.Spelt.{behind_gap}
 use Rattle.sw_convert_spelling.proofs.Choices.{left_no, right_no, both}
 use Rattle.sw_convert_passing.specs.Written.{Written}
 use Rattle.sw_convert_passing.specs.Kinds.{is_dot, is_dollar}
+use Rattle.sw_convert_written.specs.Escapes.{ends_open}
 use Rattle.sw_convert_written.specs.Expressions.{parts_written}
+use Rattle.sw_convert_written.specs.Heads.{unescaping, seamed_text}
 use Rattle.sw_convert_heads_passing.specs.Blocks.{open_sign}
 use Rattle.sw_convert_heads_passing.specs.RawTexts.{RawText, Outside}
 use Rattle.sw_convert_heads_passing.specs.RawTexts as told
 use Rattle.sw_convert_heads_passing.specs.Rules.{walked, is_direct, is_pseudo, no_variable, is_rule}
 use Rattle.sw_convert_again.specs.Tokens.{Tok, Extent}
 use Rattle.sw_convert_again.specs.RawTexts.{parens, squares, braces, SpellsRawItem, SpellsRawText, raw_token, raw_insert, raw_brackets, raw_end, raw_more, raw_tokens}
-use Rattle.sw_convert_texts.specs.RawKinds.{gap_before, row_text, sort_there, is_some, sort_behind, leaves, item_known}
+use Rattle.sw_convert_texts.specs.RawKinds.{gap_before, row_text, sort_there, is_some, sort_behind, leaves, item_known, raw_stays}
 use Rattle.sw_convert_texts.specs.RuleTexts.{item_sort, item_digits, is_begin, is_literal, is_lead, is_type, is_part, ends_word, goes_as_class, goes_as_pseudo, goes_as_rule, goes_behind_name, begins_as, begins_rule, seams_of, RuleTextsAreWritten}
 use Rattle.sw_convert_texts.specs.RawTexts.{SheetSegment, EndsText}
 use Rattle.sw_convert_texts.proofs.RawHeads.{Head, is_one, IsOver, RowHead}
 use Rattle.sw_convert_tokens.specs.Joints.{writtens}
 use Rattle.sw_convert_tokens.proofs.Joins.{writtens_append}
 use Rattle.sw_convert_texts.proofs.RawRows.{row_leaves}
-use Rattle.sw_convert_texts.proofs.RawWritten.{whole_text, whole_raw, uncut_same}
+use Rattle.sw_convert_texts.proofs.RawWritten.{whole_text, whole_raw, uncut_same, unescaped}
 use Rattle.sw_convert_texts.proofs.RuleHeads.{block, which, or_first, or_second, as_told, exact, literal_new, name_unliteral, lead_rule, ends_so, word_so, block_so, Ends, no_comment, word_stops, ends_plain, ends_pseudo, word_part, name_goes, named_insert, insert_rule, minus_rule, dashed_rule, name_rule, alone_rule, is_pseudo_begin, pseudo_unliteral, is_pseudo_so}
 
 -- white space stands there
@@ -344,9 +346,12 @@ seam_raw false = told.raw_end
 pub rule_texts_written : RuleTextsAreWritten
 rule_texts_written source i j values tokens extents was raw_end known uncut begins has before calm = absurd (cc)
 rule_texts_written source i j values tokens extents was (raw_more item row) known uncut begins (has, more) before calm =
+    let stays = and_left (raw_stays source modes.Raw (raw_more item row)) _ known in
+    let own = seamed_text (text_between source i j values) in
+    let closed = not_true (ends_open own) (and_right (raw_stays source modes.Raw (raw_more item row)) _ known) in
     let it = whole_text source was modes.Raw item row
-    (and_left (item_known source modes.Raw item None befores.Other (row_text source row [])) _ known)
-    (and_right (item_known source modes.Raw item None befores.Other (row_text source row [])) _ known) has more before false calm in
+    (and_left (item_known source modes.Raw item None befores.Other (row_text source row [])) _ stays)
+    (and_right (item_known source modes.Raw item None befores.Other (row_text source row [])) _ stays) has more before false calm in
     let xs = it.one.joints in
     let ys = it.rest.joints in record {
       passed = writtens (xs ++ ys);
@@ -358,5 +363,5 @@ rule_texts_written source i j values tokens extents was (raw_more item row) know
       end = row_leaves (leaves item) row;
       segment = subst
           (λ (own : List ℕ). SheetSegment before own (raw_tokens source i j values extents tokens) (writtens (xs ++ ys)) (row_leaves (leaves item) row) (EndsText own))
-          (sym (uncut_same (parts_written (parts_between source i j values)) uncut)) it.segment;
+          (sym (ap unescaping (uncut_same (parts_written (parts_between source i j values)) uncut) ∙ unescaped own closed)) it.segment;
     }

@@ -19,10 +19,11 @@ use Rattle.sw_parse_lexemes.specs.Classes.{is_name}
 use Rattle.sw_parse_lexemes.specs.Plains.{plains_of}
 use Rattle.sw_parse_table.specs.declared.source.Source.{Source}
 use Rattle.sw_parse_table.specs.Parts.{Part}
-use Rattle.sw_parse_table.specs.Sources.{bytes, from_at, to_at, bytes_from, bytes_at, is_commented, gap_at, parts_between}
+use Rattle.sw_parse_table.specs.Sources.{bytes, from_at, to_at, bytes_from, bytes_at, is_commented, gap_at, parts_between, text_between}
 use Rattle.sw_convert_spelling.specs.Spelt.{behind_gap}
-use Rattle.sw_convert_written.specs.Escapes.{ends_unclosed}
+use Rattle.sw_convert_written.specs.Escapes.{ends_unclosed, ends_open}
 use Rattle.sw_convert_written.specs.Expressions.{is_url, expr_text, parts_written}
+use Rattle.sw_convert_written.specs.Heads.{seamed_text}
 use Rattle.sw_convert_written.specs.Pieces.{Written}
 use Rattle.sw_convert_written.specs.Rules.{has_more, is_cut}
 use Rattle.sw_convert_again.specs.Tokens.{Tok, Extent, Old}
@@ -349,12 +350,18 @@ abbrev mutual
       && row_known source mode text (string_behind item quotes) (leaves item) behind)
 
 -- a whole text isn't empty; before its first token anything may stand but a `#` or a `$`
-abbrev pub raw_known : (source : Source) → Mode → {i j : ℕ} {parts : List Part} {tokens : List Tok} {extents : List Extent}
+abbrev pub raw_stays : (source : Source) → Mode → {i j : ℕ} {parts : List Part} {tokens : List Tok} {extents : List Extent}
     → SpellsRawText source i j parts tokens extents → Bool
-raw_known source mode raw_end = false
-raw_known source mode (raw_more item text) =
+raw_stays source mode raw_end = false
+raw_stays source mode (raw_more item text) =
     item_known source mode item None befores.Other (row_text source text [])
     && row_known source mode text (string_behind item None) (leaves item) []
+
+-- and no `\` at its end would escape what stands behind it
+abbrev pub raw_known : (source : Source) → Mode → {i j : ℕ} {values : List Part} {tokens : List Tok} {extents : List Extent}
+    → SpellsRawText source i j values tokens extents → Bool
+raw_known source mode {i} {j} {values} spelt =
+    raw_stays source mode spelt && not (ends_open (seamed_text (text_between source i j values)))
 
 -- what is written of such a text is its tokens, where this is so of the values in it
 abbrev pub RawTextsAreWritten : Type 0

@@ -1,6 +1,7 @@
 -- Escapes that are open at the end of a text (CSS Syntax, "Consume an escaped code point"): a hexadecimal escape takes one
--- white space behind it. Where a space of the layout would be taken, an empty comment stands before it.
-use Rattle.std.specs.Prelude.{ℕ, ◌+◌, Bool, false, ◌&&◌, ◌==◌, nat_lt, if◌then◌else◌, List, [], ◌∷◌, ◌++◌, Option, Some, None, codes}
+-- white space behind it. Where a space of the layout would be taken, an empty comment stands before it. A `\` alone takes
+-- any character but a line break, so a line break stands behind it.
+use Rattle.std.specs.Prelude.{ℕ, ◌+◌, Bool, true, false, ◌&&◌, ◌==◌, nat_lt, if◌then◌else◌, List, [], ◌∷◌, ◌++◌, Option, Some, None, codes}
 use Rattle.sw_text_scan.specs.Bytes.{sign, is_hex_digit}
 use Rattle.sw_text_scan.specs.declared.runs.TheConstants.{MOST_HEX_DIGITS}
 
@@ -26,6 +27,22 @@ takes_white (Some digits) = nat_lt 0 digits
 -- a white space behind the text would belong to it
 unfoldable pub ends_unclosed : List ℕ → Bool
 ends_unclosed text = takes_white (behind_text None text)
+
+-- a `\` would escape what stands behind the text
+abbrev pub takes_any : Option ℕ → Bool
+takes_any None = false
+takes_any (Some digits) = digits == 0
+
+unfoldable pub ends_open : List ℕ → Bool
+ends_open text = takes_any (behind_text None text)
+
+abbrev pub break_by : Bool → List ℕ
+break_by true = codes "\n"
+break_by false = []
+
+-- the line break that keeps a `\` at its end by itself
+abbrev pub break_behind : List ℕ → List ℕ
+break_behind text = break_by (ends_open text)
 
 -- an empty comment
 abbrev pub apart : List ℕ

@@ -1,5 +1,5 @@
 -- The text of a statement up to its end or its first block (the layout is this project's own).
-use Rattle.std.specs.Prelude.{ℕ, Bool, true, false, if◌then◌else◌, List, [], ◌∷◌, ◌++◌, map, Option, Some, None, codes}
+use Rattle.std.specs.Prelude.{ℕ, Bool, true, false, ◌&&◌, if◌then◌else◌, List, [], ◌∷◌, ◌++◌, map, Option, Some, None, codes}
 use Rattle.sw_tree.specs.declared.callable.Kind.{Kind}
 use Rattle.sw_tree.specs.declared.callable.Kind.TheVariants as kinds
 use Rattle.sw_tree.specs.declared.callable.Mixin.{Mixin}
@@ -28,11 +28,11 @@ use Rattle.sw_tree.specs.declared.statement.Variable.{Variable}
 use Rattle.sw_tree.specs.declared.text.Text.{Text}
 use Rattle.sw_convert_spelling.specs.Strings.{string_text}
 use Rattle.sw_convert_written.specs.declared.manner.Manner.TheVariants as manners
-use Rattle.sw_convert_written.specs.Escapes.{space_behind}
+use Rattle.sw_convert_written.specs.Escapes.{apart, break_behind, space_behind}
 use Rattle.sw_convert_written.specs.Names.{name_text, dollar_name}
 use Rattle.sw_convert_written.specs.Pieces.{pieces_text}
 use Rattle.sw_convert_written.specs.Rules.{rule_pieces}
-use Rattle.sw_convert_written.specs.Expressions.{with_commas, space_text, qualified_text, argument_text, expr_text, parts_written}
+use Rattle.sw_convert_written.specs.Expressions.{with_commas, space_text, qualified_text, is_url, call_opening, of_argument, argument_text, expr_text, parts_written}
 
 -- ---- texts
 
@@ -40,14 +40,21 @@ use Rattle.sw_convert_written.specs.Expressions.{with_commas, space_text, qualif
 abbrev pub plain_text : Text → List ℕ
 plain_text text = pieces_text manners.Joined (parts_written text.parts)
 
+-- a `\` at the end of raw text has a line break behind it
+abbrev pub unescaping : List ℕ → List ℕ
+unescaping text = text ++ break_behind text
+
+abbrev pub seamed_text : Text → List ℕ
+seamed_text text = pieces_text manners.Seamed (parts_written text.parts)
+
 abbrev pub raw_text : Text → List ℕ
-raw_text text = pieces_text manners.Seamed (parts_written text.parts)
+raw_text text = unescaping (seamed_text text)
 
 abbrev pub queries_text : Text → List ℕ
 queries_text text = pieces_text manners.Queried (parts_written text.parts)
 
 abbrev pub selector_text : Text → List ℕ
-selector_text text = rule_pieces (parts_written text.parts)
+selector_text text = unescaping (rule_pieces (parts_written text.parts))
 
 -- a space and a text, where there is one
 abbrev pub spaced_raw : Option Text → List ℕ
@@ -162,18 +169,31 @@ has_none params = none_in params.items params.rest
 abbrev pub mixin_params : Params → List ℕ
 mixin_params params = if has_none params then [] else params_text params
 
+-- a comment, so that no parameters behind such a name are no url
+abbrev pub param_guard : List ℕ → Params → List ℕ
+param_guard name params = if is_url name && has_none params then apart else []
+
+abbrev pub function_params : List ℕ → Params → List ℕ
+function_params name params = param_guard name params ++ params_text params
+
 abbrev pub callable_head : Kind → List ℕ → Params → List ℕ
 callable_head kinds.Mixin name params = codes "@mixin " ++ (name_text name ++ mixin_params params)
-callable_head _ name params = codes "@function " ++ (name_text name ++ params_text params)
+callable_head _ name params = codes "@function " ++ (name_text name ++ function_params name params)
+
+-- arguments in parentheses, behind what begins a url with a `(` or not
+abbrev pub given_behind_name : Bool → List Argument → List ℕ
+given_behind_name url [] = []
+given_behind_name url (argument ∷ arguments) =
+    call_opening url (map of_argument (argument ∷ arguments))
+    ++ (with_commas true (map argument_text (argument ∷ arguments)) ++ codes ")")
 
 abbrev pub given_arguments : List Argument → List ℕ
-given_arguments [] = []
-given_arguments (argument ∷ arguments) =
-    codes "(" ++ (with_commas true (map argument_text (argument ∷ arguments)) ++ codes ")")
+given_arguments arguments = given_behind_name false arguments
 
 abbrev pub include_text : Mixin → List ℕ
 include_text mixin =
-    codes "@include " ++ (space_text mixin.namespace ++ (name_text mixin.name ++ given_arguments mixin.arguments))
+    codes "@include "
+    ++ (space_text mixin.namespace ++ (name_text mixin.name ++ given_behind_name (is_url mixin.name) mixin.arguments))
 
 -- the parameters of a content block behind a text, where it has any
 abbrev pub using_behind : Params → List ℕ → List ℕ

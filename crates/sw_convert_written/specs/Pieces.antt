@@ -1,9 +1,10 @@
 -- Texts in which values stand, as they are written.
-use Rattle.std.specs.Prelude.{ℕ, Bool, true, false, not, ◌&&◌, ◌||◌, ◌==◌, if◌then◌else◌, List, [], ◌∷◌, ◌++◌, codes}
+use Rattle.std.specs.Prelude.{ℕ, Bool, true, false, not, ◌&&◌, ◌||◌, ◌==◌, if◌then◌else◌, List, [], ◌∷◌, ◌++◌, Option, Some, None, codes}
 use Rattle.sw_text_scan.specs.Bytes.{sign, is_white}
+use Rattle.sw_text_scan.specs.declared.signs.TheConstants.{LINE_FEED, CARRIAGE_RETURN}
 use Rattle.sw_convert_written.specs.declared.manner.Manner.{Manner}
 use Rattle.sw_convert_written.specs.declared.manner.Manner.TheVariants as manners
-use Rattle.sw_convert_written.specs.Escapes.{apart, ends_unclosed}
+use Rattle.sw_convert_written.specs.Escapes.{behind, takes_white, apart, ends_unclosed}
 use Rattle.sw_convert_spelling.specs.Strings.{escaped}
 
 -- a piece with the text of its value
@@ -41,13 +42,20 @@ is_loose_start b =
     is_white b
     || ((b == sign ",") || ((b == sign ")") || ((b == sign "]") || ((b == sign "/") || (b == sign "*")))))
 
--- the last byte is such a byte, where the one before the text is or not
-abbrev pub ends_loose_from : Bool → List ℕ → Bool
-ends_loose_from loose [] = loose
-ends_loose_from loose (b ∷ bytes) = ends_loose_from (is_loose_end b) bytes
+-- a byte belongs to the escape that is open before it, or to one whose carriage return stands there
+abbrev pub is_taken : Option ℕ → Bool → ℕ → Bool
+is_taken None returned b = returned && (b == LINE_FEED)
+is_taken (Some digits) returned b = (digits == 0) || is_white b
+
+-- the last byte is such a byte and belongs to no escape, where the one before the text is or not
+abbrev pub ends_loose_from : Option ℕ → Bool → Bool → List ℕ → Bool
+ends_loose_from escape returned loose [] = loose
+ends_loose_from escape returned loose (b ∷ bytes) =
+    ends_loose_from (behind escape b) (takes_white escape && (b == CARRIAGE_RETURN))
+    (is_loose_end b && not (is_taken escape returned b)) bytes
 
 abbrev pub ends_loose : List ℕ → Bool
-ends_loose = ends_loose_from false
+ends_loose = ends_loose_from None false false
 
 abbrev pub begins_loose : List ℕ → Bool
 begins_loose [] = false

@@ -1,6 +1,6 @@
 // Escapes that are open at the end of a text.
-ghost use Rattle.std.specs.Prelude.{◌≡◌, ◌≤◌, ◌++◌, length, drop, OnOk};
-ghost use Rattle.sw_convert_written.specs.Escapes.{begun, behind, takes_white, ends_unclosed, apart, space_behind};
+ghost use Rattle.std.specs.Prelude.{◌≡◌, ◌≤◌, ◌++◌, length, drop, OnOk, None};
+ghost use Rattle.sw_convert_written.specs.Escapes.{begun, behind, behind_text, takes_white, ends_unclosed, takes_any, ends_open, break_behind, apart, space_behind};
 
 use sw_text::Memory;
 use sw_text_scan::{MOST_HEX_DIGITS, is_hex_digit};
@@ -11,8 +11,8 @@ fn begun(byte: u8) -> Option<usize>
     if byte == b'\\' { Some(0) } else { None }
 }
 
-// How many hexadecimal digits stand in the escape that is open behind a byte.
-fn behind(escape: Option<usize>, byte: u8) -> Option<usize>
+/// How many hexadecimal digits stand in the escape that is open behind a byte.
+pub fn behind(escape: Option<usize>, byte: u8) -> Option<usize>
     ensures { result ≡ behind escape byte }
 {
     match escape {
@@ -29,7 +29,8 @@ fn behind(escape: Option<usize>, byte: u8) -> Option<usize>
     }
 }
 
-fn takes_white(escape: Option<usize>) -> bool
+/// Whether an escape takes a white space.
+pub fn takes_white(escape: Option<usize>) -> bool
     ensures { result ≡ takes_white escape }
 {
     match escape {
@@ -38,16 +39,51 @@ fn takes_white(escape: Option<usize>) -> bool
     }
 }
 
-/// Whether a white space behind the text would belong to its last escape.
-#[tactic(auto, unfolding(crate::specs::Escapes::ends_unclosed))]
-pub fn ends_unclosed(text: &[u8]) -> bool
-    ensures { result ≡ ends_unclosed text.now }
+// How many hexadecimal digits stand in the escape that is open behind a text.
+fn behind_text(text: &[u8]) -> Option<usize>
+    ensures { result ≡ behind_text None text.now }
 {
     let mut escape = None;
     'bytes: for byte in text {
         escape = behind(escape, *byte);
     }
-    takes_white(escape)
+    escape
+}
+
+/// Whether a white space behind the text would belong to its last escape.
+#[tactic(auto, unfolding(crate::specs::Escapes::ends_unclosed))]
+pub fn ends_unclosed(text: &[u8]) -> bool
+    ensures { result ≡ ends_unclosed text.now }
+{
+    takes_white(behind_text(text))
+}
+
+fn takes_any(escape: Option<usize>) -> bool
+    ensures { result ≡ takes_any escape }
+{
+    match escape {
+        None => false,
+        Some(digits) => digits == 0,
+    }
+}
+
+// Whether a `\` at the end of the text would escape what stands behind it.
+#[tactic(auto, unfolding(crate::specs::Escapes::ends_open))]
+fn ends_open(text: &[u8]) -> bool
+    ensures { result ≡ ends_open text.now }
+{
+    takes_any(behind_text(text))
+}
+
+/// Puts the line break that keeps a `\` by itself, at the end of what was written from a place on.
+pub fn put_break(out: &mut Vec<u8>, from: usize) -> Result<(), Memory>
+    requires { from ≤ length out.old.items }
+    ensures { OnOk result (out.new.items ≡ out.old.items ++ break_behind (drop from out.old.items)) }
+{
+    if ends_open(&out[from..]) {
+        out.push(b'\n')?;
+    }
+    Ok(())
 }
 
 /// Puts an empty comment.

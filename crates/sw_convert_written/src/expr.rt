@@ -77,8 +77,8 @@ fn put_guard(out: &mut Vec<u8>, arguments: &[Argument]) -> Result<(), Memory>
     Ok(())
 }
 
-// The `(` of a call, whose name may begin a url with it.
-fn put_call_opening(out: &mut Vec<u8>, url: bool, arguments: &[Argument]) -> Result<(), Memory>
+/// Puts the `(` of a call, whose name may begin a url with it.
+pub fn put_call_opening(out: &mut Vec<u8>, url: bool, arguments: &[Argument]) -> Result<(), Memory>
     ensures { OnOk result (out.new.items ≡ out.old.items ++ call_opening url (map of_argument arguments.now)) }
 {
     put(out, b"(")?;

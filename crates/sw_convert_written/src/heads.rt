@@ -7,7 +7,7 @@ ghost use Rattle.sw_convert_written.specs.Expressions.{with_commas, expr_text};
 use crate::Manner;
 use crate::bytes::put;
 use crate::commas::put_comma;
-use crate::escapes::put_space;
+use crate::escapes::{put_break, put_space};
 use crate::expr::{put_expr, put_parts, put_qualified};
 use crate::names::put_dollar_name;
 use sw_text::{Memory, Name};
@@ -24,10 +24,13 @@ pub fn put_plain(out: &mut Vec<u8>, text: &Text) -> Result<(), Memory>
 }
 
 /// Puts raw text.
+#[tactic(auto, using(crate::proofs::Joins::appends))]
 pub fn put_raw(out: &mut Vec<u8>, text: &Text) -> Result<(), Memory>
     ensures { OnOk result (out.new.items ≡ out.old.items ++ raw_text text.now) }
 {
-    put_parts(out, &text.parts, Manner::Seamed)
+    let from = out.len();
+    put_parts(out, &text.parts, Manner::Seamed)?;
+    put_break(out, from)
 }
 
 /// Puts a space and raw text, where there is any.

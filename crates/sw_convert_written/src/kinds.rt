@@ -74,8 +74,8 @@ pub fn is_quotient(first: &Expr, rest: &[Link]) -> bool
     true
 }
 
-// `url` in any case.
-fn is_url(name: &[u8]) -> bool
+/// `url` in any case.
+pub fn is_url(name: &[u8]) -> bool
     ensures { result ≡ is_url name.now }
 {
     match name {

@@ -19,7 +19,7 @@ mod statement;
 mod strings;
 
 pub use bytes::put;
-pub use escapes::{put_apart, put_space};
+pub use escapes::{ends_unclosed, put_apart, put_space};
 pub use expr::{put_expr, put_piece};
 pub use heads::{
     put_assignment, put_charset, put_custom, put_declaration, put_each_head, put_for_head,

@@ -1,13 +1,15 @@
 // Writing loads, callables and includes up to their end or their block.
 ghost use Rattle.std.specs.Prelude.{◌≡◌, ◌++◌, ◌≤◌, length, drop, map, OnOk, codes, true};
 ghost use Rattle.sw_convert_spelling.specs.Strings.{string_text};
-ghost use Rattle.sw_convert_written.specs.Heads.{as_text, given_text, given_behind, use_text, prefix_text, member_text, filter_text, forward_text, default_text, param_text, comma_behind, rest_text, params_text, none_in, has_none, mixin_params, callable_head, given_arguments, include_text, using_behind, content_text};
+ghost use Rattle.sw_convert_written.specs.Heads.{as_text, given_text, given_behind, use_text, prefix_text, member_text, filter_text, forward_text, default_text, param_text, comma_behind, rest_text, params_text, none_in, has_none, mixin_params, param_guard, function_params, callable_head, given_behind_name, include_text, using_behind, content_text};
 ghost use Rattle.sw_convert_written.specs.Expressions.{with_commas};
 
 use crate::bytes::put;
 use crate::commas::put_comma;
-use crate::expr::{put_arguments, put_expr, put_namespace};
+use crate::escapes::put_apart;
+use crate::expr::{put_arguments, put_call_opening, put_expr, put_namespace};
 use crate::heads::{put_flag, put_word};
+use crate::kinds::is_url;
 use crate::names::{put_dollar_name, put_name, put_text};
 use crate::strings::put_escaped;
 use sw_text::{Memory, Name};
@@ -252,6 +254,23 @@ fn put_mixin_params(out: &mut Vec<u8>, params: &Params) -> Result<(), Memory>
     put_params(out, params)
 }
 
+// A comment, so that no parameters behind a name are no url.
+fn put_param_guard(out: &mut Vec<u8>, name: &Name, params: &Params) -> Result<(), Memory>
+    ensures { OnOk result (out.new.items ≡ out.old.items ++ param_guard name.now params.now) }
+{
+    if is_url(name.as_str().as_bytes()) && has_none(params) {
+        return put_apart(out);
+    }
+    Ok(())
+}
+
+fn put_function_params(out: &mut Vec<u8>, name: &Name, params: &Params) -> Result<(), Memory>
+    ensures { OnOk result (out.new.items ≡ out.old.items ++ function_params name.now params.now) }
+{
+    put_param_guard(out, name, params)?;
+    put_params(out, params)
+}
+
 /// Puts what stands before the block of a mixin or a function.
 pub fn put_callable_head(out: &mut Vec<u8>, callable: &Callable) -> Result<(), Memory>
     ensures { OnOk result (out.new.items
@@ -266,21 +285,21 @@ pub fn put_callable_head(out: &mut Vec<u8>, callable: &Callable) -> Result<(), M
         Kind::Function | Kind::Variable => {
             out.extend_from_slice(b"@function ")?;
             put_name(out, &callable.name)?;
-            put_params(out, &callable.params)
+            put_function_params(out, &callable.name, &callable.params)
         }
     }
 }
 
-fn put_given_arguments(out: &mut Vec<u8>, arguments: &[Argument]) -> Result<(), Memory>
-    ensures { OnOk result (out.new.items ≡ out.old.items ++ given_arguments arguments.now) }
+// Arguments in parentheses, behind what begins a url with a `(` or not.
+fn put_given_behind(out: &mut Vec<u8>, url: bool, arguments: &[Argument]) -> Result<(), Memory>
+    ensures { OnOk result (out.new.items ≡ out.old.items ++ given_behind_name url arguments.now) }
 {
     match arguments {
         [] => Ok(()),
         [_, ..] => {
-            out.push(b'(')?;
+            put_call_opening(out, url, arguments)?;
             put_arguments(out, arguments)?;
-            out.push(b')')?;
-            Ok(())
+            put(out, b")")
         }
     }
 }
@@ -292,7 +311,11 @@ pub fn put_include(out: &mut Vec<u8>, mixin: &Mixin) -> Result<(), Memory>
     out.extend_from_slice(b"@include ")?;
     put_namespace(out, &mixin.namespace)?;
     put_name(out, &mixin.name)?;
-    put_given_arguments(out, mixin.arguments.as_slice())
+    put_given_behind(
+        out,
+        is_url(mixin.name.as_str().as_bytes()),
+        mixin.arguments.as_slice(),
+    )
 }
 
 /// Puts the parameters of a content block behind an include, which was written from a place on.
@@ -312,6 +335,6 @@ pub fn put_content(out: &mut Vec<u8>, call: &ContentCall, end: &[u8]) -> Result<
     ensures { OnOk result (out.new.items ≡ out.old.items ++ (content_text call.now ++ end.now)) }
 {
     out.extend_from_slice(b"@content")?;
-    put_given_arguments(out, call.arguments.as_slice())?;
+    put_given_behind(out, false, call.arguments.as_slice())?;
     put(out, end)
 }

@@ -1,10 +1,10 @@
 // Whether an empty comment stands between two pieces of a text.
 ghost use Rattle.std.specs.Prelude.{◌≡◌, ◌++◌, OnOk};
-ghost use Rattle.sw_convert_written.specs.Pieces.{said_text, piece_text, begins_white, is_loose_end, is_loose_start, ends_loose, begins_loose, is_seam, is_parting, is_parted};
+ghost use Rattle.sw_convert_written.specs.Pieces.{said_text, piece_text, begins_white, is_loose_end, is_loose_start, is_taken, ends_loose, begins_loose, is_seam, is_parting, is_parted};
 ghost use Rattle.sw_convert_written.specs.Expressions.{piece_written};
 
 use crate::Manner;
-use crate::escapes::ends_unclosed;
+use crate::escapes::{behind, ends_unclosed, takes_white};
 use crate::strings::put_escaped;
 use sw_text::{Memory, Name};
 use sw_text_scan::is_white;
@@ -41,12 +41,26 @@ fn is_loose_start(byte: u8) -> bool
         || byte == b'*'
 }
 
+// Whether a byte belongs to the escape that is open before it, or to one whose carriage return stands there.
+fn is_taken(escape: Option<usize>, returned: bool, byte: u8) -> bool
+    ensures { result ≡ is_taken escape returned byte }
+{
+    match escape {
+        None => returned && byte == b'\n',
+        Some(digits) => digits == 0 || is_white(byte as u16),
+    }
+}
+
 fn ends_loose(text: &[u8]) -> bool
     ensures { result ≡ ends_loose text.now }
 {
+    let mut escape = None;
+    let mut returned = false;
     let mut loose = false;
     'bytes: for byte in text {
-        loose = is_loose_end(*byte);
+        loose = is_loose_end(*byte) && !is_taken(escape, returned, *byte);
+        returned = takes_white(escape) && *byte == b'\r';
+        escape = behind(escape, *byte);
     }
     loose
 }

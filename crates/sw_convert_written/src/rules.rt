@@ -2,14 +2,15 @@
 ghost use Rattle.std.specs.Prelude.{◌≡◌, ◌++◌, map, OnOk};
 ghost use Rattle.sw_text_scan.specs.Bytes.{starts_plainly, is_name_byte};
 ghost use Rattle.sw_convert_written.specs.Expressions.{piece_written, parts_written};
-ghost use Rattle.sw_convert_written.specs.Rules.{behind_word, behind_space, behind_colon, step, place_behind, behind_piece, behind_pieces, declares, begins_dash, begins_dashed, is_lone_at, is_at, is_cut, has_more, rule_pieces};
+ghost use Rattle.sw_convert_written.specs.Heads.{selector_text};
+ghost use Rattle.sw_convert_written.specs.Rules.{behind_word, behind_backslash, behind_digits, behind_space, behind_colon, step, place_behind, behind_piece, behind_pieces, declares, begins_dashes, begins_dashed, is_lone_at, is_at, in_word, is_declared, is_cut, has_more, rule_pieces};
 
 use crate::Manner;
-use crate::escapes::put_apart;
+use crate::escapes::{put_apart, put_break};
 use crate::expr::{put_piece, put_pieces};
 use crate::pieces::put_said;
 use sw_text::Memory;
-use sw_text_scan::{is_digit, is_letter, is_white};
+use sw_text_scan::{is_digit, is_hex_digit, is_letter, is_white};
 use sw_tree::{Parts, Piece, Text};
 
 /// Where a text is in its first word.
@@ -18,6 +19,8 @@ pub enum Place {
     Word,
     /// Behind the `\` of an escape.
     Escape,
+    /// Behind hexadecimal digits of one.
+    Digits,
     /// Behind white space.
     Space,
     /// Behind the `:`.
@@ -58,6 +61,28 @@ fn behind_word(byte: u8) -> Place
     }
 }
 
+fn behind_backslash(byte: u8) -> Place
+    ensures { result ≡ behind_backslash byte }
+{
+    if is_hex_digit(byte as u16) {
+        Place::Digits
+    } else {
+        Place::Word
+    }
+}
+
+fn behind_digits(byte: u8) -> Place
+    ensures { result ≡ behind_digits byte }
+{
+    if is_white(byte as u16) {
+        Place::Word
+    } else if is_hex_digit(byte as u16) {
+        Place::Digits
+    } else {
+        behind_word(byte)
+    }
+}
+
 fn behind_space(byte: u8) -> Place
     ensures { result ≡ behind_space byte }
 {
@@ -85,7 +110,8 @@ fn step(dashed: bool, place: Place, byte: u8) -> Place
 {
     match place {
         Place::Word => behind_word(byte),
-        Place::Escape => Place::Word,
+        Place::Escape => behind_backslash(byte),
+        Place::Digits => behind_digits(byte),
         Place::Space => behind_space(byte),
         Place::Colon => behind_colon(dashed, byte),
         Place::Declares => Place::Declares,
@@ -129,16 +155,16 @@ fn declares(place: Place) -> bool
 {
     match place {
         Place::Colon | Place::Declares => true,
-        Place::Word | Place::Escape | Place::Space | Place::Selects => false,
+        Place::Word | Place::Escape | Place::Digits | Place::Space | Place::Selects => false,
     }
 }
 
-fn begins_dash(text: &[u8]) -> bool
-    ensures { result ≡ begins_dash text.now }
+fn begins_dashes(text: &[u8]) -> bool
+    ensures { result ≡ begins_dashes text.now }
 {
     match text {
-        [] => false,
-        [byte, ..] => *byte == b'-',
+        [first, next, ..] => *first == b'-' && *next == b'-',
+        _ => false,
     }
 }
 
@@ -147,7 +173,7 @@ fn begins_dashed(piece: &Piece) -> bool
     ensures { result ≡ begins_dashed (piece_written piece.now) }
 {
     match piece {
-        Piece::Text(text) => begins_dash(text.as_str().as_bytes()),
+        Piece::Text(text) => begins_dashes(text.as_str().as_bytes()),
         Piece::Inserted(_) => false,
         Piece::Value(_) => false,
     }
@@ -173,11 +199,27 @@ fn is_at(piece: &Piece) -> bool
     }
 }
 
+fn in_word(place: Place) -> bool
+    ensures { result ≡ in_word place }
+{
+    match place {
+        Place::Word | Place::Digits => true,
+        Place::Escape | Place::Space | Place::Colon | Place::Declares | Place::Selects => false,
+    }
+}
+
+// Whether pieces of which the first is all of a word begin as a declaration.
+fn is_declared(dashed: bool, first: &Piece, pieces: &[Piece]) -> bool
+    ensures { result ≡ is_declared dashed (piece_written first.now) (map piece_written pieces.now) }
+{
+    in_word(behind_piece(dashed, Place::Word, first)) && declares(behind_pieces(dashed, pieces))
+}
+
 /// Whether pieces that begin with this one would begin no rule.
 pub fn is_cut(pieces: &[Piece], first: &Piece) -> bool
     ensures { result ≡ is_cut (piece_written first.now) (map piece_written pieces.now) }
 {
-    is_at(first) || declares(behind_pieces(begins_dashed(first), pieces))
+    is_at(first) || is_declared(begins_dashed(first), first, pieces)
 }
 
 /// Whether any piece comes behind.
@@ -206,13 +248,22 @@ fn put_rule_pieces(out: &mut Vec<u8>, pieces: &[Piece]) -> Result<(), Memory>
     }
 }
 
-/// Puts the text before the block of a rule.
 #[tactic(auto, using(crate::proofs::Unrolled::plain_is, crate::proofs::Unrolled::mixed_is))]
-pub fn put_selector(out: &mut Vec<u8>, text: &Text) -> Result<(), Memory>
-    ensures { OnOk result (out.new.items ≡ out.old.items ++ rule_pieces (parts_written text.now.parts)) }
+fn put_rule_parts(out: &mut Vec<u8>, parts: &Parts) -> Result<(), Memory>
+    ensures { OnOk result (out.new.items ≡ out.old.items ++ rule_pieces (parts_written parts.now)) }
 {
-    match &text.parts {
+    match parts {
         Parts::Plain(text) => put_said(out, Manner::Seamed, text),
         Parts::Mixed(pieces) => put_rule_pieces(out, pieces.as_slice()),
     }
+}
+
+/// Puts the text before the block of a rule.
+#[tactic(auto, using(crate::proofs::Joins::appends))]
+pub fn put_selector(out: &mut Vec<u8>, text: &Text) -> Result<(), Memory>
+    ensures { OnOk result (out.new.items ≡ out.old.items ++ selector_text text.now) }
+{
+    let from = out.len();
+    put_rule_parts(out, &text.parts)?;
+    put_break(out, from)
 }
