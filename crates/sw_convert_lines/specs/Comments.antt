@@ -1,4 +1,4 @@
--- A loud comment as it is written in lines: `/* ` and its first line, and each further line below it, three columns
+-- A loud comment as it is written in lines: `/* `, or `/*` before a `!`, and its first line, and each further line below it, three columns
 -- deeper. Its lines are those that likeness compares.
 use Rattle.std.specs.Prelude.{ℕ, suc, ◌+◌, Bool, true, false, not, ◌==◌, if◌then◌else◌, List, [], ◌∷◌, ◌++◌, map, filter, take, codes}
 use Rattle.sw_text_scan.specs.Bytes.{sign, is_white, is_break}
@@ -41,9 +41,17 @@ begins_star (b ∷ bytes) = b == sign "*"
 abbrev pub first_line : List ℕ → List ℕ
 first_line line = if begins_star line then codes "* " ++ line else line
 
+abbrev pub begins_mark : List ℕ → Bool
+begins_mark [] = false
+begins_mark (b ∷ bytes) = b == sign "!"
+
+-- a `!` stands directly behind the `/*`, where tools look for it
+abbrev pub comment_opening : List ℕ → List ℕ
+comment_opening line = if begins_mark line then codes "/*" else codes "/* "
+
 -- a line behind those before it, in so many blocks
 abbrev pub line_of : ℕ → Bool → List ℕ → List ℕ
-line_of level true line = codes "/* " ++ first_line line
+line_of level true line = comment_opening line ++ first_line line
 line_of level false line = codes "\n" ++ (indent level ++ (codes "   " ++ line))
 
 -- a line where it counts, behind others or as the first one

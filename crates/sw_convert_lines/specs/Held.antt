@@ -1,5 +1,6 @@
 -- What a sheet in lines can hold: a text up to the end of its statement or to its block that holds none of the signs for
--- which lines stand and no string over a line's end, and that doesn't end in a comma, behind which it would go on.
+-- which lines stand, no string over a line's end and no `\` before a line's end but at its own, and that doesn't end in a
+-- comma, behind which it would go on.
 use Rattle.std.specs.Prelude.{ℕ, ◌+◌, ◌-◌, Bool, true, false, not, ◌&&◌, ◌||◌, ◌==◌, List, [], ◌∷◌, take, drop, Result, Ok, Err}
 use Rattle.std.specs.List.{list_any}
 use Rattle.sw_text_scan.specs.Bytes.{sign, is_break}
@@ -23,14 +24,22 @@ is_string (kinds.Quoted text) = true
 is_string (kinds.Text text) = true
 is_string _ = false
 
+-- a `\` by itself, which stands before the end of a line alone
+abbrev pub is_backslash : List ℕ → Bool
+is_backslash (b ∷ []) = b == sign "\\"
+is_backslash _ = false
+
 abbrev pub is_comma : TokenKind → Bool
 is_comma kinds.Comma = true
 is_comma _ = false
 
+abbrev pub token_text : List ℕ → Token → List ℕ
+token_text bytes t = take (t.to - t.from) (drop t.from bytes)
+
 -- a sign for which lines stand, or a string over the end of a line
 abbrev pub is_refused : Bool → List ℕ → Token → Bool
 is_refused custom bytes t =
-    is_line_sign custom t.kind || (is_string t.kind && list_any is_break (take (t.to - t.from) (drop t.from bytes)))
+    is_line_sign custom t.kind || (is_string t.kind && list_any is_break (token_text bytes t))
 
 -- how many `#{` are open behind a token
 abbrev pub inserts_behind : ℕ → TokenKind → ℕ
@@ -40,14 +49,15 @@ inserts_behind inserts _ = inserts
 
 -- nothing is told before the first token
 abbrev pub unlooked : Look
-unlooked = record { inserts = 0; refused = false; comma = false }
+unlooked = record { inserts = 0; refused = false; comma = false; cut = false }
 
 -- what a text tells with one token more
 abbrev pub look_with : Bool → List ℕ → Look → Token → Look
 look_with custom bytes look t = record {
   inserts = inserts_behind look.inserts t.kind;
-  refused = look.refused || ((look.inserts == 0) && is_refused custom bytes t);
+  refused = look.refused || (look.cut || ((look.inserts == 0) && is_refused custom bytes t));
   comma = is_comma t.kind;
+  cut = (look.inserts == 0) && is_backslash (token_text bytes t);
 }
 
 abbrev pub look_over : Bool → List ℕ → Look → List Token → Look

@@ -2,6 +2,7 @@
 -- of a block below it.
 use Rattle.std.specs.Prelude.{ℕ, ◌+◌, Bool, true, false, not, ◌&&◌, if◌then◌else◌, List, [], ◌∷◌, ◌++◌, Option, Some, None, codes}
 use Rattle.sw_text.specs.declared.place.Span.{Span}
+use Rattle.sw_convert_written.specs.Escapes.{apart, ends_unclosed}
 use Rattle.sw_convert_written.specs.Statements.{indent}
 
 -- the text of a statement up to its end or to a block, and whether lines can hold it
@@ -38,12 +39,16 @@ refused_unless held span next = if held then next else Some span
 
 -- ---- texts
 
+-- the end of a line behind a text: an escape that is open at its end would take the line break
+abbrev pub line_behind : List ℕ → List ℕ
+line_behind text = if ends_unclosed text then apart ++ codes "\n" else codes "\n"
+
 abbrev pub inner_text : ℕ → List Shown → List ℕ
 inner_text level [] = []
 inner_text level (statement ∷ statements) = indent level ++ (statement.text level ++ inner_text level statements)
 
 abbrev pub block_text : ℕ → List ℕ → List Shown → List ℕ
-block_text level head inner = head ++ (codes "\n" ++ inner_text (level + 1) inner)
+block_text level head inner = head ++ (line_behind head ++ inner_text (level + 1) inner)
 
 -- ---- what lines can hold
 
@@ -59,7 +64,7 @@ are_held (one ∷ blocks) = is_held_block one && are_held blocks
 
 abbrev pub line : Span → Head → Shown
 line span head =
-    record { text = λ level. head.text ++ codes "\n"; refused = refused_unless head.held span None }
+    record { text = λ level. head.text ++ line_behind head.text; refused = refused_unless head.held span None }
 
 abbrev pub blocked : Span → Blocked → Shown
 blocked span one = record {

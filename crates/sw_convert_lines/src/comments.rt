@@ -2,7 +2,7 @@
 ghost use Rattle.std.specs.Prelude.{◌≡◌, ◌++◌, ◌≤◌, ◌||◌, length, drop, not, IfOk, OnOk};
 ghost use Rattle.sw_convert_alike.specs.Comments.{without_front, without_end, bare_line, is_full, inside};
 ghost use Rattle.sw_text_scan.specs.Bytes as bytes;
-ghost use Rattle.sw_convert_lines.specs.Comments.{is_star, end_from, line_end, lines_in, begins_star, first_line, line_of, full_line, lines_text, comment_lines};
+ghost use Rattle.sw_convert_lines.specs.Comments.{is_star, end_from, line_end, lines_in, begins_star, first_line, begins_mark, comment_opening, line_of, full_line, lines_text, comment_lines};
 ghost use Rattle.sw_convert_lines.specs.Layout.{has_none};
 
 use sw_convert_written::{put, put_indent};
@@ -84,6 +84,21 @@ fn begins_star(line: &[u8]) -> bool
     }
 }
 
+fn begins_mark(line: &[u8]) -> bool
+    ensures { result ≡ begins_mark line.now }
+{
+    match line {
+        [] => false,
+        [byte, ..] => *byte == b'!',
+    }
+}
+
+fn comment_opening(line: &[u8]) -> &'static [u8]
+    ensures { result.now ≡ comment_opening line.now }
+{
+    if begins_mark(line) { b"/*" } else { b"/* " }
+}
+
 fn put_first_line(out: &mut Vec<u8>, line: &[u8]) -> Result<(), Memory>
     ensures { OnOk result (out.new.items ≡ out.old.items ++ first_line line.now) }
 {
@@ -97,7 +112,7 @@ fn put_line_of(out: &mut Vec<u8>, level: usize, first: bool, line: &[u8]) -> Res
     ensures { OnOk result (out.new.items ≡ out.old.items ++ line_of level first line.now) }
 {
     if first {
-        put(out, b"/* ")?;
+        put(out, comment_opening(line))?;
         return put_first_line(out, line);
     }
     put(out, b"\n")?;

@@ -6,7 +6,7 @@ ghost use Rattle.sw_convert_written.specs.Statements.{branch_indent};
 ghost use Rattle.sw_convert_lines.specs.Comments.{comment_lines};
 ghost use Rattle.sw_convert_lines.specs.Held.{begins_member};
 ghost use Rattle.sw_convert_lines.specs.RawTexts.{selector_line};
-ghost use Rattle.sw_convert_lines.specs.Layout.{line};
+ghost use Rattle.sw_convert_lines.specs.Layout.{line, line_behind};
 ghost use Rattle.sw_convert_lines.specs.Lines.{IsFault, IsMember, head_of, charset_text, custom_head, comment, at_root_line, prelude_line, at_rule_line, branch_word};
 
 use crate::ConvertFault;
@@ -16,7 +16,8 @@ use crate::held::{begins_member, breaks_value, is_held};
 use crate::lines::Lines;
 use crate::texts::{put_line, put_selector_line, put_spaced_line};
 use sw_convert_written::{
-    put, put_custom, put_expr, put_include, put_indent, put_plain, put_space, put_using,
+    ends_unclosed, put, put_apart, put_custom, put_expr, put_include, put_indent, put_plain,
+    put_space, put_using,
 };
 use sw_text::{Memory, Span};
 use sw_tree::{AtRule, Custom, Expr, Mixin, Params, Text};
@@ -31,16 +32,28 @@ pub fn deeper(level: usize) -> Result<usize, Memory>
     }
 }
 
+/// Ends the line of a text that was written from a place on. An escape that is open at its end would take the line break.
+pub fn put_line_end(out: &mut Vec<u8>, from: usize) -> Result<(), Memory>
+    requires { from ≤ length out.old.items }
+    ensures { OnOk result (out.new.items ≡ out.old.items ++ line_behind (drop from out.old.items)) }
+{
+    if ends_unclosed(&out[from..]) {
+        put_apart(out)?;
+    }
+    put(out, b"\n")
+}
+
 /// Ends a statement without a block, which was written from a place on.
 pub fn end_line(lines: &mut Lines, from: usize, span: &Span) -> Result<(), ConvertFault>
     requires { from ≤ length lines.old.bytes.items }
-    ensures text { OnOk result (lines.new.bytes.items ≡ lines.old.bytes.items ++ codes "\n") }
+    ensures text { OnOk result (lines.new.bytes.items
+        ≡ lines.old.bytes.items ++ line_behind (drop from lines.old.bytes.items)) }
     ensures held { OnOk result ((line span.now (head_of (drop from lines.old.bytes.items))).refused ≡ None) }
     ensures fault { IfErr result (IsFault (line span.now (head_of (drop from lines.old.bytes.items))).refused) }
 {
     let held = is_held(lines.alloc, false, &lines.bytes[from..])?;
     check(span, held)?;
-    put(&mut lines.bytes, b"\n")?;
+    put_line_end(&mut lines.bytes, from)?;
     Ok(())
 }
 
@@ -48,7 +61,7 @@ pub fn end_line(lines: &mut Lines, from: usize, span: &Span) -> Result<(), Conve
 #[tactic(auto, using(crate::proofs::Joins::appends))]
 pub fn put_custom_line(lines: &mut Lines, custom: &Custom) -> Result<(), ConvertFault>
     ensures text { OnOk result (lines.new.bytes.items
-        ≡ lines.old.bytes.items ++ ((custom_head custom.now).text ++ codes "\n")) }
+        ≡ lines.old.bytes.items ++ ((custom_head custom.now).text ++ line_behind (custom_head custom.now).text)) }
     ensures held { OnOk result ((line custom.now.span (custom_head custom.now)).refused ≡ None) }
     ensures fault { IfErr result (IsFault (line custom.now.span (custom_head custom.now)).refused) }
 {
@@ -57,7 +70,7 @@ pub fn put_custom_line(lines: &mut Lines, custom: &Custom) -> Result<(), Convert
     check(&custom.span, !breaks_value(&custom.value))?;
     let held = is_held(lines.alloc, true, &lines.bytes[from..])?;
     check(&custom.span, held)?;
-    put(&mut lines.bytes, b"\n")?;
+    put_line_end(&mut lines.bytes, from)?;
     Ok(())
 }
 
@@ -107,7 +120,8 @@ pub fn put_at_rule_line(out: &mut Vec<u8>, rule: &AtRule) -> Result<(), Memory>
     put_prelude_line(out, from, &rule.prelude)
 }
 
-fn put_branch_indent(lines: &mut Lines, level: usize, first: bool) -> Result<(), Memory>
+/// Puts the indent of a condition, but not that of the first one.
+pub fn put_branch_indent(lines: &mut Lines, level: usize, first: bool) -> Result<(), Memory>
     ensures { OnOk result (lines.new.bytes.items ≡ lines.old.bytes.items ++ branch_indent level first) }
 {
     if first {
@@ -118,28 +132,12 @@ fn put_branch_indent(lines: &mut Lines, level: usize, first: bool) -> Result<(),
 
 /// Puts an `@if` or an `@else if` with its condition.
 #[tactic(auto, using(crate::proofs::Joins::appends))]
-pub fn put_branch_head(
-    lines: &mut Lines,
-    level: usize,
-    first: bool,
-    condition: &Expr,
-) -> Result<(), Memory>
-    ensures { OnOk result (lines.new.bytes.items ≡ lines.old.bytes.items
-        ++ (branch_indent level first ++ (branch_word first ++ expr_text condition.now))) }
+pub fn put_branch_head(lines: &mut Lines, first: bool, condition: &Expr) -> Result<(), Memory>
+    ensures { OnOk result (lines.new.bytes.items
+        ≡ lines.old.bytes.items ++ (branch_word first ++ expr_text condition.now)) }
 {
-    put_branch_indent(lines, level, first)?;
     put(&mut lines.bytes, branch_word(first))?;
     put_expr(&mut lines.bytes, condition)
-}
-
-/// Puts an `@else`.
-#[tactic(auto, using(crate::proofs::Joins::appends))]
-pub fn put_else_head(lines: &mut Lines, level: usize, first: bool) -> Result<(), Memory>
-    ensures { OnOk result (lines.new.bytes.items
-        ≡ lines.old.bytes.items ++ (branch_indent level first ++ codes "@else")) }
-{
-    put_branch_indent(lines, level, first)?;
-    put(&mut lines.bytes, b"@else")
 }
 
 /// Puts an `@include` with the parameters of its content block, where that has any.
@@ -156,7 +154,7 @@ pub fn put_include_head(out: &mut Vec<u8>, mixin: &Mixin, params: &Params) -> Re
 #[tactic(auto, using(crate::proofs::Joins::appends))]
 pub fn put_include_line(lines: &mut Lines, span: &Span, mixin: &Mixin) -> Result<(), ConvertFault>
     ensures text { OnOk result (lines.new.bytes.items
-        ≡ lines.old.bytes.items ++ (include_text mixin.now ++ codes "\n")) }
+        ≡ lines.old.bytes.items ++ (include_text mixin.now ++ line_behind (include_text mixin.now))) }
     ensures held { OnOk result ((line span.now (head_of (include_text mixin.now))).refused ≡ None) }
     ensures fault { IfErr result (IsFault (line span.now (head_of (include_text mixin.now))).refused) }
 {
@@ -168,7 +166,7 @@ pub fn put_include_line(lines: &mut Lines, span: &Span, mixin: &Mixin) -> Result
 // Puts a statement of this text.
 #[tactic(auto, using(crate::proofs::Joins::appends))]
 fn put_text_line(lines: &mut Lines, text: &[u8], span: &Span) -> Result<(), ConvertFault>
-    ensures text { OnOk result (lines.new.bytes.items ≡ lines.old.bytes.items ++ (text.now ++ codes "\n")) }
+    ensures text { OnOk result (lines.new.bytes.items ≡ lines.old.bytes.items ++ (text.now ++ line_behind text.now)) }
     ensures held { OnOk result ((line span.now (head_of text.now)).refused ≡ None) }
     ensures fault { IfErr result (IsFault (line span.now (head_of text.now)).refused) }
 {
@@ -197,7 +195,7 @@ pub fn put_selector_head(
 #[tactic(auto, unfolding(crate::specs::Lines::charset_text))]
 pub fn put_charset_line(lines: &mut Lines, span: &Span) -> Result<(), ConvertFault>
     ensures text { OnOk result (lines.new.bytes.items
-        ≡ lines.old.bytes.items ++ (charset_text ++ codes "\n")) }
+        ≡ lines.old.bytes.items ++ (charset_text ++ line_behind charset_text)) }
     ensures held { OnOk result ((line span.now (head_of charset_text)).refused ≡ None) }
     ensures fault { IfErr result (IsFault (line span.now (head_of charset_text)).refused) }
 {

@@ -4,7 +4,7 @@ ghost use Rattle.std.specs.List.{list_any};
 ghost use Rattle.sw_text_scan.specs.Bytes.{is_break};
 ghost use Rattle.sw_tokens.specs.Order.{StandsIn};
 ghost use Rattle.sw_convert_written.specs.Expressions.{piece_written};
-ghost use Rattle.sw_convert_lines.specs.Held.{is_line_sign, is_string, is_comma, is_refused, inserts_behind, unlooked, look_with, look_over, is_held, breaks_piece, breaks_pieces, begins_member};
+ghost use Rattle.sw_convert_lines.specs.Held.{is_line_sign, is_string, is_backslash, is_comma, token_text, is_refused, inserts_behind, unlooked, look_with, look_over, is_held, breaks_piece, breaks_pieces, begins_member};
 ghost use Rattle.sw_convert_lines.specs.Lines.{breaks_value};
 
 use std::alloc::Global;
@@ -23,6 +23,8 @@ pub struct Look {
     pub refused: bool,
     /// The last one is a comma.
     pub comma: bool,
+    /// The last one is a `\` before the end of a line.
+    pub cut: bool,
 }
 
 // The signs for which lines stand.
@@ -41,6 +43,15 @@ fn is_string(kind: &TokenKind) -> bool
 {
     match kind {
         TokenKind::Quoted(_) | TokenKind::Text(_) => true,
+        _ => false,
+    }
+}
+
+fn is_backslash(text: &[u8]) -> bool
+    ensures { result ≡ is_backslash text.now }
+{
+    match text {
+        [byte] => *byte == b'\\',
         _ => false,
     }
 }
@@ -65,6 +76,13 @@ fn breaks(bytes: &[u8]) -> bool
     false
 }
 
+fn token_text<'a>(text: &'a str, token: &Token) -> &'a [u8]
+    requires { StandsIn text.now token.now }
+    ensures { result.now ≡ token_text text.now token.now }
+{
+    text[token.from as usize..token.to as usize].as_bytes()
+}
+
 fn is_refused(custom: bool, text: &str, token: &Token) -> bool
     requires { StandsIn text.now token.now }
     ensures { result ≡ is_refused custom text.now token.now }
@@ -72,7 +90,7 @@ fn is_refused(custom: bool, text: &str, token: &Token) -> bool
     if is_line_sign(custom, &token.kind) {
         return true;
     }
-    is_string(&token.kind) && breaks(text[token.from as usize..token.to as usize].as_bytes())
+    is_string(&token.kind) && breaks(token_text(text, token))
 }
 
 // No memory holds a text in which so many `#{` are open.
@@ -95,8 +113,9 @@ fn look_with(custom: bool, text: &str, look: Look, token: &Token) -> Result<Look
 {
     Ok(Look {
         inserts: inserts_behind(look.inserts, &token.kind)?,
-        refused: look.refused || (look.inserts == 0 && is_refused(custom, text, token)),
+        refused: look.refused || look.cut || (look.inserts == 0 && is_refused(custom, text, token)),
         comma: is_comma(&token.kind),
+        cut: look.inserts == 0 && is_backslash(token_text(text, token)),
     })
 }
 
@@ -109,6 +128,7 @@ fn look_over(custom: bool, text: &str, tokens: &Tokens) -> Result<Look, Memory>
         inserts: 0,
         refused: false,
         comma: false,
+        cut: false,
     };
     'tokens: for at in 0..tokens.len() {
         let Some(token) = tokens.get(at) else {

@@ -1,6 +1,6 @@
 // Writing statements with their blocks in lines. All of it is one circle of calls over the tree.
 ghost use Rattle.std.specs.Prelude.{◌≡◌, ◌++◌, ◌+◌, ◌≤◌, length, drop, map, None, OnOk, IfErr, codes, true};
-ghost use Rattle.sw_convert_lines.specs.Layout.{inner_text, block_text, first_refused, line, blocked};
+ghost use Rattle.sw_convert_lines.specs.Layout.{line_behind, inner_text, block_text, first_refused, line, blocked};
 ghost use Rattle.sw_convert_written.specs.Expressions.{expr_text};
 ghost use Rattle.sw_convert_written.specs.Heads.{include_text, using_params};
 ghost use Rattle.sw_convert_written.specs.Statements.{branch_indent};
@@ -10,9 +10,9 @@ ghost use Rattle.sw_convert_lines.specs.Lines.{IsFault, head_of, selector_head, 
 use crate::ConvertFault;
 use crate::checks::{are_held, are_none, check, has_none};
 use crate::heads::{
-    deeper, end_line, put_at_root_line, put_at_rule_line, put_branch_head, put_charset_line,
-    put_comment, put_custom_line, put_else_head, put_include_head, put_include_line,
-    put_selector_head,
+    deeper, end_line, put_at_root_line, put_at_rule_line, put_branch_head, put_branch_indent,
+    put_charset_line, put_comment, put_custom_line, put_include_head, put_include_line,
+    put_line_end, put_selector_head,
 };
 use crate::held::is_held;
 use crate::lines::Lines;
@@ -159,8 +159,8 @@ fn put_block(
     block: &[Statement],
 ) -> Result<(), ConvertFault>
     requires { from ≤ length lines.old.bytes.items }
-    ensures text { OnOk result (lines.new.bytes.items
-        ≡ lines.old.bytes.items ++ (codes "\n" ++ inner_text (level + 1) (map in_lines block.now))) }
+    ensures text { OnOk result (lines.new.bytes.items ≡ lines.old.bytes.items
+        ++ (line_behind (drop from lines.old.bytes.items) ++ inner_text (level + 1) (map in_lines block.now))) }
     ensures held { OnOk result ((blocked span.now
         (record { head = head_of (drop from lines.old.bytes.items); inner = map in_lines block.now })).refused ≡ None) }
     ensures fault { IfErr result (IsFault (blocked span.now
@@ -168,19 +168,19 @@ fn put_block(
 {
     let held = is_held(lines.alloc, false, &lines.bytes[from..])? && !has_none(block);
     check(span, held)?;
+    put_line_end(&mut lines.bytes, from)?;
     put_inner(lines, level, block)
 }
 
-// The statements of a block, in so many blocks around it, behind its head.
+// The statements of a block, in so many blocks around it, behind the line of its head.
 #[cycle(write)]
 #[tactic(auto, using(crate::proofs::Joins::appends))]
 fn put_inner(lines: &mut Lines, level: usize, block: &[Statement]) -> Result<(), ConvertFault>
     ensures text { OnOk result (lines.new.bytes.items
-        ≡ lines.old.bytes.items ++ (codes "\n" ++ inner_text (level + 1) (map in_lines block.now))) }
+        ≡ lines.old.bytes.items ++ inner_text (level + 1) (map in_lines block.now)) }
     ensures held { OnOk result (first_refused (map in_lines block.now) ≡ None) }
     ensures fault { IfErr result (IsFault (first_refused (map in_lines block.now))) }
 {
-    put(&mut lines.bytes, b"\n")?;
     let inner = deeper(level)?;
     'statements: for statement in block {
         put_indent(&mut lines.bytes, inner)?;
@@ -296,7 +296,10 @@ fn put_condition(
     ensures held { OnOk result (first_refused (map in_lines branch.now.block) ≡ None) }
     ensures fault { IfErr result (IsFault (first_refused (map in_lines branch.now.block))) }
 {
-    put_branch_head(lines, level, first, &branch.condition)?;
+    put_branch_indent(lines, level, first)?;
+    let from = lines.bytes.len();
+    put_branch_head(lines, first, &branch.condition)?;
+    put_line_end(&mut lines.bytes, from)?;
     put_inner(lines, level, branch.block.as_slice())
 }
 
@@ -314,6 +317,9 @@ fn put_else(
     ensures held { OnOk result (first_refused (map in_lines block.now) ≡ None) }
     ensures fault { IfErr result (IsFault (first_refused (map in_lines block.now))) }
 {
-    put_else_head(lines, level, first)?;
+    put_branch_indent(lines, level, first)?;
+    let from = lines.bytes.len();
+    put(&mut lines.bytes, b"@else")?;
+    put_line_end(&mut lines.bytes, from)?;
     put_inner(lines, level, block)
 }
