@@ -27,7 +27,7 @@ const LONGEST = 40;
  * @returns {Notes}
  */
 export function notesOfLines(at) {
-  const seen = at.it.startsWith('/*') ? [ofComment(at)] : [ofBlock(at), ofSign(at), ofComma(at), ofCustom(at), ofString(at), ofSemicolon(at)];
+  const seen = at.it.startsWith('/*') ? [ofComment(at)] : [ofBlock(at), ofSign(at), ofComma(at), ofCustom(at), ofString(at), ofBackslash(at), ofSemicolon(at)];
   const found = seen.filter((it) => it !== null);
   const reasons = found.length > 0 ? found : [ofBranches(at)].filter((it) => it !== null);
   return { head: reasons[0]?.head ?? null, sure: false, notes: reasons.map((it) => ({ text: it.help })) };
@@ -96,6 +96,15 @@ function ofString({ it }) {
   const strings = it.match(new RegExp(STRING, 'g')) ?? [];
   if (it.startsWith('--') || !strings.some((text) => /[\n\r\f]/.test(text))) return null;
   return { head: "lines can't hold a string over several lines", help: 'write it in one line' };
+}
+
+/**
+ * @param {At} at
+ * @returns {Reason | null}
+ */
+function ofBackslash({ it }) {
+  if (it.startsWith('--') || !/(?:^|[^\\])(?:\\\\)*\\[\n\r\f]/.test(it.replace(HOLDERS, ''))) return null;
+  return { head: "lines can't hold a `\\` before the end of a line", help: 'take it out: it escapes nothing there' };
 }
 
 /**

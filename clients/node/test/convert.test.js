@@ -140,6 +140,7 @@ const REFUSED = [
   ['a { --b: c\n d; }', "lines can't hold a custom property over several lines", 'a { --b: c d; }'],
   ['@foo [a;b];', "lines can't hold a `;`", '@foo [a#{";"}b];'],
   ['@foo "a\\\nb";', "lines can't hold a string over several lines", '@foo "ab";'],
+  ['@foo a \\\n b;', "lines can't hold a `\\` before the end of a line", '@foo a b;'],
   ['/**/', "lines can't hold a comment without words", ''],
   ['/* #{1} */', "lines can't hold a comment with `#{}`", '/* 1 */'],
   ['@if true { a { b: c; } } @else { }', "lines can't hold one of the branches of this `@if`", '@if true { a { b: c; } }'],
