@@ -1,7 +1,9 @@
 -- What the grammar sees, one behind the other in a sheet that was read: what stands directly behind one, and what the
 -- terminal of each tells of it.
-use Rattle.std.proofs.Common.{◌≡◌, ◌⊎◌, ◌<◌, ℕ, suc, ◌+◌, Bool, true, false, not, ◌||◌, if◌then◌else◌, nat_lt, List, [], ◌∷◌, ◌++◌, length, Option, Some, None, inl, inr, refl, sym, ◌∙◌, ap, subst, arith, append_assoc, length-append}
-use Rattle.std.specs.Prelude.{slice_get, unwrap_or}
+use Rattle.std.proofs.Common.{◌≡◌, ◌⊎◌, ◌≤◌, ◌<◌, ℕ, suc, ◌+◌, Bool, true, false, not, ◌||◌, if◌then◌else◌, nat_lt, List, [], ◌∷◌, ◌++◌, length, Option, Some, None, inl, inr, refl, sym, ◌∙◌, ap, subst, arith, append_assoc, length-append}
+use Rattle.std.specs.Prelude.{slice_get, slice_range, unwrap_or}
+use Rattle.std.specs.List.{list_all}
+use Rattle.sw_text_scan.specs.Bytes.{is_white as is_white_byte}
 use Rattle.std.proofs.lemmas.Bool.Decides.{nat_tests}
 use Rattle.std.proofs.lemmas.Option.{slice_get-get_or}
 use Rattle.std.proofs.Math.Seq.{get_or-append_seam}
@@ -28,6 +30,7 @@ use Rattle.sw_convert_tokens.specs.Values.{WasRead}
 use Rattle.sw_convert_tokens.proofs.Olds.{Every, every_at}
 use Rattle.sw_convert_texts.proofs.TerminalChoices.{comes}
 use Rattle.sw_convert_texts.proofs.Terminals.{told}
+use Rattle.sw_convert_texts.proofs.TokenGaps.{PlainGap, all_gaps}
 use Rattle.sw_convert_texts.proofs.TokenPairs.{Next, Pairs, pairs_at, ends_comment, PlainBehind, all_behind}
 
 -- ---- states
@@ -109,7 +112,7 @@ module _ (plains : List Plain) (pairs : Pairs PlainBehind plains) where
   -- the first that is seen from a place on stands there, or a comment does and white space before the first
   abbrev pub From : ℕ → Lexeme → Type 0
   From at lexeme =
-      ((spaced_at plains lexeme.token ≡ true) × (is_comment (sort_at plains at) ≡ true))
+      ((spaced_at plains lexeme.token ≡ true) × (is_comment (sort_at plains at) ≡ true) × (lexeme.commented ≡ true))
       ⊎ ((lexeme.token ≡ at) × Silent lexeme)
 
   abbrev First : ℕ → List Lexeme → Type 0
@@ -121,7 +124,7 @@ module _ (plains : List Plain) (pairs : Pairs PlainBehind plains) where
 
   abbrev Spaced : List Lexeme → Type 0
   Spaced [] = Unit {0}
-  Spaced (lexeme ∷ lexemes) = spaced_at plains lexeme.token ≡ true
+  Spaced (lexeme ∷ lexemes) = (spaced_at plains lexeme.token ≡ true) × (lexeme.commented ≡ true)
 
   there_is : (done : List Plain) (plain : Plain) (others : List Plain) → plains ≡ done ++ plain ∷ others
       → slice_get plains (length done) ≡ Some plain
@@ -157,9 +160,9 @@ module _ (plains : List Plain) (pairs : Pairs PlainBehind plains) where
       go (Some q) e =
           (pairs_at PlainBehind plains at plain q pairs got (ap (slice_get plains) (let n : suc at ≡ at + 1 = omega arith in n) ∙ e)).white c
 
-  -- within a comment, or behind white space
+  -- within a comment, or behind white space, and a comment stands before what follows
   abbrev Covered : State → ℕ → Type 0
-  Covered state at = (0 < state.ignored) ⊎ (spaced_at plains at ≡ true)
+  Covered state at = ((0 < state.ignored) ⊎ (spaced_at plains at ≡ true)) × (state.commented ≡ true)
 
   ignored_more : (sort : Sort) (n : ℕ) → (0 < n) ⊎ (is_comment sort ≡ true)
       → (0 < ignored_after n sort) ⊎ (ends_comment sort ≡ true)
@@ -173,8 +176,10 @@ module _ (plains : List Plain) (pairs : Pairs PlainBehind plains) where
       → new.ignored ≡ state.ignored → (0 < state.ignored) ⊎ (is_comment (sort_at plains at) ≡ true)
       → Covered (past_white new plain.sort) (at + 1)
   unfolding past_white sort_at
-  covered_on state new at plain got same why =
-      go (ignored_more plain.sort new.ignored (turned why))
+  covered_on state new at plain got same why = (
+    go (ignored_more plain.sort new.ignored (turned why)),
+    refl,
+  )
     where
       turned : (0 < state.ignored) ⊎ (is_comment (sort_in (slice_get plains at)) ≡ true)
           → (0 < new.ignored) ⊎ (is_comment plain.sort ≡ true)
@@ -198,16 +203,20 @@ module _ (plains : List Plain) (pairs : Pairs PlainBehind plains) where
           → Spaced (optional reading.lexeme ++ lexemes_from plains reading.state (at + 1) others)
       go _ (skips new same why) again =
           again (past_white new plain.sort) (covered_on state new at plain (got_at done plain others at r) same why)
-      go _ (keeps new same none) again = spaced c
+      go _ (keeps new same none) again = (spaced c.0, or_first new.commented plain.silent (same ∙ c.1))
         where
-          spaced : Covered state at → spaced_at plains at ≡ true
+          or_first : (a b : Bool) → a ≡ true → (a || b) ≡ true
+          or_first true b e = refl
+          or_first false b e = absurd (cc)
+
+          spaced : (0 < state.ignored) ⊎ (spaced_at plains at ≡ true) → spaced_at plains at ≡ true
           spaced (inl l) = absurd (omega (arith, l, none))
           spaced (inr s) = s
 
   spaced_first : (at : ℕ) (lexemes : List Lexeme) → is_comment (sort_at plains at) ≡ true → Spaced lexemes
       → First at lexemes
   spaced_first at [] c s = tt
-  spaced_first at (lexeme ∷ lexemes) c s = inl (s, c)
+  spaced_first at (lexeme ∷ lexemes) c (s, d) = inl (s, c, d)
 
   some_same : (a b : Plain) → Some a ≡ Some b → a ≡ b
   some_same a b e = ap (λ (o : Option Plain). unwrap_or o a) e
@@ -358,7 +367,7 @@ module _ (source : Source) (was : WasRead source) where
       go (pairs_at (LexemeBehind (plains_in source) plain_pairs) source.lexemes.now k lexeme next lexeme_pairs there next_there)
     where
       go : From (plains_in source) plain_pairs (lexeme.token + 1) next → Touches lexeme next
-      go (inl (s, c)) = absurd (let no : true ≡ false = sym s ∙ direct in cc)
+      go (inl (s, c, d)) = absurd (let no : true ≡ false = sym s ∙ direct in cc)
       go (inr (at, silent)) =
           touch lexeme next (comes_at k lexeme there) (comes_at (suc k) next next_there) at direct silent
 
@@ -370,7 +379,37 @@ module _ (source : Source) (was : WasRead source) where
       go (pairs_at (LexemeBehind (plains_in source) plain_pairs) source.lexemes.now k lexeme next lexeme_pairs there next_there)
     where
       go : From (plains_in source) plain_pairs (lexeme.token + 1) next → Touches lexeme next
-      go (inl (s, c)) = absurd (let no : true ≡ false = sym c ∙ seen in cc)
+      go (inl (s, c, d)) = absurd (let no : true ≡ false = sym c ∙ seen in cc)
       go (inr (at, silent)) =
           touch lexeme next (comes_at k lexeme there) (comes_at (suc k) next next_there) at
           (ap (spaced_at (plains_in source)) at ∙ direct) silent
+
+  -- white space alone stands between two of which the second has no comment before it
+  pub record Apart (lexeme next : Lexeme) : Type 0 where
+    pub order : lexeme.to ≤ next.from
+    pub white : list_all is_white_byte (slice_range (bytes source) lexeme.to next.from) ≡ true
+
+  gaps : Pairs (PlainGap (bytes source)) (plains_in source)
+  gaps = all_gaps (bytes source) source.tokens.now.list was.tokens
+
+  pub apart_there : (k : ℕ) (lexeme next : Lexeme) → lexeme_at source k ≡ Some lexeme → lexeme_at source (suc k) ≡ Some next
+      → next.commented ≡ false → Apart lexeme next
+  apart_there k lexeme next there next_there plain =
+      go (pairs_at (LexemeBehind (plains_in source) plain_pairs) source.lexemes.now k lexeme next lexeme_pairs there next_there)
+    where
+      go : From (plains_in source) plain_pairs (lexeme.token + 1) next → Apart lexeme next
+      go (inl (s, c, d)) = absurd (let no : true ≡ false = sym d ∙ plain in cc)
+      go (inr (at, silent)) =
+          let it = comes_at k lexeme there in
+          let more = comes_at (suc k) next next_there in
+          let gap : PlainGap (bytes source) it.plain more.plain =
+          pairs_at (PlainGap (bytes source)) (plains_in source) lexeme.token it.plain more.plain gaps it.got
+          (ap (slice_get (plains_in source)) (let n : suc lexeme.token ≡ lexeme.token + 1 = omega arith in n ∙ sym at) ∙ more.got) in
+          let from = more.from in
+          let to = it.to in
+          let order = gap.order in record {
+            order = omega (arith, from, to, order);
+            white = ap (λ (m : ℕ). list_all is_white_byte (slice_range (bytes source) m next.from)) to
+                ∙ ap (λ (m : ℕ). list_all is_white_byte (slice_range (bytes source) it.plain.to m)) from
+                ∙ gap.white (sym (silent more.plain more.got) ∙ plain);
+          }

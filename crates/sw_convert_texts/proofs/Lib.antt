@@ -1,6 +1,7 @@
 mod TerminalChoices
 mod Terminals
 mod TokenPairs
+mod TokenGaps
 mod LexemePairs
 mod TextPieces
 mod TemplatePieces
@@ -45,6 +46,7 @@ pub mod OldNames
 mod AroundTexts
 mod SeamedTexts
 mod CommentedTexts
+mod RawGaps
 mod RawOlds
 mod Levels
 pub mod UrlNames

@@ -32,7 +32,8 @@ use Rattle.sw_convert_texts.specs.Inserted.{RawItemHasValues, RawTextHasValues}
 use Rattle.sw_convert_texts.specs.RawKinds.{leaves, gap_before, row_text, is_some, is_bracketed, is_beside, is_closed, is_next, string_behind, item_known, row_known}
 use Rattle.sw_convert_texts.proofs.AroundTexts.{CutFrom}
 use Rattle.sw_convert_texts.proofs.Inserts.{inner_of}
-use Rattle.sw_convert_texts.proofs.RawOlds.{item_cut, row_cut, beside_told, brackets_told}
+use Rattle.sw_convert_texts.proofs.RawGaps.{Last, last_old, item_there, item_last, row_last, white_so}
+use Rattle.sw_convert_texts.proofs.RawOlds.{item_cut, row_cut, brackets_told}
 use Rattle.sw_convert_texts.proofs.RawSits.{shifted_append, shifted_twice, ends_apart, ends_append, sit_right, sit_end}
 use Rattle.sw_convert_texts.proofs.RawRows.{Placed, IsRaw, ItemIs, RowIs, is_quoted, insert_is}
 use Rattle.sw_convert_texts.proofs.RawSingles.{token_is}
@@ -161,17 +162,17 @@ module _ (source : Source) (was : WasRead source) (mode : Mode) where
     item_is (raw_brackets {i = i} {c = c} kind opens row close) None behind_text before gap said known white none has =
         let are = brackets_told source mode i c kind (and_left (is_bracketed mode kind && _) _ known) in
         let inner = and_right (is_bracketed mode kind && _) _ known in
-        let beside = beside_told source c (and_left (is_beside source c) _ inner) in
-        brackets_is source mode kind are row behind_text before gap said beside.white
-        (row_is row None befores.Other (gap_before source c ++ (bytes_at source c ++ behind_text)) (and_right (is_beside source c) _ inner) has)
+        let white_close = white_so source was c (row_last row (last_old opens)) (record { lexeme = close.lexeme; there = close.there }) in
+        brackets_is source mode kind are row behind_text before gap said white_close
+        (row_is row (last_old opens) None befores.Other (gap_before source c ++ (bytes_at source c ++ behind_text)) (and_right (is_beside source c) _ inner) has)
         opens close white
 
     pub row_is : {i j : ℕ} {parts : List Part} {tokens : List Tok} {extents : List Extent}
-        (row : SpellsRawText source i j parts tokens extents) (quotes : Option ℕ) (start : Before) (behind_text : List ℕ)
+        (row : SpellsRawText source i j parts tokens extents) → Last source i → (quotes : Option ℕ) (start : Before) (behind_text : List ℕ)
         → row_known source mode row quotes start behind_text ≡ true → RawTextHasValues row
         → RowIs source mode row quotes start behind_text
-    row_is raw_end (Some q) start behind_text known has = absurd (let wrong : false ≡ true = known in cc)
-    row_is raw_end None start behind_text known has = record {
+    row_is raw_end last (Some q) start behind_text known has = absurd (let wrong : false ≡ true = known in cc)
+    row_is raw_end last None start behind_text known has = record {
       joints = [];
       spelling = λ rest. refl;
       seen = refl;
@@ -186,14 +187,13 @@ module _ (source : Source) (was : WasRead source) (mode : Mode) where
       near = λ e. absurd (let wrong : true ≡ false = e in cc);
       stand = λ after ends. refl;
     }
-    row_is (raw_more {i = i} item row) quotes start behind_text known (has, more) =
+    row_is (raw_more {i = i} item row) last quotes start behind_text known (has, more) =
         let next = and_left (is_next source quotes i) _ known in
         let rest = and_right (is_next source quotes i) _ known in
-        let beside = beside_told source i (and_left (is_beside source i) _ next) in
         let none = no_gap quotes (gap_before source i) (and_right (is_beside source i) _ next) in
         more_is item row quotes start behind_text none
         (item_is item quotes (row_text source row behind_text) start (gap_before source i) Nothing
         (and_left (item_known source mode item quotes (behind_gap start (gap_before source i)) (row_text source row behind_text)) _ rest)
-        beside.white none has)
-        (row_is row (string_behind item quotes) (leaves item) behind_text
+        (white_so source was i last (item_there item)) none has)
+        (row_is row (item_last item) (string_behind item quotes) (leaves item) behind_text
         (and_right (item_known source mode item quotes (behind_gap start (gap_before source i)) (row_text source row behind_text)) _ rest) more)

@@ -1,8 +1,7 @@
 -- Raw text that was read, item by item: the texts around its values, and what is written of it.
 use Rattle.std.proofs.Common.{◌≡◌, ◌⊎◌, inl, inr, ◌||◌, ◌≤◌, ◌<◌, ℕ, suc, ◌-◌, Bool, true, false, not, ◌&&◌, if◌then◌else◌, Option, Some, None, List, [], ◌∷◌, ◌++◌, length, refl, sym, ◌∙◌, ap, subst, arith, append_assoc}
-use Rattle.std.specs.Prelude.{nat_le, nat_lt, bytes_eq, slice_range}
+use Rattle.std.specs.Prelude.{bytes_eq, slice_range}
 use Rattle.std.specs.List.{list_all}
-use Rattle.std.proofs.lemmas.Bool.Decides.{nat_tests}
 use Rattle.std.proofs.lemmas.Slice.Eq.{bytes_eq-Decides}
 use Rattle.sw_text_scan.specs.Bytes.{byte, is_white, is_quote}
 use Rattle.sw_text_scan.proofs.Bounds.{if_true, if_false, and_left, and_right}
@@ -23,6 +22,8 @@ use Rattle.sw_convert_again.specs.Tokens.{Old, Tok, Extent, extent}
 use Rattle.sw_convert_again.specs.Spells.{extents_of}
 use Rattle.sw_convert_again.specs.RawTexts.{Brackets, parens, squares, braces, SpellsRawItem, SpellsRawText, raw_token, raw_insert, raw_brackets, raw_end, raw_more}
 use Rattle.sw_convert_texts.specs.RawKinds.{closing_text, gap_before, is_beside, is_bracketed, is_some, item_known, item_text, leaves, opening_text, row_known, row_text, sort_there, token_stays, stands_behind, is_opening, is_next, opens_string, token_known, string_behind}
+use Rattle.sw_convert_tokens.specs.Values.{WasRead}
+use Rattle.sw_convert_texts.proofs.RawGaps.{Last, There, last_old, item_there, item_last, row_last, apart_so, white_so}
 use Rattle.sw_convert_texts.proofs.JoinedTexts.{slice_some}
 use Rattle.sw_convert_texts.proofs.AroundTexts.{lones, cut_before, around_texts, CutFrom, Step, Beside, cut_token, cut_insert, first_token, first_insert}
 use Rattle.sw_convert_texts.proofs.CommentedTexts.{first_of, begins_insert, Parted, cut_parted, seamed_parted}
@@ -68,41 +69,30 @@ pub record IsBeside (source : Source) (i : ℕ) : Type 0 where
   pub stands : Beside source (i - 1) (gap_before source i) ⊎ Parted source (i - 1) (gap_before source i)
   pub white : list_all is_white (gap_before source i) ≡ true
 
-pub beside_told : (source : Source) (i : ℕ) → is_beside source i ≡ true → IsBeside source i
-beside_told source i e =
-    let rest = and_right (nat_lt 0 i) _ e in
-    let some = and_left (not (is_commented source i) || is_some (gap_before source i)) _ rest in
-    let more = and_right (not (is_commented source i) || is_some (gap_before source i)) _ rest in
-    let place : suc (i - 1) ≡ i = behind i (and_left (nat_lt 0 i) _ e) in record {
-      place = place;
-      stands = go place some (le (to_at source (i - 1)) (from_at source i) (and_left (nat_le (to_at source (i - 1)) (from_at source i)) _ more))
-          (is_commented source i) refl;
-      white = and_right (nat_le (to_at source (i - 1)) (from_at source i)) _ more;
-    }
+pub beside_told : (source : Source) → WasRead source → (i : ℕ) → Last source i → There source i → is_beside source i ≡ true
+    → IsBeside source i
+beside_told source was i last next e = record {
+  place = last.place;
+  stands = go (is_commented source i) refl;
+  white = white_so source was i last next;
+}
   where
-    behind : (n : ℕ) → nat_lt 0 n ≡ true → suc (n - 1) ≡ n
-    behind n l = let some : 0 < n = grind (arith, nat_tests) in omega (arith, some)
-
-    le : (a b : ℕ) → nat_le a b ≡ true → a ≤ b
-    le a b l = grind (arith, nat_tests)
-
     second : (a b : Bool) → a ≡ true → (not a || b) ≡ true → b ≡ true
     second true b f g = g
     second false b f g = absurd (let wrong : false ≡ true = f in cc)
 
-    go : suc (i - 1) ≡ i → (not (is_commented source i) || is_some (gap_before source i)) ≡ true
-        → to_at source (i - 1) ≤ from_at source i → (t : Bool) → is_commented source i ≡ t
+    go : (t : Bool) → is_commented source i ≡ t
         → Beside source (i - 1) (gap_before source i) ⊎ Parted source (i - 1) (gap_before source i)
-    go place some low false c = inl (record {
-      calm = ap (is_commented source) place ∙ c;
-      gap_is = ap (λ (m : ℕ). slice_range (bytes source) (to_at source (i - 1)) (from_at source m)) place
+    go false c = inl (record {
+      calm = ap (is_commented source) last.place ∙ c;
+      gap_is = ap (λ (m : ℕ). slice_range (bytes source) (to_at source (i - 1)) (from_at source m)) last.place
           ∙ sym (if_false (is_commented source i) (gap_at source i) _ c);
-      low = subst (λ (m : ℕ). to_at source (i - 1) ≤ from_at source m) (sym place) low;
+      low = subst (λ (m : ℕ). to_at source (i - 1) ≤ from_at source m) (sym last.place) (apart_so source was i last next c).order;
     })
-    go place some low true c = inr (record {
-      commented = ap (is_commented source) place ∙ c;
-      gap_is = ap (gap_at source) place ∙ sym (if_true (is_commented source i) (gap_at source i) _ c);
-      some = second (is_commented source i) (is_some (gap_before source i)) c some;
+    go true c = inr (record {
+      commented = ap (is_commented source) last.place ∙ c;
+      gap_is = ap (gap_at source) last.place ∙ sym (if_true (is_commented source i) (gap_at source i) _ c);
+      some = second (is_commented source i) (is_some (gap_before source i)) c e;
     })
 
 -- it ends behind its begin
@@ -253,47 +243,52 @@ module _ (source : Source) (mode : Mode) where
 
     mutual
       pub old_item : {i k : ℕ} {parts : List Part} {tokens : List Tok} {extents : List Extent}
-          (item : SpellsRawItem source i k parts tokens extents) (quotes : Option ℕ) (before : Before) (behind : List ℕ) → is_beside source i ≡ true
+          (item : SpellsRawItem source i k parts tokens extents) → WasRead source → Last source i → (quotes : Option ℕ) (before : Before)
+          (behind : List ℕ) → is_beside source i ≡ true
           → item_known source mode item quotes before behind ≡ true → (more : List Part) (cuts : Texts) → From (k - 1) more cuts behind
           → From (i - 1) (parts ++ more) (begun (gap_before source i) (item_cut source item cuts))
           (gap_before source i ++ item_text source item behind)
-      old_item (raw_token {i = i} old) quotes before behind b e more cuts rest =
-          token_from i (suc i - 1) more cuts behind (beside_told source i b) (some_token old quotes before behind e)
+      old_item (raw_token {i = i} old) was last quotes before behind b e more cuts rest =
+          token_from i (suc i - 1) more cuts behind (beside_told source was i last (item_there (raw_token old)) b) (some_token old quotes before behind e)
           (let z : suc i - 1 ≡ i = omega arith in z) rest
-      old_item (raw_insert {i = i} {c = c} {value = value} opens inner close) quotes before behind b e more cuts rest =
-          value_from i c value more cuts behind (beside_told source i b)
+      old_item (raw_insert {i = i} {c = c} {value = value} opens inner close) was last quotes before behind b e more cuts rest =
+          value_from i c value more cuts behind
+          (beside_told source was i last (record { lexeme = opens.lexeme; there = opens.there }) b)
           (subst (λ (m : ℕ). From m more cuts behind) (let z : suc c - 1 ≡ c = omega arith in z) rest)
-      old_item (raw_brackets kind opens text close) (Some q) before behind b e more cuts rest =
+      old_item (raw_brackets kind opens text close) was last (Some q) before behind b e more cuts rest =
           absurd (let wrong : false ≡ true = e in cc)
-      old_item (raw_brackets {i = i} {c = c} {parts = parts} kind opens text close) None before behind b e more cuts rest =
+      old_item (raw_brackets {i = i} {c = c} {parts = parts} kind opens text close) was last None before behind b e more cuts rest =
           let it = brackets_told i c kind (and_left (is_bracketed mode kind && _) _ e) in
           let inner = and_right (is_bracketed mode kind && _) _ e in
           let known = and_right (is_beside source c) _ inner in
-          let last = token_from c (suc c - 1) more cuts behind (beside_told source c (and_left (is_beside source c) _ inner))
+          let there : There source c = record { lexeme = close.lexeme; there = close.there } in
+          let closed = token_from c (suc c - 1) more cuts behind
+          (beside_told source was c (row_last text (last_old opens)) there (and_left (is_beside source c) _ inner))
           it.closing_some (let z : suc c - 1 ≡ c = omega arith in z) rest in
           token_from i (suc i - 1) (parts ++ more)
           (row_cut source text (begun (gap_before source c) (begun (bytes_at source c) cuts)))
           (row_text source text (gap_before source c ++ (bytes_at source c ++ behind)))
-          (beside_told source i b) it.opening_some (let z : suc i - 1 ≡ i = omega arith in z)
-          (old_row text None befores.Other (gap_before source c ++ (bytes_at source c ++ behind)) known more
-          (begun (gap_before source c) (begun (bytes_at source c) cuts)) last)
+          (beside_told source was i last (record { lexeme = opens.lexeme; there = opens.there }) b) it.opening_some (let z : suc i - 1 ≡ i = omega arith in z)
+          (old_row text was (last_old opens) None befores.Other (gap_before source c ++ (bytes_at source c ++ behind)) known more
+          (begun (gap_before source c) (begun (bytes_at source c) cuts)) closed)
 
       pub old_row : {i j : ℕ} {parts : List Part} {tokens : List Tok} {extents : List Extent}
-          (row : SpellsRawText source i j parts tokens extents) (quotes : Option ℕ) (start : Before) (behind : List ℕ)
+          (row : SpellsRawText source i j parts tokens extents) → WasRead source → Last source i → (quotes : Option ℕ) (start : Before)
+          (behind : List ℕ)
           → row_known source mode row quotes start behind ≡ true
           → (more : List Part) (cuts : Texts) → From (j - 1) more cuts behind
           → From (i - 1) (parts ++ more) (row_cut source row cuts) (row_text source row behind)
-      old_row raw_end quotes start behind e more cuts rest = rest
-      old_row (raw_more {i = i} {parts = parts} {more = others} item text) quotes start behind e more cuts rest =
+      old_row raw_end was last quotes start behind e more cuts rest = rest
+      old_row (raw_more {i = i} {parts = parts} {more = others} item text) was last quotes start behind e more cuts rest =
           let known = and_right (is_next source quotes i) _ e in
           subst (λ (list : List Part). From (i - 1) list (begun (gap_before source i) (item_cut source item (row_cut source text cuts)))
           (gap_before source i ++ item_text source item (row_text source text behind)))
           (sym (append_assoc parts others more))
-          (old_item item quotes (behind_gap start (gap_before source i)) (row_text source text behind)
+          (old_item item was last quotes (behind_gap start (gap_before source i)) (row_text source text behind)
           (and_left (is_beside source i) _ (and_left (is_next source quotes i) _ e))
           (and_left (item_known source mode item quotes (behind_gap start (gap_before source i)) (row_text source text behind)) _ known)
           (others ++ more) (row_cut source text cuts)
-          (old_row text (string_behind item quotes) (leaves item) behind
+          (old_row text was (item_last item) (string_behind item quotes) (leaves item) behind
           (and_right (item_known source mode item quotes (behind_gap start (gap_before source i)) (row_text source text behind)) _ known)
           more cuts rest))
 
@@ -314,30 +309,32 @@ module _ (source : Source) (mode : Mode) where
         }
 
     pub old_whole : {i k : ℕ} {parts : List Part} {tokens : List Tok} {extents : List Extent}
-        (item : SpellsRawItem source i k parts tokens extents) (quotes : Option ℕ) (before : Before) (behind : List ℕ)
+        (item : SpellsRawItem source i k parts tokens extents) → WasRead source → (quotes : Option ℕ) (before : Before) (behind : List ℕ)
         → item_known source mode item quotes before behind ≡ true
         → (more : List Part) (cuts : Texts) → From (k - 1) more cuts behind
         → Whole i (parts ++ more) (item_cut source item cuts) (item_text source item behind)
-    old_whole (raw_token {i = i} old) quotes before behind e more cuts rest =
+    old_whole (raw_token {i = i} old) was quotes before behind e more cuts rest =
         token_whole i (suc i - 1) more cuts behind (some_token old quotes before behind e)
         (let z : suc i - 1 ≡ i = omega arith in z) rest
-    old_whole (raw_insert {i = i} {c = c} {value = value} opens inner close) quotes before behind e more cuts rest =
+    old_whole (raw_insert {i = i} {c = c} {value = value} opens inner close) was quotes before behind e more cuts rest =
         let here : From c more cuts behind =
         subst (λ (m : ℕ). From m more cuts behind) (let z : suc c - 1 ≡ c = omega arith in z) rest in record {
           cut = first_insert source to end i c (extents_of more) cuts here.cut;
           seamed = value_first source to end i c value more behind here.seamed;
         }
-    old_whole (raw_brackets kind opens text close) (Some q) before behind e more cuts rest =
+    old_whole (raw_brackets kind opens text close) was (Some q) before behind e more cuts rest =
         absurd (let wrong : false ≡ true = e in cc)
-    old_whole (raw_brackets {i = i} {c = c} {parts = parts} kind opens text close) None before behind e more cuts rest =
+    old_whole (raw_brackets {i = i} {c = c} {parts = parts} kind opens text close) was None before behind e more cuts rest =
         let it = brackets_told i c kind (and_left (is_bracketed mode kind && _) _ e) in
         let inner = and_right (is_bracketed mode kind && _) _ e in
         let known = and_right (is_beside source c) _ inner in
-        let last = token_from c (suc c - 1) more cuts behind (beside_told source c (and_left (is_beside source c) _ inner))
+        let there : There source c = record { lexeme = close.lexeme; there = close.there } in
+        let closed = token_from c (suc c - 1) more cuts behind
+        (beside_told source was c (row_last text (last_old opens)) there (and_left (is_beside source c) _ inner))
         it.closing_some (let z : suc c - 1 ≡ c = omega arith in z) rest in
         token_whole i (suc i - 1) (parts ++ more)
         (row_cut source text (begun (gap_before source c) (begun (bytes_at source c) cuts)))
         (row_text source text (gap_before source c ++ (bytes_at source c ++ behind)))
         it.opening_some (let z : suc i - 1 ≡ i = omega arith in z)
-        (old_row text None befores.Other (gap_before source c ++ (bytes_at source c ++ behind)) known more
-        (begun (gap_before source c) (begun (bytes_at source c) cuts)) last)
+        (old_row text was (last_old opens) None befores.Other (gap_before source c ++ (bytes_at source c ++ behind)) known more
+        (begun (gap_before source c) (begun (bytes_at source c) cuts)) closed)

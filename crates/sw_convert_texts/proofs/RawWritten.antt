@@ -36,6 +36,7 @@ use Rattle.sw_convert_texts.specs.RawTexts.{ends_statement, EndsText, IsText, Ra
 use Rattle.sw_convert_texts.proofs.JoinedTexts.{lone}
 use Rattle.sw_convert_texts.proofs.AroundTexts.{lones, around_texts, around_is, CutFrom, cut_end}
 use Rattle.sw_convert_texts.proofs.SeamedTexts.{seamed, seamed_last, seamed_end}
+use Rattle.sw_convert_texts.proofs.RawGaps.{item_last}
 use Rattle.sw_convert_texts.proofs.RawOlds.{item_cut, row_cut, From, Whole, old_row, old_whole}
 use Rattle.sw_convert_texts.proofs.RawSits.{shifted_append, shifted_twice, ends_apart, sit_right}
 use Rattle.sw_convert_texts.proofs.RawTokens.{is_end}
@@ -203,8 +204,8 @@ module _ (source : Source) (was : WasRead source) (mode : Mode) {i k j : ℕ} {p
       subst (λ (list : List Part). Whole source mode to (j - 1) i (parts ++ list) (item_cut source item (row_cut source row (lone [])))
       (item_text source item (row_text source row [])))
       (append-nil more)
-      (old_whole source mode to (j - 1) item None befores.Other (row_text source row []) first (more ++ []) (row_cut source row (lone []))
-      (old_row source mode to (j - 1) row (string_behind item None) (leaves item) [] then [] (lone []) last))
+      (old_whole source mode to (j - 1) item was None befores.Other (row_text source row []) first (more ++ []) (row_cut source row (lone []))
+      (old_row source mode to (j - 1) row was (item_last item) (string_behind item None) (leaves item) [] then [] (lone []) last))
 
   says : (before : Before) (spaced : Bool) (one : One before spaced) (rest : RowIs source mode row (string_behind item None) (leaves item) [])
       → around_texts source (stretch_between source i j) (extents_of (parts ++ more)) ≡ lones (item_cut source item (row_cut source row (lone [])))
@@ -244,7 +245,7 @@ module _ (source : Source) (was : WasRead source) (mode : Mode) {i k j : ℕ} {p
       item_is source was mode item None (row_text source row []) before (gap_of spaced) said
       (calm_item mode item (behind_gap before (gap_of spaced)) calm (row_text source row []) first) (white_gap_of spaced)
       (λ e. absurd (let wrong : true ≡ false = e in cc)) has in
-      let rest = row_is source was mode row (string_behind item None) (leaves item) [] then values in
+      let rest = row_is source was mode row (item_last item) (string_behind item None) (leaves item) [] then values in
       let xs = one.joints in
       let ys = rest.joints in record {
         one = one;

@@ -270,7 +270,7 @@ module _ (source : Source) (was : WasRead source) where
       → ((q : Plain) → slice_get (plains_in source) (lexeme.token + 1) ≡ Some q → is_comment q.sort ≡ false)
       → LexemeBehind (plains_in source) (plain_pairs source was) lexeme next → next.token ≡ lexeme.token + 1
   unfolding sort_at
-  next_there lexeme next none (inl (s, c)) = go (slice_get (plains_in source) (lexeme.token + 1)) refl c
+  next_there lexeme next none (inl (s, c, d)) = go (slice_get (plains_in source) (lexeme.token + 1)) refl c
     where
       go : (o : Option Plain) → slice_get (plains_in source) (lexeme.token + 1) ≡ o → is_comment (sort_in o) ≡ true
           → next.token ≡ lexeme.token + 1

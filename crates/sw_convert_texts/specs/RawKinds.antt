@@ -302,12 +302,9 @@ abbrev pub is_bracketed : Mode → {opening closing : Terminal} → Brackets ope
 is_bracketed mode braces = is_custom mode
 is_bracketed mode _ = true
 
--- white space, with comments or without, or nothing, stands between a token and the one before
+-- white space or nothing stands between a token and the one before, or a comment beside white space
 abbrev pub is_beside : Source → ℕ → Bool
-is_beside source i =
-    nat_lt 0 i
-    && ((not (is_commented source i) || is_some (gap_before source i))
-    && (nat_le (to_at source (i - 1)) (from_at source i) && list_all is_white (gap_before source i)))
+is_beside source i = not (is_commented source i) || is_some (gap_before source i)
 
 -- in a string nothing does
 abbrev pub is_next : Source → Option ℕ → ℕ → Bool
