@@ -1,5 +1,5 @@
 -- Strings with `#{}` are read again.
-use Rattle.std.proofs.Common.{◌≡◌, ℕ, zero, suc, List, [], ◌∷◌, ◌++◌, map, inl, inr, refl, sym, ◌∙◌, ap, subst}
+use Rattle.std.proofs.Common.{◌≡◌, ℕ, zero, suc, Bool, true, false, List, [], ◌∷◌, ◌++◌, map, inl, inr, refl, sym, ◌∙◌, ap, subst}
 use Rattle.sw_parse_grammar.specs.Grammar.{Row, done, then}
 use Rattle.sw_tree.specs.declared.text.Parts.TheVariants.{Mixed}
 use Rattle.sw_tree.specs.declared.text.Piece.{Piece}
@@ -16,7 +16,7 @@ use Rattle.sw_parse_table.specs.Expressions.{insert, text_item, template, expr}
 use Rattle.sw_convert_alike.specs.Expressions.{Like, LikePieces, like}
 use Rattle.sw_convert_alike.specs.Expressions as alike
 use Rattle.sw_convert_again.specs.Tokens.{Tok, tok, sign, Decoded, Stands, Old}
-use Rattle.sw_convert_again.specs.Spells.{Spells, SpellsPieces, no_pieces, text_piece, within}
+use Rattle.sw_convert_again.specs.Spells.{is_empty, Spells, SpellsPieces, no_pieces, text_piece, empty_piece, within}
 use Rattle.sw_convert_again.specs.Spells as spells
 use Rattle.sw_convert_again.specs.Again.{Reads, Again}
 use Rattle.sw_convert_again.proofs.Tokens.{old_of, is_of, split, stands_both}
@@ -87,6 +87,44 @@ module _ (source written : Source) where
     like_text a b xs ys e l =
         subst (λ (x : List ℕ). LikePieces (pieces.Text a ∷ xs) (pieces.Text x ∷ ys)) e (alike.text l)
 
+    empty_like : (a : List ℕ) {xs ys : List Piece} → is_empty a ≡ true → LikePieces xs ys
+        → LikePieces (pieces.Text a ∷ xs) ys
+    empty_like [] e l = alike.empty_left l
+    empty_like (b ∷ a) e l = absurd (cc)
+
+    -- a text before others, which is empty or not
+    text_again : (i j : ℕ) (w : List Part) (texts : List Piece) (tokens : List Tok)
+        → Old source i (just terminals.TextPiece) → w ≡ map Pieces (pieces.Text (decoded_at source i) ∷ texts)
+        → SpellsPieces source (suc i) j texts tokens
+        → ((p q : ℕ) → Stands written p tokens q
+        → (found : List Piece) × Row (Reads written n (text_item written)) p q (map Pieces found) × LikePieces texts found)
+        → (t : Bool) → is_empty (decoded_at source i) ≡ t → PiecesAgain i j w
+    unfolding text_item
+    text_again i j w texts tokens old is spells back true e =
+        let text = decoded_at source i in record {
+          texts = pieces.Text text ∷ texts;
+          is = is;
+          tokens = tokens;
+          spells = empty_piece old e spells;
+          back = λ p q stand.
+              let (found, reads, liked) = back p q stand in (found, reads, empty_like text e liked);
+        }
+    text_again i j w texts tokens old is spells back false e =
+        let text = decoded_at source i in
+        let token = tok terminals.TextPiece (Decoded text) in record {
+          texts = pieces.Text text ∷ texts;
+          is = is;
+          tokens = token ∷ tokens;
+          spells = text_piece old e spells;
+          back = λ p q stand.
+              let (found, reads, liked) = back (suc p) q stand.1 in (
+                pieces.Text (decoded_at written p) ∷ found,
+                then (inl ([], (is_of written p token (just terminals.TextPiece) stand.0 refl, refl, refl), refl))
+                    reads,
+                like_text text (decoded_at written p) texts found (sym stand.0.said) liked,
+              );
+        }
+
     pieces_again : {i j : ℕ} {w : List Part} → Row (Reads source n (text_item source)) i j w → PiecesAgain i j w
     unfolding text_item
     pieces_again (done {i}) = record {
@@ -99,20 +137,9 @@ module _ (source written : Source) where
     pieces_again (then {i} {k} {j} {u} {v} (inl (a, (m, e1, e2), e3)) row) =
         let rest = pieces_again row in
         let text = decoded_at source i in
-        let old = old_of source i (just terminals.TextPiece) refl m in
-        let token = tok terminals.TextPiece (Decoded text) in record {
-          texts = pieces.Text text ∷ rest.texts;
-          is = ap (λ (x : List Part). x ++ v) e3 ∙ ap (λ (x : List Part). Pieces (pieces.Text text) ∷ x) rest.is;
-          tokens = token ∷ rest.tokens;
-          spells = text_piece old (subst (λ (x : ℕ). SpellsPieces source x j rest.texts rest.tokens) e1 rest.spells);
-          back = λ p q stand.
-              let (found, reads, liked) = rest.back (suc p) q stand.1 in (
-                pieces.Text (decoded_at written p) ∷ found,
-                then (inl ([], (is_of written p token (just terminals.TextPiece) stand.0 refl, refl, refl), refl))
-                    reads,
-                like_text text (decoded_at written p) rest.texts found (sym stand.0.said) liked,
-              );
-        }
+        text_again i j (u ++ v) rest.texts rest.tokens (old_of source i (just terminals.TextPiece) refl m)
+        (ap (λ (x : List Part). x ++ v) e3 ∙ ap (λ (x : List Part). Pieces (pieces.Text text) ∷ x) rest.is)
+        (subst (λ (x : ℕ). SpellsPieces source x j rest.texts rest.tokens) e1 rest.spells) rest.back (is_empty text) refl
     pieces_again (then {i} {k} {j} {u} {v} (inr (a, d, e1)) row) =
         let one = insert_again n deep i k a d in
         let rest = pieces_again row in record {

@@ -96,6 +96,10 @@ text_said source at place parts [] count = Plain count (parts_between source at 
 text_said source at place parts (one ∷ extents) count =
     Parted count (one ∷ extents) (around source (stretch_between source at place) (extents_of parts))
 
+abbrev pub is_empty : List ℕ → Bool
+is_empty [] = true
+is_empty (b ∷ text) = false
+
 -- a number that was read, with a sign or without one
 pub data OldNumber (source : Source) : ℕ → ℕ → Type 0 where
   unsigned : {i : ℕ} → Old source i (just terminals.Number) → OldNumber source i (suc i)
@@ -271,9 +275,13 @@ mutual
   pub data SpellsPieces (source : Source) : ℕ → ℕ → List Piece → List Tok → Type 0 where
     no_pieces : {i : ℕ} → SpellsPieces source i i [] []
     text_piece : {i j : ℕ} {texts : List Piece} {tokens : List Tok} → Old source i (just terminals.TextPiece)
-        → SpellsPieces source (suc i) j texts tokens
+        → is_empty (decoded_at source i) ≡ false → SpellsPieces source (suc i) j texts tokens
         → SpellsPieces source i j (pieces.Text (decoded_at source i) ∷ texts)
         (tok terminals.TextPiece (Decoded (decoded_at source i)) ∷ tokens)
+    -- of an escaped line break alone nothing is written
+    empty_piece : {i j : ℕ} {texts : List Piece} {tokens : List Tok} → Old source i (just terminals.TextPiece)
+        → is_empty (decoded_at source i) ≡ true → SpellsPieces source (suc i) j texts tokens
+        → SpellsPieces source i j (pieces.Text (decoded_at source i) ∷ texts) tokens
     inserted_piece : {i k j : ℕ} {value : Expr} {texts : List Piece} {tokens others : List Tok}
         → Old source i (just terminals.Insert) → Spells source (suc i) k value tokens
         → Old source k (just terminals.InsertEnd) → SpellsPieces source (suc k) j texts others

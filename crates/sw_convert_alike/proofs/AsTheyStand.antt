@@ -1,12 +1,12 @@
 -- Texts that are alike as they stand are alike in one line, and comments by their lines.
-use Rattle.std.proofs.Common.{◌≡◌, List, ◌∷◌, sym, subst}
+use Rattle.std.proofs.Common.{◌≡◌, List, [], ◌∷◌, sym, subst}
 use Rattle.sw_tree.specs.declared.expr.ExprKind.TheOpen.{Piece-F}
 use Rattle.sw_tree.specs.declared.text.Parts.{Parts}
 use Rattle.sw_tree.specs.declared.text.Parts.TheVariants as texts
 use Rattle.sw_tree.specs.declared.text.Piece.{Piece, out-Piece}
 use Rattle.sw_tree.specs.declared.text.Piece.TheVariants as pieces
 use Rattle.sw_convert_alike.specs.Comments.{lined, lined_by}
-use Rattle.sw_convert_alike.specs.Expressions.{LikeParts, LikePieces, plain, mixed, no_pieces, text, inserted, value}
+use Rattle.sw_convert_alike.specs.Expressions.{LikeParts, LikePieces, plain, mixed, no_pieces, text, inserted, value, empty_left, empty_right}
 use Rattle.sw_convert_alike.specs.RawText.{Open, Nothing, OpenPiece, open_behind, behind_insert, piece_in_line, behind_piece, pieces_in_line, pieces_by, one_line}
 use Rattle.sw_convert_alike.proofs.Reflexive.{parts_self, pieces_self}
 
@@ -29,6 +29,12 @@ in_line_too within (text {text = bytes} {xs} {ys} ls) =
 in_line_too within (inserted {a} {b} {xs} {ys} l ls) =
     by_firsts within (pieces.Inserted a) (pieces.Inserted b) xs ys (Piece-F.Inserted a) (Piece-F.Inserted b) (pieces.outs-Inserted a) (pieces.outs-Inserted b)
     (inserted l (in_line_too (behind_insert within) ls))
+in_line_too within (empty_left {xs} {ys} ls) =
+    subst (λ o. LikePieces (opened within o xs) (pieces_in_line within ys)) (sym (pieces.outs-Text []))
+    (empty_left (in_line_too within ls))
+in_line_too within (empty_right {xs} {ys} ls) =
+    subst (λ o. LikePieces (pieces_in_line within xs) (opened within o ys)) (sym (pieces.outs-Text []))
+    (empty_right (in_line_too within ls))
 in_line_too within (value {a} {b} {xs} {ys} l ls) =
     by_firsts within (pieces.Value a) (pieces.Value b) xs ys (Piece-F.Value a) (Piece-F.Value b) (pieces.outs-Value a) (pieces.outs-Value b)
     (value l (in_line_too (behind_insert within) ls))

@@ -18,7 +18,7 @@ use Rattle.sw_tree.specs.declared.statement.Statement.{Statement}
 use Rattle.sw_tree.specs.declared.text.Parts.{Parts}
 use Rattle.sw_tree.specs.declared.text.Piece.{Piece}
 use Rattle.sw_tree.specs.declared.text.Text.{Text}
-use Rattle.sw_convert_alike.specs.Expressions.{Like, LikeKind, LikeParts, LikePieces, LikeArguments, LikeItems, LikeLinks, LikePairs, LikeText, like, number, quoted, word, hash, constant, url, special, variable as variable_value, qualified, call, parent, important, prefixed, chain, list, paren, map, plain, mixed, no_pieces, text, inserted, value, no_arguments, argument, no_items, item, no_links, link, no_pairs, pair}
+use Rattle.sw_convert_alike.specs.Expressions.{Like, LikeKind, LikeParts, LikePieces, LikeArguments, LikeItems, LikeLinks, LikePairs, LikeText, like, number, quoted, word, hash, constant, url, special, variable as variable_value, qualified, call, parent, important, prefixed, chain, list, paren, map, plain, mixed, no_pieces, text, inserted, value, empty_left, empty_right, no_arguments, argument, no_items, item, no_links, link, no_pairs, pair}
 use Rattle.sw_convert_alike.specs.Statements.{LikeOption, LikeEach, LikeRaw, LikeParam, LikeParams, LikeGiven, LikeUse, LikeForward, LikeMixin, LikeBounds, LikeStatement, LikeBlock, LikeOptionalBlock, LikeBranches, LikeContent, variable, assignment, declaration, properties, custom, rule, use_, forward, callable, include, content, return, say, if_, each, for_, while_, media, supports, at_root, charset, import, extend, at_rule, comment, no_statements, statement, no_block, block, no_branches, branch, no_content, passed}
 
 mutual
@@ -53,6 +53,8 @@ mutual
   pieces_back (text ls) = text (pieces_back ls)
   pieces_back (inserted l ls) = inserted (like_back l) (pieces_back ls)
   pieces_back (value l ls) = value (like_back l) (pieces_back ls)
+  pieces_back (empty_left ls) = empty_right (pieces_back ls)
+  pieces_back (empty_right ls) = empty_left (pieces_back ls)
 
   pub arguments_back : {xs ys : List Argument} → LikeArguments xs ys → LikeArguments ys xs
   arguments_back no_arguments = no_arguments

@@ -67,6 +67,9 @@ mutual
         → LikePieces (pieces.Inserted a ∷ xs) (pieces.Inserted b ∷ ys)
     value : {a b : Expr} {xs ys : List Piece} → Like a b → LikePieces xs ys
         → LikePieces (pieces.Value a ∷ xs) (pieces.Value b ∷ ys)
+    -- a text that is empty, as that of an escaped line break alone, counts as none
+    empty_left : {xs ys : List Piece} → LikePieces xs ys → LikePieces (pieces.Text [] ∷ xs) ys
+    empty_right : {xs ys : List Piece} → LikePieces xs ys → LikePieces xs (pieces.Text [] ∷ ys)
 
   pub data LikeArguments : List Argument → List Argument → Type 0 where
     no_arguments : LikeArguments [] []

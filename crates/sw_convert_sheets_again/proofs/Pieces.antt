@@ -30,6 +30,8 @@ like_both alike.no_pieces more = more
 like_both (alike.text l) more = alike.text (like_both l more)
 like_both (alike.inserted v l) more = alike.inserted v (like_both l more)
 like_both (alike.value v l) more = alike.value v (like_both l more)
+like_both (alike.empty_left l) more = alike.empty_left (like_both l more)
+like_both (alike.empty_right l) more = alike.empty_right (like_both l more)
 
 -- the same text before pieces
 pub like_text : (a b : List ℕ) (xs ys : List Piece) → a ≡ b → LikePieces xs ys

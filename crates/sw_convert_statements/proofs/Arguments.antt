@@ -17,7 +17,7 @@ use Rattle.sw_convert_passing.specs.Written.{Written, direct}
 use Rattle.sw_convert_passing.specs.Values.{Call, stays_behind, no_colon, Settles, settled_end, settled_same, settled_dollar, settled_named}
 use Rattle.sw_convert_again.specs.Tokens.{Tok, tok, Dashed}
 use Rattle.sw_convert_again.specs.Tokens as again
-use Rattle.sw_convert_again.specs.Spells.{undollared, call_tokens, SpellsArgument, SpellsMore, SpellsArguments}
+use Rattle.sw_convert_again.specs.Spells.{undollared, SpellsArgument, SpellsMore, SpellsArguments}
 use Rattle.sw_convert_again.specs.Spells as spells
 use Rattle.sw_convert_again.specs.Statements.{SpellsGiven, no_parens, empty_parens, some_given}
 use Rattle.sw_convert_tokens.specs.Joints.{Segment}
@@ -26,7 +26,8 @@ use Rattle.sw_convert_tokens.proofs.Joins.{join}
 use Rattle.sw_convert_tokens.proofs.Signs.{Anything, lone_segment}
 use Rattle.sw_convert_tokens.proofs.Arguments.{IsItems, AreArguments, value_argument, name_argument, first_argument, further_argument, colon_argument, dots_behind, no_arguments_written, arguments_written}
 use Rattle.sw_convert_tokens.proofs.Undollared.{placed_argument}
-use Rattle.sw_convert_values.specs.Values.{is_led}
+use Rattle.sw_convert_values.specs.Values.{is_led, goes_on}
+use Rattle.sw_convert_values.proofs.Stops.{before_old, before_more, before_end}
 use Rattle.sw_convert_values.proofs.Starts.{behind_old}
 use Rattle.sw_convert_statements.specs.Fronts.{ValuesAreKnown}
 use Rattle.sw_convert_statements.proofs.Params.{close_segment}
@@ -44,23 +45,24 @@ three left space value rest =
     append_assoc left (space ++ value) rest ∙ ap (λ (t : List ℕ). left ++ t) (append_assoc space value rest)
 
 module _ (source : Source) (was : WasRead source) (values : ValuesAreKnown source) where
-  argument_in : {i j : ℕ} {arg : Argument} {tokens : List Tok} → is_led source i ≡ false
+  argument_in : {i j : ℕ} {arg : Argument} {tokens : List Tok} → is_led source i ≡ false → goes_on source j ≡ false
       → SpellsArgument source i j arg tokens
       → AreArguments false (argument_text arg) tokens
-  argument_in led (spells.named_argument {i} {value = inner} dollar name colon value) =
+  argument_in led ended (spells.named_argument {i} {value = inner} dollar name colon value) =
       arguments_as (named_text (dollar_name (dashed (bytes_at source (suc i)))) (expr_text inner)) refl
       (colon_argument (first_argument (name_argument false source (suc i) was name))
-      (value_argument true (values.plains _ _ _ _ (behind_old colon refl) value).1))
-  argument_in led (spells.placed_argument {value = inner} value) =
+      (value_argument true (values.plains _ _ _ _ (behind_old colon refl) ended value).1))
+  argument_in led ended (spells.placed_argument {value = inner} value) =
       arguments_as (sym (append-nil (expr_text inner))) refl
-      (first_argument (placed_argument false (values.plains _ _ _ _ led value).1))
-  argument_in led (spells.spread_argument value dots) =
-      dots_behind (first_argument (placed_argument false (values.plains _ _ _ _ led value).1))
+      (first_argument (placed_argument false (values.plains _ _ _ _ led ended value).1))
+  argument_in led ended (spells.spread_argument value dots) =
+      dots_behind (first_argument (placed_argument false (values.plains _ _ _ _ led (before_old dots refl) value).1))
 
   argument_behind : {i j : ℕ} {arg : Argument} {ks tokens : List Tok} {left : List ℕ}
-      → is_led source i ≡ false → SpellsArgument source i j arg tokens → AreArguments false left ks
+      → is_led source i ≡ false → goes_on source j ≡ false → SpellsArgument source i j arg tokens
+      → AreArguments false left ks
       → AreArguments false (left ++ (codes ", " ++ argument_text arg)) (ks ++ again.sign terminals.Comma ∷ tokens)
-  argument_behind {ks = ks} {left = left} led
+  argument_behind {ks = ks} {left = left} led ended
       (spells.named_argument {i} {value = inner} {tokens = tokens} dollar name colon value) it =
       let said = dollar_name (dashed (bytes_at source (suc i))) in
       arguments_as
@@ -69,29 +71,31 @@ module _ (source : Source) (was : WasRead source) (values : ValuesAreKnown sourc
       (append_assoc ks (again.sign terminals.Comma ∷ again.sign terminals.DollarNamed
       ∷ tok terminals.VariableName (Dashed (dashed (bytes_at source (suc i)))) ∷ []) (again.sign terminals.Colon ∷ tokens))
       (colon_argument (further_argument it (name_argument true source (suc i) was name))
-      (value_argument true (values.plains _ _ _ _ (behind_old colon refl) value).1))
-  argument_behind {left = left} led (spells.placed_argument {value = inner} value) it =
+      (value_argument true (values.plains _ _ _ _ (behind_old colon refl) ended value).1))
+  argument_behind {left = left} led ended (spells.placed_argument {value = inner} value) it =
       arguments_as (ap (λ (t : List ℕ). left ++ (codes ", " ++ t)) (sym (append-nil (expr_text inner)))) refl
-      (further_argument it (placed_argument true (values.plains _ _ _ _ led value).1))
-  argument_behind {ks = ks} {left = left} led (spells.spread_argument {value = inner} {tokens = tokens} value dots) it =
+      (further_argument it (placed_argument true (values.plains _ _ _ _ led ended value).1))
+  argument_behind {ks = ks} {left = left} led ended (spells.spread_argument {value = inner} {tokens = tokens} value dots) it =
       arguments_as (three left (codes ", ") (expr_text inner) (codes "..."))
       (append_assoc ks (again.sign terminals.Comma ∷ undollared tokens) (again.sign terminals.Ellipsis ∷ []))
-      (dots_behind (further_argument it (placed_argument true (values.plains _ _ _ _ led value).1)))
+      (dots_behind (further_argument it (placed_argument true (values.plains _ _ _ _ led (before_old dots refl) value).1)))
 
   more_in : {k j : ℕ} {ks others : List Tok} {args : List Argument} {left : List ℕ}
-      → SpellsMore source k j args others → AreArguments false left ks
+      → goes_on source j ≡ false → SpellsMore source k j args others → AreArguments false left ks
       → AreArguments false (left ++ with_commas false (map argument_text args)) (ks ++ others)
-  more_in {ks = ks} {left = left} spells.no_more it = arguments_as (sym (append-nil left)) (sym (append-nil ks)) it
-  more_in {ks = ks} {left = left}
+  more_in {ks = ks} {left = left} ended spells.no_more it = arguments_as (sym (append-nil left)) (sym (append-nil ks)) it
+  more_in {ks = ks} {left = left} ended
       (spells.more {arg = arg} {args = args} {tokens = tokens} {others = others} comma one rest) it =
       arguments_as (three left (codes ", ") (argument_text arg) (with_commas false (map argument_text args)))
       (append_assoc ks (again.sign terminals.Comma ∷ tokens) others)
-      (more_in rest (argument_behind (behind_old comma refl) one it))
+      (more_in ended rest (argument_behind (behind_old comma refl) (before_more rest ended) one it))
 
-  arguments_in : {i j : ℕ} {args : List Argument} {tokens : List Tok} → is_led source i ≡ false
+  arguments_in : {i j : ℕ} {args : List Argument} {tokens : List Tok} → is_led source i ≡ false → goes_on source j ≡ false
       → SpellsArguments source i j args tokens → IsItems (with_commas true (map argument_text args)) tokens
-  arguments_in led spells.no_arguments = no_arguments_written
-  arguments_in led (spells.arguments one rest end) = arguments_written (more_in rest (argument_in led one))
+  arguments_in led ended spells.no_arguments = no_arguments_written
+  arguments_in led ended (spells.arguments one rest end) =
+      let stop = before_end end ended in
+      arguments_written (more_in stop rest (argument_in led (before_more rest stop) one))
 
 -- ---- behind a name
 
@@ -110,7 +114,7 @@ pub given_written : (source : Source) → WasRead source → ValuesAreKnown sour
 given_written source was values no_parens = nothing_given
 given_written source was values (empty_parens opens closes) = nothing_given
 given_written source was values (some_given opens inner closes) =
-    let it = arguments_in source was values (behind_old opens refl) inner in
+    let it = arguments_in source was values (behind_old opens refl) (before_old closes refl) inner in
     arguments_given it.told (join open_segment (join it.segment close_segment (λ after ok. (after, refl))) (λ after ok. tt))
 
 -- ---- the same tokens with others around them

@@ -38,7 +38,7 @@ use Rattle.sw_convert_passing.specs.Values.{Value, Row, separated, linked}
 use Rattle.sw_convert_again.specs.Tokens.{Tok, tok, Bytes}
 use Rattle.sw_convert_again.specs.Tokens as again
 use Rattle.sw_convert_again.specs.Spells.{unlisted}
-use Rattle.sw_convert_again.specs.Queries.{comparisons, SpellsValue, SpellsComparison, SpellsComparisons, SpellsFeatureInside}
+use Rattle.sw_convert_again.specs.Queries.{comparisons, SpellsComparison, SpellsComparisons, SpellsFeatureInside}
 use Rattle.sw_convert_again.specs.Queries as spells
 use Rattle.sw_convert_again.proofs.Tokens.{one_byte}
 use Rattle.sw_convert_tokens.specs.Joints.{Segment}
@@ -49,8 +49,10 @@ use Rattle.sw_convert_tokens.proofs.Spaces.{BeginsSpace}
 use Rattle.sw_convert_tokens.proofs.Variables.{Begins}
 use Rattle.sw_convert_tokens.proofs.Words.{bytes_sit}
 use Rattle.sw_convert_heads_passing.specs.Media.{Compared, one_side, equal_sides, Inside, feature_row, feature_compared}
-use Rattle.sw_convert_values.specs.Values.{is_led}
+use Rattle.sw_convert_values.specs.Values.{is_led, goes_on}
 use Rattle.sw_convert_values.proofs.Starts.{behind_old}
+use Rattle.sw_convert_values.proofs.Stops.{before_old}
+use Rattle.sw_convert_statements.proofs.StatementStops.{before_comparisons}
 use Rattle.sw_convert_statements.specs.Fronts.{ValuesAreKnown}
 use Rattle.sw_convert_statements.specs.Media.{comparison_text, is_side, is_compared, are_compared, is_inside}
 use Rattle.sw_convert_statements.proofs.Configurations.{row_behind}
@@ -216,14 +218,15 @@ further_side a equals_compares said e it closed = equal_side a it closed (compar
 
 module _ (source : Source) (values : ValuesAreKnown source) where
   comparison_written : {i j : ℕ} {list : List Piece} {tokens ks : List Tok} {text : List ℕ} → AreSides text ks
+      → goes_on source j ≡ false
       → (one : SpellsComparison source i j list tokens) → is_compared source one ≡ true
       → AreSides (text ++ flat list) (ks ++ tokens)
-  comparison_written {text = text} a (spells.compared {i} old (spells.side {value = value} spelt)) t =
+  comparison_written {text = text} a ended (spells.compared {i} old (spells.side {value = value} spelt)) t =
       let said = bytes_at source i in
       let word = comparison_text old.lexeme.terminal in
       let same = (bytes_eq-Decides said word).0 (and_left (bytes_eq said word) _ t) in
       let rest = and_right (bytes_eq said word) _ t in
-      let (signed, it) = values.plains _ _ _ _ (behind_old old refl) (unlisted (not_true _ (and_left _ _ rest)) spelt) in
+      let (signed, it) = values.plains _ _ _ _ (behind_old old refl) ended (unlisted (not_true _ (and_left _ _ rest)) spelt) in
       let shown = expr_text value in
       let whole : flat (pieces.Text (codes " " ++ (said ++ codes " ")) ∷ pieces.Value value ∷ [])
       ≡ codes " " ++ (word ++ (codes " " ++ shown)) =
@@ -235,17 +238,18 @@ module _ (source : Source) (values : ValuesAreKnown source) where
       (further_side a (compares_by old.lexeme.terminal old.kind) said same it (not_true _ (and_right _ _ rest)))
 
   comparisons_written : {i j : ℕ} {list : List Piece} {tokens ks : List Tok} {text : List ℕ} → AreSides text ks
+      → goes_on source j ≡ false
       → (others : SpellsComparisons source i j list tokens) → are_compared source others ≡ true
       → AreSides (text ++ flat list) (ks ++ tokens)
-  comparisons_written {ks = ks} {text = text} a spells.compared_end t =
+  comparisons_written {ks = ks} {text = text} a ended spells.compared_end t =
       same_sides (sym (append-nil text) ∙ ap (λ (x : List ℕ). text ++ x) (sym no_pieces)) (sym (append-nil ks)) a
-  comparisons_written a (spells.compared_last one) t = comparison_written a one t
-  comparisons_written {ks = ks} {text = text} a
+  comparisons_written a ended (spells.compared_last one) t = comparison_written a ended one t
+  comparisons_written {ks = ks} {text = text} a ended
       (spells.compared_more {list = list} {others = others} {tokens = ls} {more = ms} one more) t =
       same_sides
       (append_assoc text (flat list) (flat others) ∙ ap (λ (x : List ℕ). text ++ x) (sym (flat_append list others)))
       (append_assoc ks ls ms)
-      (comparisons_written (comparison_written a one (and_left (is_compared source one) _ t)) more
+      (comparisons_written (comparison_written a (before_comparisons more ended) one (and_left (is_compared source one) _ t)) ended more
       (and_right (is_compared source one) _ t))
 
 -- ---- all of it
@@ -292,8 +296,8 @@ same_inside : {xs ys : List ℕ} {ks : List Tok} → xs ≡ ys → IsInside xs k
 same_inside {xs} {ys} {ks} e it = subst (λ (t : List ℕ). IsInside t ks) e it
 
 pub inside_written : (source : Source) → ValuesAreKnown source → {i j : ℕ} {list : List Piece} {tokens : List Tok}
-    → is_led source i ≡ false → (inside : SpellsFeatureInside source i j list tokens) → is_inside source inside ≡ true → IsInside (flat list) tokens
-inside_written source values led
+    → is_led source i ≡ false → goes_on source j ≡ false → (inside : SpellsFeatureInside source i j list tokens) → is_inside source inside ≡ true → IsInside (flat list) tokens
+inside_written source values led ended
     (spells.inside_parens (spells.side {value = value} spelt) (spells.given_side colon (spells.side {value = other} more)))
     t =
     same_inside
@@ -302,14 +306,15 @@ inside_written source values led
     ∙ ap (λ (x : List ℕ). x ++ flat (pieces.Text (codes ": ") ∷ pieces.Value other ∷ [])) (flat_value value)
     ∙ ap (λ (x : List ℕ). expr_text value ++ x)
     (flat_text (codes ": ") (pieces.Value other ∷ []) ∙ ap (λ (x : List ℕ). codes ": " ++ x) (flat_value other))))
-    (given_inside (values.rows _ _ _ _ led spelt) (values.rows _ _ _ _ (behind_old colon refl) more))
-inside_written source values led
+    (given_inside (values.rows _ _ _ _ led (before_old colon refl) spelt)
+    (values.rows _ _ _ _ (behind_old colon refl) ended more))
+inside_written source values led ended
     (spells.inside_parens (spells.side {value = value} spelt) (spells.compared_sides {list = others} sides)) t =
     let side = is_side (spells.side spelt) in
     let plain = and_left side _ t in
-    let (signed, it) = values.plains _ _ _ _ led (unlisted (not_true _ (and_left _ _ plain)) spelt) in
+    let (signed, it) = values.plains _ _ _ _ led (before_comparisons sides ended) (unlisted (not_true _ (and_left _ _ plain)) spelt) in
     same_inside
     (sym
     (flat_append (pieces.Value value ∷ []) others ∙ ap (λ (x : List ℕ). x ++ flat others) (flat_value value)))
     (compared_inside
-    (comparisons_written source values (first_side it (not_true _ (and_right _ _ plain))) sides (and_right side _ t)))
+    (comparisons_written source values (first_side it (not_true _ (and_right _ _ plain))) ended sides (and_right side _ t)))

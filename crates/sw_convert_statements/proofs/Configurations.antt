@@ -40,6 +40,9 @@ use Rattle.sw_convert_statements.proofs.Params.{comma_segment, close_segment, op
 use Rattle.sw_convert_statements.proofs.Segments.{sheet, join, as_text, as_toks, as_passed, as_behind, value_pads, padded}
 use Rattle.sw_convert_statements.proofs.Variables.{colon_segment}
 use Rattle.sw_convert_values.proofs.Starts.{behind_old}
+use Rattle.sw_convert_values.specs.Values.{goes_on}
+use Rattle.sw_convert_values.proofs.Stops.{before_old, before_end}
+use Rattle.sw_convert_statements.proofs.StatementStops.{before_configured}
 
 -- ---- values one behind the other
 
@@ -117,32 +120,33 @@ module _ (source : Source) (was : WasRead source) where
       }
 
 module _ (source : Source) (was : WasRead source) (values : ValuesAreKnown source) where
-  given_first : {i j : ℕ} {given : Given} {tokens : List Tok} → SpellsConfigured source false i j given tokens
+  given_first : {i j : ℕ} {given : Given} {tokens : List Tok} → goes_on source j ≡ false
+      → SpellsConfigured source false i j given tokens
       → AreGiven (given_text given) tokens
-  given_first (configured_variable {i} {value = value} dollar name colon (unlisted plain spelt)) =
+  given_first ended (configured_variable {i} {value = value} dollar name colon (unlisted plain spelt)) =
       same_given (sym (append-nil (dollar_name (name_at source (suc i)) ++ (codes ": " ++ expr_text value)))) refl
-      (first_given source was (suc i) name (values.rows _ _ _ _ (behind_old colon refl) spelt))
+      (first_given source was (suc i) name (values.rows _ _ _ _ (behind_old colon refl) ended spelt))
 
   given_further : {i j : ℕ} {given : Given} {tokens ks : List Tok} {left : List ℕ}
-      → SpellsConfigured source false i j given tokens → AreGiven left ks
+      → goes_on source j ≡ false → SpellsConfigured source false i j given tokens → AreGiven left ks
       → AreGiven (left ++ (codes ", " ++ given_text given)) (ks ++ again.sign terminals.Comma ∷ tokens)
-  given_further {left = left} (configured_variable {i} {value = value} dollar name colon (unlisted plain spelt)) it =
+  given_further {left = left} ended (configured_variable {i} {value = value} dollar name colon (unlisted plain spelt)) it =
       same_given
       (ap (λ (x : List ℕ). left ++ (codes ", " ++ x))
       (sym (append-nil (dollar_name (name_at source (suc i)) ++ (codes ": " ++ expr_text value))))) refl
-      (further_given source was it (suc i) name (values.rows _ _ _ _ (behind_old colon refl) spelt))
+      (further_given source was it (suc i) name (values.rows _ _ _ _ (behind_old colon refl) ended spelt))
 
   given_more : {i j : ℕ} {givens : List Given} {others ks : List Tok} {left : List ℕ}
-      → SpellsMoreConfigured source false i j givens others → AreGiven left ks
+      → goes_on source j ≡ false → SpellsMoreConfigured source false i j givens others → AreGiven left ks
       → AreGiven (left ++ with_commas false (map given_text givens)) (ks ++ others)
-  given_more {ks = ks} {left = left} no_more_configured it = same_given (sym (append-nil left)) (sym (append-nil ks)) it
-  given_more {ks = ks} {left = left}
+  given_more {ks = ks} {left = left} ended no_more_configured it = same_given (sym (append-nil left)) (sym (append-nil ks)) it
+  given_more {ks = ks} {left = left} ended
       (more_configured {given = given} {givens = givens} {tokens = tokens} {others = others} comma one more) it =
       let rest = with_commas false (map given_text givens) in
       same_given
       (append_assoc left (codes ", " ++ given_text given) rest)
       (append_assoc ks (again.sign terminals.Comma ∷ tokens) others)
-      (given_more more (given_further one it))
+      (given_more ended more (given_further (before_configured more ended) one it))
 
 -- ---- behind a load
 
@@ -199,7 +203,8 @@ pub configured_written : {source : Source} → WasRead source → ValuesAreKnown
     → IsConfigured UseConfiguration before text tokens more passed givens
 configured_written was values it no_configuration = nothing_configured loads.UseConfiguration.not_configured it
 configured_written {source} was values {text = text} it (some_configuration with_word opens one more end closes) =
-    let inner = given_more source was values more (given_first source was values one) in record {
+    let stop = before_end end (before_old closes refl) in
+    let inner = given_more source was values stop more (given_first source was values (before_configured more stop) one) in record {
       configuration = seams (ends_unclosed text) ++ configuration_in inner.passed;
       are = configured_by (ends_unclosed text) inner.are;
       segment = as_behind (λ after e. tt) (with_written it (sheet inner.segment));

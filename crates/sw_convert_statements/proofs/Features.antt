@@ -23,6 +23,7 @@ use Rattle.sw_convert_tokens.proofs.Joins.{join, as_text}
 use Rattle.sw_convert_tokens.proofs.Signs.{Anything}
 use Rattle.sw_convert_heads_passing.specs.Media.{is_insert, opens, Joins, and_joins, or_joins, Feature, insert_feature, condition_feature, inside_feature, Features, no_feature, more_features, Condition, not_condition, joined_condition}
 use Rattle.sw_convert_values.proofs.Starts.{is_clear, behind_old}
+use Rattle.sw_convert_values.proofs.Stops.{before_old}
 use Rattle.sw_convert_statements.specs.Fronts.{ValuesAreKnown}
 use Rattle.sw_convert_statements.specs.Media.{begins_feature, in_parens, begins_condition, is_feature, is_worded, are_joined, is_condition}
 use Rattle.sw_convert_statements.proofs.Comparisons.{inside_written}
@@ -67,7 +68,7 @@ pub inserted_written : {source : Source} → ValuesAreKnown source → {terminal
 inserted_written values {terminal} clear (spells.inserted_value {value = value} {tokens = tokens} old spelt close) spaced =
     subst
     (λ (t : List ℕ). IsInserted terminal spaced t (within (again.sign terminal) tokens terminals.InsertEnd))
-    (sym (flat_insert value)) (insert_at terminal spaced (values.rows _ _ _ _ (behind_old old clear) spelt))
+    (sym (flat_insert value)) (insert_at terminal spaced (values.rows _ _ _ _ (behind_old old clear) (before_old close refl) spelt))
 
 -- parentheses around tokens
 in_parens_written : (terminal : Terminal) (spaced : Bool) {text : List ℕ} {tokens : List Tok} {passed : List Written}
@@ -188,7 +189,7 @@ module _ (source : Source) (values : ValuesAreKnown source) where
           segment = in_parens_written terminals.ConditionParen spaced it.segment (λ after. tt);
         })
     feature_written (spells.inside_feature {list = list} {tokens = tokens} opened inside closes) t spaced =
-        let it = inside_written source values (behind_old opened refl) inside (and_right (begins_feature tokens) _ t) in
+        let it = inside_written source values (behind_old opened refl) (before_old closes refl) inside (and_right (begins_feature tokens) _ t) in
         let seg = it.segment in
         same_feature (sym (flat_parens list)) (record {
           passed = _;

@@ -33,6 +33,9 @@ use Rattle.sw_convert_heads_passing.specs.Loads.{Entries, entry, one_entry, more
 use Rattle.sw_convert_heads_passing.specs.Loads as loads
 use Rattle.sw_convert_texts.specs.RawTexts.{SheetSegment}
 use Rattle.sw_convert_values.proofs.Starts.{behind_old}
+use Rattle.sw_convert_values.specs.Values.{goes_on}
+use Rattle.sw_convert_values.proofs.Stops.{before_old, before_end}
+use Rattle.sw_convert_statements.proofs.StatementStops.{before_configured}
 use Rattle.sw_convert_statements.specs.Segments.{seams}
 use Rattle.sw_convert_statements.specs.Fronts.{ValuesAreKnown}
 use Rattle.sw_convert_statements.proofs.Configurations.{IsConfigured, nothing_configured, with_written, behind_colon}
@@ -175,24 +178,25 @@ before_entries {spaced} {first} {rest} one more = record {
 }
 
 module _ (source : Source) (was : WasRead source) (values : ValuesAreKnown source) where
-  entry_written : {i j : ℕ} {given : Given} {tokens : List Tok} → SpellsConfigured source true i j given tokens
-      → (spaced : Bool) → IsEntry spaced (given_text given) tokens
-  entry_written (configured_variable {i} dollar_sign name colon spelt) spaced =
-      let (signed, it) = values.plains _ _ _ _ (behind_old colon refl) spelt in
+  entry_written : {i j : ℕ} {given : Given} {tokens : List Tok} → goes_on source j ≡ false
+      → SpellsConfigured source true i j given tokens → (spaced : Bool) → IsEntry spaced (given_text given) tokens
+  entry_written ended (configured_variable {i} dollar_sign name colon spelt) spaced =
+      let (signed, it) = values.plains _ _ _ _ (behind_old colon refl) ended spelt in
       without_flag (valued_written source (suc i) was name it spaced)
-  entry_written (configured_default {i} dollar_sign name colon spelt bang default) spaced =
-      let (signed, it) = values.plains _ _ _ _ (behind_old colon refl) spelt in
+  entry_written ended (configured_default {i} dollar_sign name colon spelt bang default) spaced =
+      let (signed, it) = values.plains _ _ _ _ (behind_old colon refl) (before_old bang refl) spelt in
       with_flag (valued_written source (suc i) was name it spaced)
 
   entries_written : {i j k m : ℕ} {given : Given} {givens : List Given} {tokens others : List Tok}
-      → SpellsConfigured source true i j given tokens → SpellsMoreConfigured source true k m givens others
+      → goes_on source j ≡ false → goes_on source m ≡ false → SpellsConfigured source true i j given tokens
+      → SpellsMoreConfigured source true k m givens others
       → (spaced : Bool)
       → AreEntries spaced (given_text given ++ with_commas false (map given_text givens)) (tokens ++ others)
-  entries_written one no_more_configured spaced =
-      same_entries (sym (append-nil _)) (sym (append-nil _)) (last_entry (entry_written one spaced))
-  entries_written one (more_configured comma next more) spaced =
-      before_entries (entry_written one spaced)
-      (entries_written next more true)
+  entries_written first ended one no_more_configured spaced =
+      same_entries (sym (append-nil _)) (sym (append-nil _)) (last_entry (entry_written first one spaced))
+  entries_written first ended one (more_configured comma next more) spaced =
+      before_entries (entry_written first one spaced)
+      (entries_written (before_configured more ended) ended next more true)
 
 -- ---- behind a load
 
@@ -209,7 +213,8 @@ pub forward_configured : {source : Source} → WasRead source → ValuesAreKnown
 forward_configured was values it no_configuration =
     nothing_configured loads.ForwardConfiguration.not_configured it
 forward_configured {source} was values {text = text} it (some_configuration with_word opens one more end closes) =
-    let inner = entries_written source was values one more false in record {
+    let stop = before_end end (before_old closes refl) in
+    let inner = entries_written source was values (before_configured more stop) stop one more false in record {
       configuration = seams (ends_unclosed text) ++ configuration_in inner.passed;
       are = configured_by (ends_unclosed text) inner.are;
       segment = as_behind (λ after e. tt) (with_written it inner.segment);

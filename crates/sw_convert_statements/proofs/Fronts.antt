@@ -15,9 +15,10 @@ use Rattle.sw_convert_written.specs.Heads.{given_behind_name, given_arguments, i
 use Rattle.sw_convert_written.specs.Names.{name_text}
 use Rattle.sw_convert_again.specs.Tokens.{Tok}
 use Rattle.sw_convert_again.specs.Tokens as again
-use Rattle.sw_convert_again.specs.Statements.{SpellsStatement, say_name}
+use Rattle.sw_convert_again.specs.Statements.{say_name}
 use Rattle.sw_convert_again.specs.Statements as spells
 use Rattle.sw_convert_values.proofs.Starts.{is_clear, behind_old}
+use Rattle.sw_convert_values.proofs.Stops.{before_old}
 use Rattle.sw_convert_statements.specs.Fronts.{is_unbounded, FrontsAreWritten, BranchesAreWritten}
 use Rattle.sw_convert_statements.specs.Media.{is_seamless}
 use Rattle.sw_convert_statements.proofs.Queries.{media_written}
@@ -25,6 +26,7 @@ use Rattle.sw_convert_statements.proofs.Valued.{return_written, say_written, if_
 use Rattle.sw_convert_statements.proofs.Variables.{variable_written}
 use Rattle.sw_convert_texts.proofs.Comments.{comments_written}
 use Rattle.sw_convert_statements.proofs.KnownNames.{comment_values}
+use Rattle.sw_convert_statements.proofs.StatementStops.{before_block, before_close, before_flags}
 use Rattle.sw_convert_statements.proofs.Loads.{use_written}
 use Rattle.sw_convert_statements.proofs.Forwards.{forward_written}
 use Rattle.sw_convert_statements.specs.Segments.{FrontWritten}
@@ -48,27 +50,30 @@ unguarded space name url arguments e =
     ∙ ap (λ (u : Bool). space ++ (name ++ given_behind_name u arguments)) (sym e)
 
 pub fronts_written : FrontsAreWritten
-fronts_written source was known i j statement tokens (spells.return_line span old inner end) t =
-    return_written (known.rows _ _ _ _ (behind_old old refl) inner)
-fronts_written source was known i j statement tokens (spells.say_line level span old inner end) t =
-    say_written (known.rows _ _ _ _ (behind_old old (say_clear level)) inner) level
-fronts_written source was known i j statement tokens
+fronts_written source was known i j statement tokens ended (spells.return_line span old inner end) t =
+    return_written (known.rows _ _ _ _ (behind_old old refl) (before_close end ended) inner)
+fronts_written source was known i j statement tokens ended (spells.say_line level span old inner end) t =
+    say_written (known.rows _ _ _ _ (behind_old old (say_clear level)) (before_close end ended) inner) level
+fronts_written source was known i j statement tokens ended
     (spells.variable_line {i = k} {places = places} span one two three inner flags end) t =
-    variable_written source (suc k) was two (known.rows _ _ _ _ (behind_old three refl) inner) (flags_at source places)
-fronts_written source was known i j statement tokens
+    variable_written source (suc k) was two
+    (known.rows _ _ _ _ (behind_old three refl) (before_flags flags (before_close end ended)) inner) (flags_at source places)
+fronts_written source was known i j statement tokens ended
     (spells.assignment_line {i = k} {places = places} span target_span one two three four five inner flags end) t =
-    assignment_written source k was one four t (known.rows _ _ _ _ (behind_old five refl) inner) (flags_at source places) (no_global source flags)
-fronts_written source was known i j statement tokens (spells.charset_line span one two end) t = charset_written
-fronts_written source was known i j statement tokens (spells.content_line span old given end) t =
+    assignment_written source k was one four t
+    (known.rows _ _ _ _ (behind_old five refl) (before_flags flags (before_close end ended)) inner) (flags_at source places)
+    (no_global source flags)
+fronts_written source was known i j statement tokens ended (spells.charset_line span one two end) t = charset_written
+fronts_written source was known i j statement tokens ended (spells.content_line span old given end) t =
     content_called (given_written source was known given)
-fronts_written source was known i j statement tokens
+fronts_written source was known i j statement tokens ended
     (spells.include_line {namespace = namespace} {name = at} {arguments = arguments} {tokens = ks} {others = os} span name_span old mixin given
     using end) t =
     subst
     (λ (x : List ℕ). FrontWritten modes.Include (codes "@include " ++ x) (again.sign terminals.AtInclude ∷ (ks ++ os)))
     (unguarded (space_text namespace) (name_text (name_at source at)) (is_url (name_at source at)) arguments (mixin_no_url source mixin t))
     (include_line_written source was known mixin t (given_written source was known given))
-fronts_written source was known i j statement tokens
+fronts_written source was known i j statement tokens ended
     (spells.include_block {namespace = namespace} {name = at} {arguments = arguments} {params = params} {tokens = ks} {others = os} {more = more} span name_span
     old mixin given using block) t =
     subst
@@ -78,34 +83,34 @@ fronts_written source was known i j statement tokens
     (λ (x : List ℕ). FrontWritten modes.Include (using_params params (codes "@include " ++ x)) (again.sign terminals.AtInclude ∷ ((ks ++ os) ++ more)))
     (unguarded (space_text namespace) (name_text (name_at source at)) (is_url (name_at source at)) arguments (mixin_no_url source mixin t))
     (using_written source was known mixin t (given_written source was known given) using))
-fronts_written source was known i j statement tokens (spells.at_root_block span old block) t = at_root_written
-fronts_written source was known i j statement tokens
+fronts_written source was known i j statement tokens ended (spells.at_root_block span old block) t = at_root_written
+fronts_written source was known i j statement tokens ended
     (spells.forward_line {i = k} span one two renamed members settings end) t =
     forward_written source (suc k) was known renamed members settings
-fronts_written source was known i j statement tokens (spells.use_line {i = k} span one two name settings end) t =
+fronts_written source was known i j statement tokens ended (spells.use_line {i = k} span one two name settings end) t =
     use_written source (suc k) was known name t settings
-fronts_written source was known i j statement tokens (spells.function_block {i = k} span one two head block) t =
+fronts_written source was known i j statement tokens ended (spells.function_block {i = k} span one two head block) t =
     function_written source was known (suc k) two t head
-fronts_written source was known i j statement tokens (spells.mixin_block {i = k} span one two head block) t =
+fronts_written source was known i j statement tokens ended (spells.mixin_block {i = k} span one two head block) t =
     mixin_written source was known (suc k) two t head
-fronts_written source was known i j statement tokens
+fronts_written source was known i j statement tokens ended
     (spells.for_block {from = from} {tokens = ks} span one two three four low old high block) t =
-    for_written source was three old (known.rows _ _ _ _ (behind_old four refl) low) (and_left (is_unbounded (expr_text from) ks) _ t)
-    (known.rows _ _ _ _ (behind_old old refl) high) (and_right (is_unbounded (expr_text from) ks) _ t)
-fronts_written source was known i j statement tokens (spells.while_block span old inner block) t =
-    while_written (known.rows _ _ _ _ (behind_old old refl) inner)
-fronts_written source was known i j statement tokens (spells.if_block span old inner block further otherwise) t =
-    if_written (known.rows _ _ _ _ (behind_old old refl) inner)
-fronts_written source was known i j statement tokens
+    for_written source was three old (known.rows _ _ _ _ (behind_old four refl) (before_old old refl) low) (and_left (is_unbounded (expr_text from) ks) _ t)
+    (known.rows _ _ _ _ (behind_old old refl) (before_block block) high) (and_right (is_unbounded (expr_text from) ks) _ t)
+fronts_written source was known i j statement tokens ended (spells.while_block span old inner block) t =
+    while_written (known.rows _ _ _ _ (behind_old old refl) (before_block block) inner)
+fronts_written source was known i j statement tokens ended (spells.if_block span old inner block further otherwise) t =
+    if_written (known.rows _ _ _ _ (behind_old old refl) (before_block block) inner)
+fronts_written source was known i j statement tokens ended
     (spells.each_block span one two three names in_word inner block) t =
-    each_written source was three names (known.rows _ _ _ _ (behind_old in_word refl) inner)
-fronts_written source was known i j statement tokens
+    each_written source was three names (known.rows _ _ _ _ (behind_old in_word refl) (before_block block) inner)
+fronts_written source was known i j statement tokens ended
     (spells.media_block {list = list} span text_span old queries block) t =
     let seamless = is_seamless (record { parts = Mixed list; span = text_span }) in
     media_written source was known queries (and_right seamless _ t) text_span (and_left seamless _ t)
-fronts_written source was known i j statement tokens (spells.comment_line {text = text} comment) t =
+fronts_written source was known i j statement tokens ended (spells.comment_line {text = text} comment) t =
     comments_written source i j text tokens comment t (comment_values known comment)
-fronts_written source was known i j statement tokens _ t = absurd (cc)
+fronts_written source was known i j statement tokens ended _ t = absurd (cc)
 
 pub branches_written : BranchesAreWritten
 branches_written value tokens it = else_if_written it

@@ -27,7 +27,7 @@ use Rattle.sw_convert_written.specs.Expressions.{parts_written}
 use Rattle.sw_convert_written.proofs.Unrolled as unrolled
 use Rattle.sw_convert_passing.specs.Written.{Written, written, direct}
 use Rattle.sw_convert_passing.specs.Kinds.{is_word, is_part}
-use Rattle.sw_convert_passing.specs.Values.{Word, Parts as WordParts, Items, begins_insert, inserted}
+use Rattle.sw_convert_passing.specs.Values.{Word, Parts as WordParts, begins_insert}
 use Rattle.sw_convert_passing.specs.Values as passing
 use Rattle.sw_convert_again.specs.Tokens.{Tok, tok, Old}
 use Rattle.sw_convert_again.specs.Spells.{from_start, SpellsWord, SpellsRow}
@@ -58,6 +58,7 @@ use Rattle.sw_convert_statements.specs.Names.{NamedAs, is_free_word, is_property
 use Rattle.sw_convert_statements.proofs.Dashes.{first_dashed}
 use Rattle.sw_convert_statements.proofs.Segments.{sheet}
 use Rattle.sw_convert_values.proofs.Starts.{is_clear, behind_old}
+use Rattle.sw_convert_values.proofs.Stops.{before_old}
 
 abbrev pub AsProperty : List Written → Type 0
 AsProperty passed = PropertyHead (passed ++ colon ∷ [])
@@ -74,15 +75,15 @@ module _ {source : Source} (values : ValuesAreKnown source) where
   row_values c spells.row_end = tt
   row_values c (spells.row_part old row) = row_values c row
   row_values c (spells.row_insert opens inner close row) =
-      (values.rows _ _ _ _ (behind_old opens c) inner, row_values c row)
+      (values.rows _ _ _ _ (behind_old opens c) (before_old close refl) inner, row_values c row)
 
   word_values : {i j : ℕ} {parts : Parts} {tokens : List Tok} → (word : SpellsWord source i j parts tokens)
       → WordHasValues word
   word_values (spells.named old row) = row_values refl row
   word_values (spells.begun opens inner close row) =
-      (values.rows _ _ _ _ (behind_old opens refl) inner, row_values refl row)
+      (values.rows _ _ _ _ (behind_old opens refl) (before_old close refl) inner, row_values refl row)
   word_values (spells.begun_minus minus opens inner close row) =
-      (values.rows _ _ _ _ (behind_old opens refl) inner, row_values refl row)
+      (values.rows _ _ _ _ (behind_old opens refl) (before_old close refl) inner, row_values refl row)
 
   name_values : {first : Terminal} {i j : ℕ} {parts : Parts} {tokens : List Tok}
       → (name : SpellsName source first i j parts tokens) → NameHasValues name
@@ -286,9 +287,9 @@ module _ (source : Source) (was : WasRead source) (values : ValuesAreKnown sourc
       → AtNameHasValues name
   at_values (at_word name) = name_values values name
   at_values (at_insert old opens inner close row) =
-      (values.rows _ _ _ _ (behind_old opens refl) inner, row_values values refl row)
+      (values.rows _ _ _ _ (behind_old opens refl) (before_old close refl) inner, row_values values refl row)
   at_values (at_minus old minus opens inner close row) =
-      (values.rows _ _ _ _ (behind_old opens refl) inner, row_values values refl row)
+      (values.rows _ _ _ _ (behind_old opens refl) (before_old close refl) inner, row_values values refl row)
 
   inserted_head : {spaced : Bool} {passed : List Written} → AsInsertedAt spaced passed
       → TextHead passed × ((more : List Written) → begins_else (passed ++ more) ≡ false)

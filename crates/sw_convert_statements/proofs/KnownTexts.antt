@@ -21,6 +21,7 @@ use Rattle.sw_convert_texts.specs.RawKinds.{raw_known, is_uncut}
 use Rattle.sw_convert_texts.proofs.RawWritten.{raw_texts_written}
 use Rattle.sw_convert_texts.proofs.RuleWritten.{rule_texts_written}
 use Rattle.sw_convert_values.proofs.Starts.{behind_old}
+use Rattle.sw_convert_values.proofs.Stops.{before_old}
 use Rattle.sw_convert_statements.specs.Fronts.{ValuesAreKnown}
 use Rattle.sw_convert_statements.specs.Texts.{TextsAreKnown}
 use Rattle.sw_convert_statements.specs.Names.{SelectorsAreKnown}
@@ -31,7 +32,7 @@ module _ {source : Source} (values : ValuesAreKnown source) where
     item_values : {i j : ℕ} {parts : List Part} {tokens : List Tok} {extents : List Extent}
         → (item : SpellsRawItem source i j parts tokens extents) → RawItemHasValues item
     item_values (raw_token old) = tt
-    item_values (raw_insert opens inner close) = values.rows _ _ _ _ (behind_old opens refl) inner
+    item_values (raw_insert opens inner close) = values.rows _ _ _ _ (behind_old opens refl) (before_old close refl) inner
     item_values (raw_brackets kind opens text close) = text_values text
 
     text_values : {i j : ℕ} {parts : List Part} {tokens : List Tok} {extents : List Extent}

@@ -1,4 +1,5 @@
 pub mod Segments
+mod StatementStops
 mod TokenEnds
 mod Loose
 pub mod Gaps

@@ -20,7 +20,7 @@ use Rattle.sw_convert_written.specs.Heads.{param_text, rest_text, params_text}
 use Rattle.sw_convert_written.specs.Names.{dollar_name}
 use Rattle.sw_convert_passing.specs.Written.{Written, written, direct}
 use Rattle.sw_convert_passing.specs.Values.{dollar}
-use Rattle.sw_convert_again.specs.Tokens.{Tok, tok, Old}
+use Rattle.sw_convert_again.specs.Tokens.{Tok, Old}
 use Rattle.sw_convert_again.specs.Tokens as again
 use Rattle.sw_convert_again.specs.Params.{SpellsParam, SpellsMoreParams, SpellsParams, SpellsHeadParams, plain_param, default_param, rest_param, no_more_params, more_params, no_params, some_params, in_head, dollar_tokens, comma_joined, rest_texts}
 use Rattle.sw_convert_tokens.specs.Joints.{Segment}
@@ -32,6 +32,9 @@ use Rattle.sw_convert_tokens.proofs.Unclosed.{space_ends, follows_end}
 use Rattle.sw_convert_tokens.proofs.Variables.{Begins, variable_name, variable_segment}
 use Rattle.sw_convert_heads_passing.specs.Members as told
 use Rattle.sw_convert_values.proofs.Starts.{behind_old}
+use Rattle.sw_convert_values.specs.Values.{goes_on}
+use Rattle.sw_convert_values.proofs.Stops.{before_old, before_end}
+use Rattle.sw_convert_statements.proofs.StatementStops.{before_params}
 use Rattle.sw_convert_statements.specs.Fronts.{ValuesAreKnown}
 use Rattle.sw_convert_statements.proofs.Variables.{colon_segment}
 
@@ -158,27 +161,31 @@ record AreAll (parts : List Part) (texts : List (List Tok)) : Type 0 where
 
 module _ (source : Source) (was : WasRead source) (values : ValuesAreKnown source) where
   one_more : {i j : ℕ} {part : Part} {parts : List Part} {texts others : List (List Tok)}
-      → SpellsParam source i j part texts → AreAll parts others → AreAll (part ∷ parts) (texts ++ others)
+      → goes_on source j ≡ false → SpellsParam source i j part texts → AreAll parts others
+      → AreAll (part ∷ parts) (texts ++ others)
   unfolding RestIs
-  one_more (plain_param {i} one two) all =
+  one_more ended (plain_param {i} one two) all =
       record { params = more_are (plain_written source was (suc i) two) all.params; rest = all.rest }
-  one_more (default_param {i} one two three value) all =
-      let (signed, it) = values.plains _ _ _ _ (behind_old three refl) value in
+  one_more ended (default_param {i} one two three value) all =
+      let (signed, it) = values.plains _ _ _ _ (behind_old three refl) ended value in
       record { params = more_are (default_written source was (suc i) two it) all.params; rest = all.rest }
-  one_more (rest_param {i} one two three) all =
+  one_more ended (rest_param {i} one two three) all =
       record { params = all.params; rest = rest_written source was (suc i) two }
 
-  all_more : {i j : ℕ} {parts : List Part} {texts : List (List Tok)} → SpellsMoreParams source i j parts texts
+  all_more : {i j : ℕ} {parts : List Part} {texts : List (List Tok)} → goes_on source j ≡ false
+      → SpellsMoreParams source i j parts texts
       → AreAll parts texts
   unfolding RestIs
-  all_more no_more_params = record { params = none_are; rest = tt }
-  all_more (more_params comma one more) = one_more one (all_more more)
+  all_more ended no_more_params = record { params = none_are; rest = tt }
+  all_more ended (more_params comma one more) = one_more (before_params more ended) one (all_more ended more)
 
-  all_params : {i j : ℕ} {parts : List Part} {texts : List (List Tok)} → SpellsParams source i j parts texts
+  all_params : {i j : ℕ} {parts : List Part} {texts : List (List Tok)} → goes_on source j ≡ false
+      → SpellsParams source i j parts texts
       → AreAll parts texts
   unfolding RestIs
-  all_params no_params = record { params = none_are; rest = tt }
-  all_params (some_params one more end) = one_more one (all_more more)
+  all_params ended no_params = record { params = none_are; rest = tt }
+  all_params ended (some_params one more end) =
+      let stop = before_end end ended in one_more (before_params more stop) one (all_more stop more)
 
 -- a row of them
 record IsRow (text : List ℕ) (tokens : List Tok) (spaced : Bool) : Type 0 where
@@ -276,7 +283,7 @@ open_segment false =
 pub parens_written : (source : Source) → WasRead source → ValuesAreKnown source → {i j : ℕ} {params : TreeParams}
     {tokens : List Tok} → SpellsHeadParams source i j params tokens → (spaced : Bool) → AreParens params tokens spaced
 parens_written source was values (in_head {parts = parts} {texts = texts} opens within closes) spaced =
-    let all = all_params source was values within in
+    let all = all_params source was values (before_old closes refl) within in
     let it = inside all.params (rest_of parts) all.rest in
     let items = with_commas true (map param_text (params_of parts)) in
     let rest = rest_text (params_of parts) (rest_of parts) in record {

@@ -37,7 +37,7 @@ use Rattle.sw_convert_passing.specs.Values.{Parts, no_part, part_insert, begins_
 use Rattle.sw_convert_again.specs.Tokens.{Tok, tok, Bytes, Old}
 use Rattle.sw_convert_again.specs.Tokens as again
 use Rattle.sw_convert_again.specs.Spells.{within}
-use Rattle.sw_convert_again.specs.Queries.{type_prefixes, copied, SpellsTypeName, SpellsTypeParts, SpellsTypeRest, SpellsTyped, SpellsCondition, SpellsQuery, SpellsCommaQuery, SpellsMoreQueries, SpellsQueries}
+use Rattle.sw_convert_again.specs.Queries.{type_prefixes, copied, SpellsTypeParts, SpellsTypeRest, SpellsTyped, SpellsCondition, SpellsQuery, SpellsMoreQueries, SpellsQueries}
 use Rattle.sw_convert_again.specs.Queries as spells
 use Rattle.sw_convert_again.proofs.Tokens.{one_byte}
 use Rattle.sw_convert_tokens.specs.Joints.{Segment}
@@ -51,6 +51,7 @@ use Rattle.sw_convert_tokens.proofs.Words.{only_word, kind_of_name, copied_behin
 use Rattle.sw_convert_heads_passing.specs.Media.{is_type, begins_type, opens, Joins, and_joins, or_joins, named_type, inserted_type, TypeRest, type_features, type_not, Typed, typed, Query, only_query, not_type_query, typed_query, not_query, joined_query, Queries, one_query, more_queries}
 use Rattle.sw_convert_heads_passing.specs.Statements.{querying}
 use Rattle.sw_convert_values.proofs.Starts.{behind_old}
+use Rattle.sw_convert_values.proofs.Stops.{before_old}
 use Rattle.sw_convert_statements.specs.Segments.{FrontWritten}
 use Rattle.sw_convert_statements.specs.Fronts.{ValuesAreKnown}
 use Rattle.sw_convert_statements.specs.Media.{prefix_text, in_parens, is_feature, is_type_name, are_type_parts, is_type_rest, is_typed, is_whole, is_query, are_more_queries, are_queries, is_seamless}
@@ -152,7 +153,7 @@ module _ (source : Source) (values : ValuesAreKnown source) where
   tail_written {others = last} {more = end}
       (spells.type_more {others = others} {more = os}
       (spells.type_inserted (spells.inserted_value {value = value} {tokens = ks} opened spelt close)) parts) t rest u =
-      let it = insert_at terminals.PartInsert false (values.rows _ _ _ _ (behind_old opened refl) spelt) in
+      let it = insert_at terminals.PartInsert false (values.rows _ _ _ _ (behind_old opened refl) (before_old close refl) spelt) in
       let tail = tail_written parts t rest u in
       let shown = expr_text value ++ codes "}" in
       let list = pieces.Inserted value ∷ [] in
@@ -261,7 +262,7 @@ typed_written source was values
     same_typed
     (ap (λ (x : List ℕ). x ++ flat (others ++ last)) (sym (flat_insert value))
     ∙ sym (flat_append (pieces.Inserted value ∷ []) (others ++ last)))
-    (insert_typed (values.rows _ _ _ _ (behind_old opened refl) spelt) tail)
+    (insert_typed (values.rows _ _ _ _ (behind_old opened refl) (before_old close refl) spelt) tail)
 typed_written source was values (spells.typed (spells.type_minus old one) parts rest) t = absurd (cc)
 
 -- ---- one query

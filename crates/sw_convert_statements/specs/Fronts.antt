@@ -33,14 +33,14 @@ use Rattle.sw_convert_statements.specs.Segments.{ElseWritten}
 use Rattle.sw_convert_statements.specs.Statements.{FrontIs}
 use Rattle.sw_convert_statements.specs.Media.{are_queries, is_seamless}
 use Rattle.sw_convert_statements.specs.OneName.{is_owner}
-use Rattle.sw_convert_values.specs.Values.{is_led}
+use Rattle.sw_convert_values.specs.Values.{is_led, goes_on}
 
 -- what is written of each value of a sheet is its tokens, and of one that is no list with commas and without brackets
 -- those of one value
 pub record ValuesAreKnown (source : Source) : Type 0 where
-  pub rows : (i j : ℕ) (value : Expr) (tokens : List Tok) → is_led source i ≡ false → Spells source i j value tokens
-      → WrittenAs AsRow (expr_text value) tokens
-  pub plains : (i j : ℕ) (value : Expr) (tokens : List Tok) → is_led source i ≡ false
+  pub rows : (i j : ℕ) (value : Expr) (tokens : List Tok) → is_led source i ≡ false → goes_on source j ≡ false
+      → Spells source i j value tokens → WrittenAs AsRow (expr_text value) tokens
+  pub plains : (i j : ℕ) (value : Expr) (tokens : List Tok) → is_led source i ≡ false → goes_on source j ≡ false
       → SpellsPlain source i j value tokens
       → (signed : Bool) × WrittenAs (AsValue signed) (expr_text value) tokens
 
@@ -114,7 +114,7 @@ is_told _ = false
 abbrev pub FrontsAreWritten : Type 0
 FrontsAreWritten =
     (source : Source) → WasRead source → ValuesAreKnown source → (i j : ℕ) (statement : Statement) (tokens : List Tok)
-    → (spelt : SpellsStatement source i j statement tokens) → is_told spelt ≡ true → FrontIs spelt
+    → goes_on source j ≡ false → (spelt : SpellsStatement source i j statement tokens) → is_told spelt ≡ true → FrontIs spelt
 
 -- the same of `@else if`
 abbrev pub BranchesAreWritten : Type 0

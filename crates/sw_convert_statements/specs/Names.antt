@@ -34,6 +34,7 @@ use Rattle.sw_convert_texts.specs.RawKinds.{raw_known, is_uncut}
 use Rattle.sw_convert_texts.specs.AtInserts.{begins_inserted}
 use Rattle.sw_convert_texts.specs.RawTexts.{SheetSegment}
 use Rattle.sw_convert_texts.specs.RuleTexts.{begins_rule}
+use Rattle.sw_convert_values.specs.Values.{goes_on}
 use Rattle.sw_convert_statements.specs.Segments.{RuleWritten}
 use Rattle.sw_convert_statements.specs.Statements.{FrontIs}
 use Rattle.sw_convert_statements.specs.OneName.{begins_dashed}
@@ -117,5 +118,5 @@ abbrev pub NamedFrontsAreWritten : Type 0
 NamedFrontsAreWritten =
     (source : Source) → WasRead source → ValuesAreKnown source → TextsAreKnown modes.Raw source
     → TextsAreKnown modes.Custom source → SelectorsAreKnown source → (i j : ℕ) (statement : Statement)
-    (tokens : List Tok)
+    (tokens : List Tok) → goes_on source j ≡ false
     → (spelt : SpellsStatement source i j statement tokens) → has_name spelt ≡ true → FrontIs spelt

@@ -1,5 +1,5 @@
 -- Sheets of which all statements are of the kinds of which it is proved that they are written as their tokens.
-use Rattle.std.specs.Prelude.{◌≡◌, ℕ, Bool, true, ◌&&◌, ◌||◌, List, Option}
+use Rattle.std.specs.Prelude.{◌≡◌, ℕ, Bool, true, false, ◌&&◌, ◌||◌, List, Option}
 use Rattle.sw_tree.specs.declared.statement.Branch.{Branch}
 use Rattle.sw_tree.specs.declared.statement.Statement.{Statement}
 use Rattle.sw_parse_lexemes.specs.declared.state.Mode.TheVariants as modes
@@ -8,6 +8,7 @@ use Rattle.sw_convert_again.specs.Tokens.{Tok}
 use Rattle.sw_convert_again.specs.Statements.{SpellsStatement, SpellsBlock, SpellsBranches, SpellsElse, SpellsStatements}
 use Rattle.sw_convert_again.specs.Statements as spells
 use Rattle.sw_convert_tokens.specs.Values.{WasRead}
+use Rattle.sw_convert_values.specs.Values.{goes_on}
 use Rattle.sw_convert_statements.specs.Statements.{ListHasFronts}
 use Rattle.sw_convert_statements.specs.Fronts.{ValuesAreKnown, is_told}
 use Rattle.sw_convert_statements.specs.Texts.{TextsAreKnown, has_text}
@@ -76,5 +77,5 @@ abbrev pub KnownSheetsHaveFronts : Type 0
 KnownSheetsHaveFronts =
     (source : Source) → WasRead source → ValuesAreKnown source → TextsAreKnown modes.Raw source
     → TextsAreKnown modes.Custom source → SelectorsAreKnown source → (i j : ℕ) (list : List Statement) (tokens : List Tok)
-    → (spelt : SpellsStatements source i j list tokens) → list_known spelt ≡ true
+    → goes_on source j ≡ false → (spelt : SpellsStatements source i j list tokens) → list_known spelt ≡ true
     → ListHasFronts spelt

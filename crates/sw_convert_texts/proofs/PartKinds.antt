@@ -1,8 +1,8 @@
 -- A part of a word is a name, a `-` or digits, where it was read.
-use Rattle.std.proofs.Common.{◌≡◌, ◌⊎◌, ℕ, ◌+◌, Bool, true, false, ◌&&◌, ◌||◌, if◌then◌else◌, List, Option, inl, inr, refl, sym, ◌∙◌, ap}
+use Rattle.std.proofs.Common.{◌≡◌, ◌⊎◌, ℕ, ◌+◌, Bool, true, false, ◌&&◌, if◌then◌else◌, List, Option, inl, inr, refl, sym, ◌∙◌, ap}
 use Rattle.std.specs.Prelude.{◌==◌}
 use Rattle.sw_text_scan.specs.declared.runs.Class.TheVariants as classes
-use Rattle.sw_text_scan.specs.Bytes.{sign, byte, is_digit, is_letter}
+use Rattle.sw_text_scan.specs.Bytes.{sign, byte, is_letter}
 use Rattle.sw_text_scan.specs.Runs.{run_end, begins_name}
 use Rattle.sw_text_scan.specs.Words.{unit_start, unit_end, begins_number}
 use Rattle.sw_text_scan.proofs.Bounds.{and_left, and_right, not_true}

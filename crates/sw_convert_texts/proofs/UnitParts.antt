@@ -1,7 +1,6 @@
 -- A number with a unit before the part that stood directly behind it.
-use Rattle.std.proofs.Common.{◌≡◌, ◌⊎◌, ◌≤◌, ◌<◌, ℕ, ◌+◌, Bool, true, false, ◌&&◌, ◌||◌, List, [], ◌++◌, length, inl, inr, refl, sym, ◌∙◌, ap, subst, arith}
+use Rattle.std.proofs.Common.{◌≡◌, ◌⊎◌, ◌≤◌, ◌<◌, ℕ, ◌+◌, Bool, true, false, ◌&&◌, ◌||◌, List, [], ◌++◌, length, inl, inr, refl, sym, ◌∙◌, ap, arith}
 use Rattle.std.specs.Prelude.{◌==◌}
-use Rattle.std.proofs.lemmas.Bool.Decides.{nat_tests}
 use Rattle.sw_text_scan.specs.declared.runs.Class.TheVariants as classes
 use Rattle.sw_text_scan.specs.declared.signs.TheConstants.{LINE_FEED}
 use Rattle.sw_text_scan.specs.Bytes.{sign, byte, is_white, is_digit, is_hex_digit, starts_plainly}
@@ -16,10 +15,9 @@ use Rattle.sw_convert_spelling.proofs.Choices.{left_no, right_no}
 use Rattle.sw_convert_written.specs.Escapes.{ends_unclosed}
 use Rattle.sw_convert_tokens.specs.Written.{begins_white}
 use Rattle.sw_convert_tokens.proofs.Stops.{no_escape, white_same}
-use Rattle.sw_convert_tokens.proofs.Units.{UnitEnds}
 use Rattle.sw_convert_texts.proofs.UnitTokens.{no_unit}
 use Rattle.sw_convert_texts.proofs.UnitRuns.{HasUnit, is_power, Unmixed, unit_token}
-use Rattle.sw_convert_texts.proofs.PartTokens.{NextIs, Goes, rejoins, no_next, no_goes}
+use Rattle.sw_convert_texts.proofs.PartTokens.{NextIs, Goes, no_next, no_goes}
 
 -- ---- a `-` behind it
 

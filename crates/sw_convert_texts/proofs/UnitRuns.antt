@@ -1,10 +1,10 @@
 -- A number whose unit may hold escapes, and may begin with an `e`, is the same token before what goes on with none.
-use Rattle.std.proofs.Common.{◌≡◌, ◌⊎◌, ◌≤◌, ◌<◌, ℕ, ◌+◌, Bool, true, false, not, ◌&&◌, ◌||◌, if◌then◌else◌, List, [], ◌∷◌, ◌++◌, length, inl, inr, refl, sym, ◌∙◌, ap, subst, arith, append-nil, append_assoc, length-append}
+use Rattle.std.proofs.Common.{◌≡◌, ◌⊎◌, ◌≤◌, ◌<◌, ℕ, ◌+◌, Bool, true, false, not, ◌&&◌, if◌then◌else◌, List, [], ◌∷◌, ◌++◌, length, inl, inr, refl, sym, ◌∙◌, ap, subst, arith, append-nil, append_assoc, length-append}
 use Rattle.std.specs.Prelude.{◌==◌}
 use Rattle.std.specs.List.{list_all}
 use Rattle.std.proofs.lemmas.Bool.Decides.{nat_tests}
 use Rattle.sw_text_scan.specs.declared.runs.Class.TheVariants as classes
-use Rattle.sw_text_scan.specs.Bytes.{sign, byte, is_white, is_digit, starts_plainly}
+use Rattle.sw_text_scan.specs.Bytes.{sign, byte, is_digit, starts_plainly}
 use Rattle.sw_text_scan.specs.Runs.{next, run_end}
 use Rattle.sw_text_scan.specs.Words.{fraction_end, exponent_end, is_exponent, is_plus_or_minus, unit_start, unit_end}
 use Rattle.sw_text_scan.proofs.Bounds.{if_true, if_false, and_left, and_right, run_forward}
@@ -20,7 +20,6 @@ use Rattle.sw_convert_spelling.proofs.MovedRuns as moved
 use Rattle.sw_convert_spelling.proofs.NumeralTokens.{second_byte}
 use Rattle.sw_convert_spelling.proofs.Again as texts
 use Rattle.sw_convert_spelling.proofs.Choices.{left_no, right_no, both}
-use Rattle.sw_convert_written.specs.Escapes.{ends_unclosed}
 use Rattle.sw_convert_tokens.specs.Written.{is_calm, begins_white}
 use Rattle.sw_convert_tokens.proofs.NumberEnds.{no_sign}
 use Rattle.sw_convert_tokens.proofs.Numbers.{Quiet, quiet_unclosed}

@@ -8,7 +8,6 @@ use Rattle.sw_text_scan.specs.Bytes.{sign, byte, is_white, is_digit, is_letter, 
 use Rattle.sw_text_scan.specs.Runs.{next, run_end, escape_end, goes_in_unit, starts_at}
 use Rattle.sw_text_scan.specs.Words.{fraction_end, exponent_end, is_exponent, is_plus_or_minus, unit_start, unit_end}
 use Rattle.sw_text_scan.proofs.Bounds.{if_true, if_false, and_left, and_right, run_step, run_stop}
-use Rattle.sw_text_scan.proofs.Progress.{run_stops}
 use Rattle.sw_text_locality.proofs.Written.{byte_before}
 use Rattle.sw_tokens.specs.declared.pieces.Before.{Before}
 use Rattle.sw_tokens.specs.declared.pieces.Change.TheVariants as changes

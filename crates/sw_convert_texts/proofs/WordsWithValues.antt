@@ -3,7 +3,6 @@ use Rattle.std.proofs.Common.{◌≡◌, ◌≤◌, ℕ, suc, ◌+◌, ◌-◌, 
 use Rattle.std.specs.Prelude.{slice_range, codes}
 use Rattle.sw_text_scan.specs.Bytes.{sign, is_white}
 use Rattle.sw_text_scan.specs.Words.{is_u}
-use Rattle.sw_text_scan.proofs.Bounds.{and_left}
 use Rattle.sw_tree.specs.declared.expr.Expr.{Expr}
 use Rattle.sw_tree.specs.declared.text.Parts.{Parts}
 use Rattle.sw_tree.specs.declared.text.Piece.{Piece}

@@ -1,5 +1,5 @@
 -- Calls.
-use Rattle.std.proofs.Common.{◌≡◌, ℕ, Bool, true, false, if◌then◌else◌, not, ◌&&◌, Some, None, List, [], ◌∷◌, ◌++◌, map, append-nil, refl, sym, ◌∙◌, ap, subst, append_assoc}
+use Rattle.std.proofs.Common.{◌≡◌, ℕ, Bool, true, false, if◌then◌else◌, not, Some, None, List, [], ◌∷◌, ◌++◌, map, append-nil, refl, sym, ◌∙◌, ap, subst, append_assoc}
 use Rattle.std.specs.Prelude.{codes}
 use Rattle.sw_text.specs.declared.place.Span.{Span}
 use Rattle.sw_text_scan.proofs.Bounds.{and_left, and_right, not_true}
@@ -17,7 +17,7 @@ use Rattle.sw_parse_table.specs.Values.{expression, callee_of, namespaced}
 use Rattle.sw_convert_written.specs.Expressions.{expr_text, with_commas, ends_in_url, argument_text}
 use Rattle.sw_convert_again.specs.Tokens.{Tok, tok, Old}
 use Rattle.sw_convert_again.specs.Tokens as again
-use Rattle.sw_convert_again.specs.Spells.{from_start, is_named, without_named, undollared, call_tokens, Spells, SpellsWord, SpellsPlain, SpellsLinks, SpellsItems, SpellsCommas, SpellsPairs, SpellsSigns, SpellsArgument, SpellsMore, SpellsArguments, SpellsPieces, SpellsRow, unlisted, no_links, more_links, no_items, more_items, no_commas, more_commas, no_pairs, more_pairs, no_signs, more_signs, within, paren}
+use Rattle.sw_convert_again.specs.Spells.{call_tokens, SpellsWord, paren}
 use Rattle.sw_convert_again.specs.Spells as spells
 use Rattle.sw_convert_tokens.specs.Written.{AsValue, WrittenAs}
 use Rattle.sw_convert_tokens.specs.Values.{WasRead}

@@ -3,6 +3,7 @@ mod Shapes
 mod Firsts
 mod UrlCalls
 pub mod Starts
+pub mod Stops
 mod ReservedWords
 mod Reserved
 mod Called

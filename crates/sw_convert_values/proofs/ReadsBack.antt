@@ -95,11 +95,11 @@ module _ (written : Source) (value : List ℕ) (tokens : List Tok) (are : Writte
       (let a = ap length lexemes in let z : 0 + length (toks segment.joints) ≡ length written.lexemes.now = omega (arith, a, count) in z))
 
 pub expressions_read_back : ExpressionsReadBack
-expressions_read_back source written levels i j value was singles led reads text =
+expressions_read_back source written levels i j value was singles led ended reads text =
     let again = values_again source written levels i j (Values value ∷ []) reads in
     let same = same_value value again.value again.is in
     let are = subst (λ (e : Expr). WrittenAs AsRow (expr_text e) again.tokens) (sym same)
-    (values_written source was singles i j again.value again.tokens led again.spells) in
+    (values_written source was singles i j again.value again.tokens led ended again.spells) in
     let found = again.back 0 (length written.lexemes.now) (stand written (expr_text value) again.tokens are text) in record {
       found = found.found;
       reads = found.reads;

@@ -121,10 +121,3 @@ free_sort source i old it free =
     ap (λ (t : Terminal). fits t (sort_of it.kind it.text)) (sym (only_word old.lexeme.terminal old.kind)) ∙ it.fit in
     name_reserved it.kind it.text (kind_of_name it.kind it.text n)
     (ap (λ (t : List ℕ). is_reserved (word_sort t)) (sym (copied_bytes source i old.lexeme it n)) ∙ free)
-
-pub reserved_bytes : (source : Source) (i : ℕ) (old : Old source i (just terminals.Word))
-    (it : OldToken source i old.lexeme) → is_reserved (sort_of it.kind it.text) ≡ true
-    → is_reserved (word_sort (bytes_at source i)) ≡ true
-reserved_bytes source i old it r =
-    by_test (is_reserved (word_sort (bytes_at source i)) ≡ true) (is_reserved (word_sort (bytes_at source i))) (λ t. t)
-    (λ t. absurd (let wrong : true ≡ false = sym r ∙ free_sort source i old it t in cc))

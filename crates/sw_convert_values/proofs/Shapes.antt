@@ -25,13 +25,14 @@ use Rattle.sw_parse_terminals.specs.declared.terminal.Terminal.{Terminal}
 use Rattle.sw_parse_terminals.specs.declared.terminal.Terminal.TheVariants as terminals
 use Rattle.sw_parse_table.specs.Operators.{operator_of}
 use Rattle.sw_parse_table.specs.Values.{expression, in_parens_by, in_parens, in_brackets_by, in_brackets}
+use Rattle.sw_convert_spelling.specs.Strings.{escaped}
 use Rattle.sw_convert_written.specs.declared.manner.Manner.TheVariants as manners
 use Rattle.sw_convert_written.specs.Pieces.{Written, piece_text, pieces_text}
 use Rattle.sw_convert_written.specs.Expressions.{kind_shown, expr_text, is_divide, items_text, list_text, quoted_text, is_url, ends_in_url, piece_written}
 use Rattle.sw_convert_written.proofs.Unrolled as unrolled
 use Rattle.sw_convert_again.specs.Tokens.{Tok}
+use Rattle.sw_convert_again.specs.Spells.{is_empty}
 use Rattle.sw_convert_tokens.specs.Written.{AsValue, AsRow, WrittenAs}
-use Rattle.sw_convert_values.specs.Values.{is_text}
 use Rattle.sw_convert_tokens.proofs.Between.{is_binary}
 use Rattle.sw_convert_tokens.proofs.Variables.{Begins}
 
@@ -113,9 +114,13 @@ pub quoted_is : (span : Span) (texts : List Piece)
     ≡ codes "\"" ++ (pieces_text manners.Quoted (map piece_written texts) ++ codes "\"")
 quoted_is span texts = unrolled.quoted_is (Mixed texts) ∙ ap quoted_text (unrolled.mixed_is texts)
 
-pub text_some : (text : List ℕ) → is_text text ≡ true → 0 < length text
+pub text_some : (text : List ℕ) → is_empty text ≡ false → 0 < length text
 text_some [] e = absurd (cc)
 text_some (b ∷ text) e = omega arith
+
+pub text_none : (text : List ℕ) → is_empty text ≡ true → escaped text ≡ []
+text_none [] e = refl
+text_none (b ∷ text) e = absurd (cc)
 
 -- ---- operators
 

@@ -1,5 +1,5 @@
 -- Single values, and values that are lists or not.
-use Rattle.std.proofs.Common.{◌≡◌, ◌⊎◌, ℕ, suc, true, false, not, List, [], ◌∷◌, inl, inr, refl, sym, ◌∙◌, ap}
+use Rattle.std.proofs.Common.{◌≡◌, ◌⊎◌, ℕ, suc, true, false, List, [], ◌∷◌, inl, inr, refl, sym, ◌∙◌, ap}
 use Rattle.sw_text.specs.declared.place.Span.{Span}
 use Rattle.sw_tree.specs.declared.text.Parts.{Parts}
 use Rattle.sw_tree.specs.declared.expr.Expr.{Expr}
@@ -8,11 +8,10 @@ use Rattle.sw_parse_terminals.specs.declared.terminal.Terminal.TheVariants as te
 use Rattle.sw_parse_terminals.specs.Numbers.{just}
 use Rattle.sw_parse_lexemes.specs.Classes.{is_reserved}
 use Rattle.sw_parse_lexemes.specs.Sorts.{sort_of}
-use Rattle.sw_parse_lexemes.specs.Words.{word_sort}
 use Rattle.sw_parse_table.specs.declared.source.Source.{Source}
 use Rattle.sw_parse_table.specs.Operators.{constant_of, constant_in, constant_at}
 use Rattle.sw_parse_table.specs.Sets.{constants}
-use Rattle.sw_parse_table.specs.Sources.{bytes_at, parts_between}
+use Rattle.sw_parse_table.specs.Sources.{parts_between}
 use Rattle.sw_parse_table.specs.Values.{expression}
 use Rattle.sw_convert_written.specs.Signs.{constant_text}
 use Rattle.sw_convert_written.specs.Expressions.{expr_text}
@@ -24,15 +23,15 @@ use Rattle.sw_convert_again.specs.Spells.{from_start, Spells, SpellsWord}
 use Rattle.sw_convert_again.specs.Spells as spells
 use Rattle.sw_convert_tokens.specs.Written.{AsValue, AsRow, WrittenAs}
 use Rattle.sw_convert_tokens.specs.Values.{WasRead, IsValueWritten}
-use Rattle.sw_convert_values.specs.Values.{is_led, is_single, SinglesAreWritten}
-use Rattle.sw_convert_spelling.proofs.Choices.{by_test, both}
+use Rattle.sw_convert_values.specs.Values.{is_led, goes_on, is_single, SinglesAreWritten}
+use Rattle.sw_convert_spelling.proofs.Choices.{by_test}
 use Rattle.sw_convert_texts.specs.Inserted.{WordHasValues}
 use Rattle.sw_convert_texts.specs.Names.{is_mixed}
 use Rattle.sw_convert_texts.proofs.WordsWithValues.{words_written as mixed_words_written}
 use Rattle.sw_convert_tokens.proofs.Rows.{row_of}
 use Rattle.sw_convert_tokens.proofs.Words.{word_written}
 use Rattle.sw_convert_tokens.proofs.Olds.{old_token}
-use Rattle.sw_convert_values.proofs.Reserved.{reserved_goes_on, reserved_bytes}
+use Rattle.sw_convert_values.proofs.Reserved.{reserved_goes_on}
 use Rattle.sw_convert_values.proofs.Shapes.{same}
 
 pub unsigned : {source : Source} {i : ℕ} {text : List ℕ} {tokens : List Tok} → WrittenAs (AsValue false) text tokens
@@ -68,20 +67,18 @@ plain_in value bare (inr (e, it)) = absurd (cc)
 -- ---- what is asked for, and words
 
 module _ (source : Source) (was : WasRead source) (known : SinglesAreWritten source) where
-  pub single : {i j : ℕ} {value : Expr} {tokens : List Tok} → is_led source i ≡ false
+  pub single : {i j : ℕ} {value : Expr} {tokens : List Tok} → is_led source i ≡ false → goes_on source j ≡ false
       → (spelt : Spells source i j value tokens) → is_single spelt ≡ true → IsValueWritten source i (expr_text value) tokens
-  single {i} {j} {value} {tokens} led spelt e = unsigned (known i j value tokens spelt led e)
+  single {i} {j} {value} {tokens} led ended spelt e = unsigned (known i j value tokens spelt led ended e)
 
   -- a name by itself
-  pub name_in : {i : ℕ} → is_led source i ≡ false → (span : Span) (old : Old source i (just terminals.Word))
+  pub name_in : {i : ℕ} → is_led source i ≡ false → goes_on source (suc i) ≡ false → (span : Span) (old : Old source i (just terminals.Word))
       → IsValueWritten source i (expr_text (expression (exprs.Word (parts_between source i (suc i) [])) span))
       (tok terminals.Word (from_start source i [] 1) ∷ [])
-  name_in {i} led span old =
+  name_in {i} led ended span old =
       let it = old_token source was i old.lexeme old.there in
       by_test (IsValueWritten source _ _ _) (is_reserved (sort_of it.kind it.text))
-      (λ e. single led (spells.word span (spells.named old spells.row_end))
-      (both (is_reserved (word_sort (bytes_at source i))) _ (reserved_bytes source i old it e)
-      (reserved_goes_on source was i led old it e)))
+      (λ e. absurd (let wrong : true ≡ false = sym (reserved_goes_on source was i led old it e) ∙ ended in cc))
       (λ e. unsigned (word_written source i span old it e))
 
   -- a word with `#{}`

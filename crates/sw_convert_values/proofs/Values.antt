@@ -37,13 +37,13 @@ use Rattle.sw_convert_written.specs.Signs.{operator_text, sign_text}
 use Rattle.sw_convert_written.specs.Expressions.{ShownLink, expr_text, expr_shown, link_shown, links_text, is_quotient, is_divide, is_number, items_behind, signs_text, pair_text, with_commas, quoted_text, of_argument, argument_text, piece_written}
 use Rattle.sw_convert_written.proofs.Unrolled as unrolled
 use Rattle.sw_convert_passing.specs.Standing.{is_prefix_sign, is_number_sign}
-use Rattle.sw_convert_again.specs.Tokens.{Tok, tok, Old}
+use Rattle.sw_convert_again.specs.Tokens.{Tok, tok}
 use Rattle.sw_convert_again.specs.Tokens as again
-use Rattle.sw_convert_again.specs.Spells.{from_start, is_named, without_named, undollared, call_tokens, Spells, SpellsWord, SpellsPlain, SpellsLinks, SpellsItems, SpellsCommas, SpellsPairs, SpellsSigns, SpellsArgument, SpellsMore, SpellsArguments, SpellsPieces, SpellsRow, unlisted, no_links, more_links, no_items, more_items, no_commas, more_commas, no_pairs, more_pairs, no_signs, more_signs, within, paren}
+use Rattle.sw_convert_again.specs.Spells.{undollared, Spells, SpellsWord, SpellsPlain, SpellsLinks, SpellsItems, SpellsCommas, SpellsPairs, SpellsSigns, SpellsArgument, SpellsMore, SpellsArguments, SpellsPieces, SpellsRow, unlisted, no_links, more_links, no_items, more_items, no_commas, more_commas, no_pairs, more_pairs, no_signs, more_signs, within, paren}
 use Rattle.sw_convert_again.specs.Spells as spells
 use Rattle.sw_convert_tokens.specs.Written.{AsValue, AsRow, WrittenAs}
 use Rattle.sw_convert_tokens.specs.Values.{WasRead, IsValueWritten}
-use Rattle.sw_convert_values.specs.Values.{is_led, is_called, is_url_called, has_arguments, is_text, are_some, SinglesAreWritten, ValuesAreWritten, PlainsAreWritten}
+use Rattle.sw_convert_values.specs.Values.{is_led, goes_on, is_called, is_url_called, has_arguments, SinglesAreWritten, ValuesAreWritten, PlainsAreWritten}
 use Rattle.sw_convert_tokens.proofs.Ends.{bare_list, no_sign_behind}
 use Rattle.sw_convert_tokens.proofs.Signs.{Fits}
 use Rattle.sw_convert_tokens.proofs.Unclosed.{slash_ends, unclosed_behind}
@@ -65,8 +65,9 @@ use Rattle.sw_convert_tokens.proofs.Rows.{row_of, comma_written, comma_ended, co
 use Rattle.sw_convert_tokens.proofs.Leaves.{constant_by, constant_written, parent_written, important_written, quoted_written}
 use Rattle.sw_convert_tokens.proofs.Ranges.{range_written}
 use Rattle.sw_convert_tokens.proofs.Decodings.{decoded_there}
-use Rattle.sw_convert_values.proofs.Shapes.{same, same_row, stays_as, list_around, bare_text, pieces_more, quoted_is, text_some, is_divided, again_behind, three, tokens_behind, parens_text, brackets_text}
+use Rattle.sw_convert_values.proofs.Shapes.{same, same_row, stays_as, list_around, bare_text, pieces_more, quoted_is, text_some, text_none, is_divided, again_behind, three, tokens_behind, parens_text, brackets_text}
 use Rattle.sw_convert_values.proofs.Starts.{is_clear, behind_old, behind_operator, behind_value, behind_signs}
+use Rattle.sw_convert_values.proofs.Stops.{before_old, before_links, before_items, before_commas, before_pairs, before_more, before_end}
 use Rattle.sw_convert_values.proofs.Called.{called_in, owned_in, arguments_as, named_text}
 use Rattle.sw_convert_values.proofs.Single.{unsigned, retold, constant_is, Either, row_in, plain_in, single, name_in, mixed_in}
 use Rattle.sw_convert_values.proofs.Firsts.{value_begun, IsBegun, begun_more}
@@ -78,34 +79,32 @@ module _ (source : Source) (was : WasRead source) (known : SinglesAreWritten sou
   IsWritten = IsValueWritten source
 
   mutual
-    either : {i j : ℕ} {value : Expr} {tokens : List Tok} → is_led source i ≡ false → Spells source i j value tokens
-        → Either source i value tokens
-    either led (spells.number {i} {j} number span e old) = inl (unsigned (numbers_written source i j number span was e old))
-    either led (spells.quoted {i} span old) =
+    either : {i j : ℕ} {value : Expr} {tokens : List Tok} → is_led source i ≡ false → goes_on source j ≡ false
+        → Spells source i j value tokens → Either source i value tokens
+    either led ended (spells.number {i} {j} number span e old) = inl (unsigned (numbers_written source i j number span was e old))
+    either led ended (spells.quoted {i} span old) =
         inl (unsigned (same
         (sym (unrolled.quoted_is (PlainParts (decoded_at source i)) ∙ ap quoted_text (unrolled.plain_is (decoded_at source i)))) refl
         (quoted_written (decoded_at source i) (decoded_there source was i))))
-    either led (spells.template {texts = texts} span opens inner close) =
-        inl (by_test (IsWritten _ _ _) (are_some inner)
-        (λ e. unsigned (same (sym (quoted_is span texts)) refl
-        (template_written (pieces_in false (λ t. absurd (cc)) inner e) (begun_in source was opens inner close))))
-        (λ e. single source was known led (spells.template span opens inner close) (ap not e)))
-    either led (spells.hash {i} span one two) =
+    either led ended (spells.template {texts = texts} span opens inner close) =
+        inl (unsigned (same (sym (quoted_is span texts)) refl
+        (template_written (pieces_in false (λ t. absurd (cc)) inner) (begun_in source was opens inner close))))
+    either led ended (spells.hash {i} span one two) =
         inl (unsigned (same (sym (unrolled.hash_is (bytes_between source i (suc (suc i))))) refl (hash_written source was i one two)))
-    either led (spells.constant span old) =
+    either led ended (spells.constant span old) =
         inl (unsigned (same (sym (constant_is old span)) refl
         (constant_written (constant_by old.lexeme.terminal old.kind))))
-    either led (spells.url {i} span old) =
+    either led ended (spells.url {i} span old) =
         inl (by_test (IsWritten _ _ _) (is_unbroken (bytes_at source i))
         (λ e. unsigned (urls_written source i span was old e))
-        (λ e. single source was known led (spells.url span old) (ap not e)))
-    either led (spells.url_template span opens inner close) =
-        inl (single source was known led (spells.url_template span opens inner close) refl)
-    either led (spells.special span name opens inner close) =
-        inl (single source was known led (spells.special span name opens inner close) refl)
-    either led (spells.stays_number {i} span old) =
+        (λ e. single source was known led ended (spells.url span old) (ap not e)))
+    either led ended (spells.url_template span opens inner close) =
+        inl (single source was known led ended (spells.url_template span opens inner close) refl)
+    either led ended (spells.special span name opens inner close) =
+        inl (single source was known led ended (spells.special span name opens inner close) refl)
+    either led ended (spells.stays_number {i} span old) =
         inl (unsigned (same (sym (stays_as (bytes_between source i (suc i)) span)) refl (number_kept source was i old)))
-    either led (spells.stays_signed {i} span one two) = inl (by_sign (sign_bytes source was i one))
+    either led ended (spells.stays_signed {i} span one two) = inl (by_sign (sign_bytes source was i one))
       where
         by_sign : (bytes_at source i ≡ codes "+") ⊎ (bytes_at source i ≡ codes "-")
             → IsWritten i (expr_text (expression (exprs.Special (PlainParts (bytes_between source i (suc (suc i))))) span))
@@ -121,93 +120,97 @@ module _ (source : Source) (was : WasRead source) (known : SinglesAreWritten sou
         }
         by_sign (inr e) =
             unsigned (same (sym (stays_as (bytes_between source i (suc (suc i))) span)) refl (minus_kept source was i one two e))
-    either led (spells.variable {i} span one two) =
+    either led ended (spells.variable {i} span one two) =
         inl (unsigned (same (sym (unrolled.variable_is (dashed (bytes_at source (suc i))))) refl
         (variable_written source (suc i) was two)))
-    either led (spells.owned_variable {i} span one two third four) =
+    either led ended (spells.owned_variable {i} span one two third four) =
         inl (unsigned (same (sym (unrolled.qualified_is (qualified_of source i (suc (suc (suc i)))))) refl
         (qualified_written source i was one four)))
-    either led (spells.range {i} span old) = inl (unsigned (range_written source i span was old))
-    either led (spells.word span (spells.named old spells.row_end)) = inl (name_in source was known led span old)
-    either led (spells.word span (spells.named old (spells.row_part one more))) =
+    either led ended (spells.range {i} span old) = inl (unsigned (range_written source i span was old))
+    either led ended (spells.word span (spells.named old spells.row_end)) = inl (name_in source was known led ended span old)
+    either led ended (spells.word span (spells.named old (spells.row_part one more))) =
         inl (mixed_in source was known span (spells.named old (spells.row_part one more)) refl (row_values refl more))
-    either led (spells.word span (spells.named old (spells.row_insert {value = value} opens inner close more))) =
+    either led ended (spells.word span (spells.named old (spells.row_insert {value = value} opens inner close more))) =
         inl (mixed_in source was known span (spells.named old (spells.row_insert opens inner close more)) refl
-        (row_in value (either (behind_old opens refl) inner), row_values refl more))
-    either led (spells.word span (spells.begun {value = value} opens inner close more)) =
+        (row_in value (either (behind_old opens refl) (before_old close refl) inner), row_values refl more))
+    either led ended (spells.word span (spells.begun {value = value} opens inner close more)) =
         inl (mixed_in source was known span (spells.begun opens inner close more) refl
-        (row_in value (either (behind_old opens refl) inner), row_values refl more))
-    either led (spells.word span (spells.begun_minus {value = value} minus opens inner close more)) =
+        (row_in value (either (behind_old opens refl) (before_old close refl) inner), row_values refl more))
+    either led ended (spells.word span (spells.begun_minus {value = value} minus opens inner close more)) =
         inl (mixed_in source was known span (spells.begun_minus minus opens inner close more) refl
-        (row_in value (either (behind_old opens refl) inner), row_values refl more))
-    either led (spells.call {args = args} span name_span name opens inner close) =
+        (row_in value (either (behind_old opens refl) (before_old close refl) inner), row_values refl more))
+    either led ended (spells.call {args = args} span name_span name opens inner close) =
         inl (by_test (IsWritten _ _ _) (is_called source false name)
-        (λ e. unsigned (called_in source was args span name_span led opens name e (word_values name) (arguments_in (behind_old opens refl) inner)))
+        (λ e. unsigned (called_in source was args span name_span led opens name e (word_values name) (arguments_in (behind_old opens refl) (before_old close refl) inner)))
         (λ e. by_test (IsWritten _ _ _) (is_url_called source args name)
         (λ f. unsigned (url_called_in source args
-        (url_arguments_in (behind_old opens refl) inner (has_by source args name f)) span name_span name f))
-        (λ f. single source was known led (spells.call span name_span name opens inner close)
+        (url_arguments_in (behind_old opens refl) (before_old close refl) inner (has_by source args name f)) span name_span name f))
+        (λ f. single source was known led ended (spells.call span name_span name opens inner close)
         (ap not (neither (is_called source false name) _ e f)))))
-    either led (spells.owned_call {args = args} span name_span owner dot name opens inner close) =
+    either led ended (spells.owned_call {args = args} span name_span owner dot name opens inner close) =
         inl (by_test (IsWritten _ _ _) (is_called source true name)
-        (λ e. unsigned (owned_in source was args span name_span owner name e (word_values name) (arguments_in (behind_old opens refl) inner)))
+        (λ e. unsigned (owned_in source was args span name_span owner name e (word_values name) (arguments_in (behind_old opens refl) (before_old close refl) inner)))
         (λ e. by_test (IsWritten _ _ _) (is_url_called source args name)
         (λ f. unsigned (url_owned_in source args
-        (url_arguments_in (behind_old opens refl) inner (has_by source args name f)) was span name_span owner name f))
-        (λ f. single source was known led (spells.owned_call span name_span owner dot name opens inner close)
+        (url_arguments_in (behind_old opens refl) (before_old close refl) inner (has_by source args name f)) was span name_span owner name f))
+        (λ f. single source was known led ended (spells.owned_call span name_span owner dot name opens inner close)
         (ap not (neither (is_called source true name) _ e f)))))
-    either led (spells.parent span old) = inl (unsigned (same (sym unrolled.parent_is) refl parent_written))
-    either led (spells.important span one two) = inl (unsigned (same (sym unrolled.important_is) refl important_written))
-    either led (spells.prefixed {operand = operand} first span before value) =
-        inl (retold (sym (unrolled.prefixed_is (first ∷ _) operand)) refl (signs_written before (plain (behind_signs before) value)))
-    either led (spells.chain {first = first} {links = links} link span value more) =
-        inl (let one = plain led value in
+    either led ended (spells.parent span old) = inl (unsigned (same (sym unrolled.parent_is) refl parent_written))
+    either led ended (spells.important span one two) = inl (unsigned (same (sym unrolled.important_is) refl important_written))
+    either led ended (spells.prefixed {operand = operand} first span before value) =
+        inl (retold (sym (unrolled.prefixed_is (first ∷ _) operand)) refl (signs_written before (plain (behind_signs before) ended value)))
+    either led ended (spells.chain {first = first} {links = links} link span value more) =
+        inl (let one = plain led (before_links more ended) value in
         let shown = map link_shown (link ∷ links) in
         retold (sym (unrolled.chain_is first (link ∷ links))) refl
         (record {
           signed = one.signed;
-          written = links_written (is_quotient (expr_shown first) shown) more (expr_text first) refl one.written
+          written = links_written (is_quotient (expr_shown first) shown) ended more (expr_text first) refl one.written
               (λ e. and_right (is_number (expr_shown first).sort) _ e);
           sign = one.sign;
         }))
-    either led (spells.spaced {first = first} {items = items} next span value more) =
-        inl (let one = plain led value in
+    either led ended (spells.spaced {first = first} {items = items} next span value more) =
+        inl (let one = plain led (before_items more ended) value in
         retold (sym (bare_text (first ∷ next ∷ items) separators.Space span ∙ append-nil _)) refl
         (record {
           signed = one.signed;
-          written = items_written value more (expr_text first) refl one.written;
+          written = items_written ended value more (expr_text first) refl one.written;
           sign = one.sign;
         }))
-    either led (spells.comma_one {item = item} span value old) =
+    either led ended (spells.comma_one {item = item} span value old) =
         inr (
           bare_list span (item ∷ []),
           same_row (sym (bare_text (item ∷ []) separators.Comma span
               ∙ ap (λ (t : List ℕ). t ++ codes ",") (append-nil (expr_text item)))) refl
-              (comma_ended (row_of (plain led value).written)),
+              (comma_ended (row_of (plain led (before_old old refl) value).written)),
         )
-    either led (spells.comma_more {first = first} {items = items} next span value more end) =
+    either led ended (spells.comma_more {first = first} {items = items} next span value more end) =
         inr (
           bare_list span (first ∷ next ∷ items),
           same_row (sym (bare_text (first ∷ next ∷ items) separators.Comma span ∙ append-nil _)) refl
-              (commas_written (expr_text first) more (row_of (plain led value).written)),
+              (commas_written (expr_text first) (before_end end ended) more
+              (row_of (plain led (before_commas more (before_end end ended)) value).written)),
         )
-    either led (spells.in_brackets_none span opens close) =
+    either led ended (spells.in_brackets_none span opens close) =
         inl (unsigned (same (sym (list_around [] separators.Undecided arounds.Brackets span)) refl brackets_none))
-    either led (spells.in_brackets_some {value = value} span opens inner close) =
-        inl (unsigned (same (sym (brackets_text span value)) refl (brackets_written (row_in value (either (behind_old opens refl) inner)))))
-    either led (spells.in_parens_none span opens close) =
+    either led ended (spells.in_brackets_some {value = value} span opens inner close) =
+        inl (unsigned (same (sym (brackets_text span value)) refl (brackets_written (row_in value (either (behind_old opens refl) (before_old close refl) inner)))))
+    either led ended (spells.in_parens_none span opens close) =
         inl (unsigned (same (sym (list_around [] separators.Undecided arounds.Parens span)) refl parens_none))
-    either led (spells.in_parens_some {value = value} span opens inner close) =
-        inl (unsigned (same (sym (parens_text span value)) refl (parens_written (row_in value (either (behind_old opens refl) inner)))))
-    either led (spells.map {key = key} {value = value} {pairs = pairs} {tokens = tokens} {others = others} {more = more_tokens} span opens one colon two more end close) =
+    either led ended (spells.in_parens_some {value = value} span opens inner close) =
+        inl (unsigned (same (sym (parens_text span value)) refl (parens_written (row_in value (either (behind_old opens refl) (before_old close refl) inner)))))
+    either led ended (spells.map {key = key} {value = value} {pairs = pairs} {tokens = tokens} {others = others} {more = more_tokens} span opens one colon two more end close) =
         inl (unsigned (same (sym (unrolled.map_is (record { key = key; value = value } ∷ pairs)))
         (ap (λ (t : List Tok). within paren t terminals.ParenEnd)
         (tokens_behind tokens (again.sign terminals.Colon) others more_tokens))
-        (parens_written (pairs_written more (colon_written (row_of (plain (behind_old opens refl) one).written) (plain (behind_old colon refl) two).written)))))
+        (parens_written
+        (pairs_written (before_end end (before_old close refl)) more
+        (colon_written (row_of (plain (behind_old opens refl) (before_old colon refl) one).written)
+        (plain (behind_old colon refl) (before_pairs more (before_end end (before_old close refl))) two).written)))))
 
-    plain : {i j : ℕ} {value : Expr} {tokens : List Tok} → is_led source i ≡ false → SpellsPlain source i j value tokens
-        → IsWritten i (expr_text value) tokens
-    plain led (unlisted {value = value} bare spelt) = plain_in value bare (either led spelt)
+    plain : {i j : ℕ} {value : Expr} {tokens : List Tok} → is_led source i ≡ false → goes_on source j ≡ false
+        → SpellsPlain source i j value tokens → IsWritten i (expr_text value) tokens
+    plain led ended (unlisted {value = value} bare spelt) = plain_in value bare (either led ended spelt)
 
     -- signs before an operand
     signs_written : {i k : ℕ} {signs : List Sign} {tokens others : List Tok} {text : List ℕ}
@@ -227,39 +230,39 @@ module _ (source : Source) (was : WasRead source) (known : SinglesAreWritten sou
 
     -- operators, and what stands behind each
     links_written : {i j : ℕ} {links : List Link} {left : List ℕ} {ks others : List Tok} {signed : Bool} (quotient : Bool)
-        → SpellsLinks source i j links others → (last : List ℕ) → ends_unclosed left ≡ ends_unclosed last
+        → goes_on source j ≡ false → SpellsLinks source i j links others → (last : List ℕ) → ends_unclosed left ≡ ends_unclosed last
         → WrittenAs (AsValue signed) left ks
         → (quotient ≡ true
         → list_all (λ (l : ShownLink). is_divide l.operator && is_number l.operand.sort) (map link_shown links) ≡ true)
         → WrittenAs (AsValue signed) (left ++ links_text quotient last (map link_shown links)) (ks ++ others)
-    links_written {left = left} {ks = ks} quotient no_links last e it all =
+    links_written {left = left} {ks = ks} quotient ended no_links last e it all =
         same (sym (append-nil left)) (sym (append-nil ks)) it
-    links_written {left = left} {ks = ks} false
+    links_written {left = left} {ks = ks} false ended
         (more_links {i} {operand = operand} {links = links} {tokens = tokens} {others = others} precedence old value more) last
         e it all =
         let terminal = old.lexeme.terminal in
         let op = operators_are terminal (binary_by precedence terminal old.kind) in
-        let one = plain (behind_operator precedence old) value in
+        let one = plain (behind_operator precedence old) (before_links more ended) value in
         let rest = links_text false (expr_text operand) (map link_shown links) in
         same
         (again_behind left (space_behind last) (operator_text (operator_of terminal)) (expr_text operand) rest
         ∙ ap (λ (o : Operator). left ++ ((space_behind last ++ operator_text o) ++ (expr_text operand ++ rest)))
         (sym (ap operator_in old.there)))
         (tokens_behind ks (again.sign terminal) tokens others)
-        (links_written false more (expr_text operand) (unclosed_linked left last (expr_text operand) terminal op)
+        (links_written false ended more (expr_text operand) (unclosed_linked left last (expr_text operand) terminal op)
         (linked_written last terminal op e it one.written) (λ f. absurd (cc)))
-    links_written {left = left} {ks = ks} true
+    links_written {left = left} {ks = ks} true ended
         (more_links {i} {operand = operand} {links = links} {tokens = tokens} {others = others} precedence old value more) last
         e it all =
         let terminal = old.lexeme.terminal in
-        let one = plain (behind_operator precedence old) value in
+        let one = plain (behind_operator precedence old) (before_links more ended) value in
         let here = and_left (is_divide (operator_in (lexeme_at source i)) && is_number (expr_shown operand).sort) _ (all refl) in
         let is : terminal ≡ terminals.Divide = is_divided terminal (binary_by precedence terminal old.kind)
         (ap (λ (o : Operator). is_divide o) (sym (ap operator_in old.there)) ∙ and_left (is_divide (operator_in (lexeme_at source i))) _ here) in
         same (three left (codes "/") (expr_text operand) (links_text true (expr_text operand) (map link_shown links)))
         (tokens_behind ks (again.sign terminals.Divide) tokens others
         ∙ ap (λ (t : Terminal). ks ++ again.sign t ∷ (tokens ++ others)) (sym is))
-        (links_written true more (expr_text operand) (unclosed_behind left (expr_text operand) (sign "/") slash_ends)
+        (links_written true ended more (expr_text operand) (unclosed_behind left (expr_text operand) (sign "/") slash_ends)
         (divided_written it one.written (begun value (and_right (is_divide (operator_in (lexeme_at source i))) _ here)))
         (λ f. and_right (is_divide (operator_in (lexeme_at source i)) && is_number (expr_shown operand).sort) _ (all refl)))
       where
@@ -269,16 +272,16 @@ module _ (source : Source) (was : WasRead source) (known : SinglesAreWritten sou
 
     -- items with spaces between them, the first of which stands behind another one
     items_written : {i k j : ℕ} {before : Expr} {bs ks others : List Tok} {items : List Expr} {left : List ℕ} {signed : Bool}
-        → SpellsPlain source i k before bs → SpellsItems source k j items others → (last : List ℕ)
+        → goes_on source j ≡ false → SpellsPlain source i k before bs → SpellsItems source k j items others → (last : List ℕ)
         → ends_unclosed left ≡ ends_unclosed last → WrittenAs (AsValue signed) left ks
         → WrittenAs (AsValue signed) (left ++ items_behind separators.Space false last (map expr_text items)) (ks ++ others)
-    items_written {ks = ks} {left = left} previous no_items last e it = same (sym (append-nil left)) (sym (append-nil ks)) it
-    items_written {ks = ks} {left = left} previous
+    items_written {ks = ks} {left = left} ended previous no_items last e it = same (sym (append-nil left)) (sym (append-nil ks)) it
+    items_written {ks = ks} {left = left} ended previous
         (more_items {item = item} {items = items} {tokens = tokens} {others = others} value more) last e it =
-        let one = plain (behind_value previous) value in
+        let one = plain (behind_value previous) (before_items more ended) value in
         same (three left (space_behind last) (expr_text item) (items_behind separators.Space false (expr_text item) (map expr_text items)))
         (append_assoc ks tokens others)
-        (items_written value more (expr_text item) (unclosed_spaced left (expr_text item) (ends_unclosed last))
+        (items_written ended value more (expr_text item) (unclosed_spaced left (expr_text item) (ends_unclosed last))
         (beside_written last e it (calm previous value one refl)))
       where
         calm : {i k j : ℕ} {before item : Expr} {bs tokens : List Tok} → SpellsPlain source i k before bs
@@ -292,21 +295,22 @@ module _ (source : Source) (was : WasRead source) (known : SinglesAreWritten sou
 
     -- items with commas between them
     commas_written : {k j : ℕ} {ks others : List Tok} {items : List Expr} {left : List ℕ} (before : List ℕ)
-        → SpellsCommas source k j items others → WrittenAs AsRow left ks
+        → goes_on source j ≡ false → SpellsCommas source k j items others → WrittenAs AsRow left ks
         → WrittenAs AsRow (left ++ items_behind separators.Comma false before (map expr_text items)) (ks ++ others)
-    commas_written {ks = ks} {left = left} before no_commas it = same_row (sym (append-nil left)) (sym (append-nil ks)) it
-    commas_written {ks = ks} {left = left} before
+    commas_written {ks = ks} {left = left} before ended no_commas it = same_row (sym (append-nil left)) (sym (append-nil ks)) it
+    commas_written {ks = ks} {left = left} before ended
         (more_commas {item = item} {items = items} {tokens = tokens} {others = others} old value more) it =
         same_row (three left (codes ", ") (expr_text item) (items_behind separators.Comma false (expr_text item) (map expr_text items)))
         (tokens_behind ks (again.sign terminals.Comma) tokens others)
-        (commas_written (expr_text item) more (comma_written it (plain (behind_old old refl) value).written))
+        (commas_written (expr_text item) ended more
+        (comma_written it (plain (behind_old old refl) (before_commas more ended) value).written))
 
     -- keys and values
     pairs_written : {k j : ℕ} {ks others : List Tok} {pairs : List Pair} {left : List ℕ}
-        → SpellsPairs source k j pairs others → WrittenAs AsRow left ks
+        → goes_on source j ≡ false → SpellsPairs source k j pairs others → WrittenAs AsRow left ks
         → WrittenAs AsRow (left ++ with_commas false (map pair_text pairs)) (ks ++ others)
-    pairs_written {ks = ks} {left = left} no_pairs it = same_row (sym (append-nil left)) (sym (append-nil ks)) it
-    pairs_written {ks = ks} {left = left}
+    pairs_written {ks = ks} {left = left} ended no_pairs it = same_row (sym (append-nil left)) (sym (append-nil ks)) it
+    pairs_written {ks = ks} {left = left} ended
         (more_pairs {key = key} {value = value} {pairs = pairs} {tokens = tokens} {others = others} {more = more} comma one
         colon two further) it =
         let rest = with_commas false (map pair_text pairs) in
@@ -316,7 +320,9 @@ module _ (source : Source) (was : WasRead source) (known : SinglesAreWritten sou
         ∙ ap (λ (t : List ℕ). left ++ (codes ", " ++ t)) (sym (append_assoc (expr_text key) (codes ": " ++ expr_text value) rest)))
         (append_assoc (ks ++ again.sign terminals.Comma ∷ tokens) (again.sign terminals.Colon ∷ others) more
         ∙ tokens_behind ks (again.sign terminals.Comma) tokens (again.sign terminals.Colon ∷ (others ++ more)))
-        (pairs_written further (colon_written (comma_written it (plain (behind_old comma refl) one).written) (plain (behind_old colon refl) two).written))
+        (pairs_written ended further
+        (colon_written (comma_written it (plain (behind_old comma refl) (before_old colon refl) one).written)
+        (plain (behind_old colon refl) (before_pairs further ended) two).written))
 
     -- values in words
     row_values : {part opening : Terminal} {extra i j count : ℕ} {inserts : List Part} {tokens : List Tok}
@@ -325,112 +331,127 @@ module _ (source : Source) (was : WasRead source) (known : SinglesAreWritten sou
     row_values c spells.row_end = tt
     row_values c (spells.row_part old row) = row_values c row
     row_values c (spells.row_insert {value = value} opens inner close row) =
-        (row_in value (either (behind_old opens c) inner), row_values c row)
+        (row_in value (either (behind_old opens c) (before_old close refl) inner), row_values c row)
 
     word_values : {i j : ℕ} {parts : Parts} {tokens : List Tok} → (word : SpellsWord source i j parts tokens)
         → WordHasValues word
     word_values (spells.named old row) = row_values refl row
-    word_values (spells.begun {value = value} opens inner close row) = (row_in value (either (behind_old opens refl) inner), row_values refl row)
+    word_values (spells.begun {value = value} opens inner close row) = (row_in value (either (behind_old opens refl) (before_old close refl) inner), row_values refl row)
     word_values (spells.begun_minus {value = value} minus opens inner close row) =
-        (row_in value (either (behind_old opens refl) inner), row_values refl row)
+        (row_in value (either (behind_old opens refl) (before_old close refl) inner), row_values refl row)
 
     -- text and values in a string, behind a text or not
     pieces_in : (behind : Bool) → {i j : ℕ} {texts : List Piece} {tokens : List Tok} → (behind ≡ true → TextBefore source i)
-        → (it : SpellsPieces source i j texts tokens) → are_some it ≡ true
+        → SpellsPieces source i j texts tokens
         → IsText behind (pieces_text manners.Quoted (map piece_written texts)) tokens
-    pieces_in behind before spells.no_pieces e = nothing_more behind
-    pieces_in behind before (spells.text_piece {i} {texts = texts} {tokens = tokens} old more) e =
+    pieces_in behind before spells.no_pieces = nothing_more behind
+    pieces_in behind before (spells.text_piece {i} {texts = texts} {tokens = tokens} old some more) =
         let said = decoded_at source i in
         subst (λ (t : List ℕ). IsText behind t (tok terminals.TextPiece (again.Decoded said) ∷ tokens))
         (sym (pieces_more (pieces.Text said) texts
         ∙ ap (λ (w : Written). piece_text manners.Quoted w ++ pieces_text manners.Quoted (map piece_written texts)) (unrolled.said_is said)))
         (text_more behind (text_alone source was i old behind before) said (decoded_there source was i)
-        (text_some said (and_left (is_text said) _ e))
-        (pieces_in true (λ t. text_before i old) more (and_right (is_text said) _ e)))
+        (text_some said some)
+        (pieces_in true (λ t. text_before i old) more))
+    pieces_in behind before (spells.empty_piece {i} {texts = texts} {tokens = tokens} old none more) =
+        let said = decoded_at source i in
+        subst (λ (b : Bool). IsText b (pieces_text manners.Quoted (map piece_written (pieces.Text said ∷ texts))) tokens)
+        (sym (text_alone source was i old behind before))
+        (subst (λ (t : List ℕ). IsText false t tokens)
+        (sym (pieces_more (pieces.Text said) texts
+        ∙ ap (λ (w : Written). piece_text manners.Quoted w ++ pieces_text manners.Quoted (map piece_written texts)) (unrolled.said_is said)
+        ∙ ap (λ (t : List ℕ). t ++ pieces_text manners.Quoted (map piece_written texts)) (text_none said none)))
+        (pieces_in false (λ t. absurd (cc)) more))
     pieces_in behind before
-        (spells.inserted_piece {value = value} {texts = texts} {tokens = tokens} {others = others} opens inner closes more) e =
+        (spells.inserted_piece {value = value} {texts = texts} {tokens = tokens} {others = others} opens inner closes more) =
         subst (λ (t : List ℕ). IsText behind t (again.sign terminals.Insert ∷ (tokens ++ again.sign terminals.InsertEnd ∷ others)))
         (sym (pieces_more (pieces.Inserted value) texts
         ∙ ap (λ (w : Written). piece_text manners.Quoted w ++ pieces_text manners.Quoted (map piece_written texts)) (unrolled.inserted_is value)))
-        (insert_more behind (row_in value (either (behind_old opens refl) inner)) (pieces_in false (λ t. absurd (cc)) more e))
+        (insert_more behind (row_in value (either (behind_old opens refl) (before_old closes refl) inner)) (pieces_in false (λ t. absurd (cc)) more))
 
     -- arguments
-    argument_in : {i j : ℕ} {arg : Argument} {tokens : List Tok} → is_led source i ≡ false
+    argument_in : {i j : ℕ} {arg : Argument} {tokens : List Tok} → is_led source i ≡ false → goes_on source j ≡ false
         → SpellsArgument source i j arg tokens
         → AreArguments false (argument_text arg) tokens
-    argument_in led (spells.named_argument {i} {value = inner} dollar name colon value) =
+    argument_in led ended (spells.named_argument {i} {value = inner} dollar name colon value) =
         let said = dollar_name (dashed (bytes_at source (suc i))) in
         arguments_as (named_text said (expr_text inner)) refl
-        (colon_argument (first_argument (name_argument false source (suc i) was name)) (value_argument true (plain (behind_old colon refl) value).written))
-    argument_in led (spells.placed_argument {value = inner} value) =
-        arguments_as (sym (append-nil (expr_text inner))) refl (first_argument (placed_argument false (plain led value).written))
-    argument_in led (spells.spread_argument {value = inner} value dots) = dots_behind (first_argument (placed_argument false (plain led value).written))
+        (colon_argument (first_argument (name_argument false source (suc i) was name)) (value_argument true (plain (behind_old colon refl) ended value).written))
+    argument_in led ended (spells.placed_argument {value = inner} value) =
+        arguments_as (sym (append-nil (expr_text inner))) refl (first_argument (placed_argument false (plain led ended value).written))
+    argument_in led ended (spells.spread_argument {value = inner} value dots) =
+        dots_behind (first_argument (placed_argument false (plain led (before_old dots refl) value).written))
 
     argument_behind : {i j : ℕ} {arg : Argument} {ks tokens : List Tok} {left : List ℕ}
         {before : Before} {spaced : Bool}
-        → is_led source i ≡ false → SpellsArgument source i j arg tokens → ArgumentsBehind before spaced false left ks
+        → is_led source i ≡ false → goes_on source j ≡ false → SpellsArgument source i j arg tokens
+        → ArgumentsBehind before spaced false left ks
         → ArgumentsBehind before spaced false (left ++ (codes ", " ++ argument_text arg))
         (ks ++ again.sign terminals.Comma ∷ tokens)
-    argument_behind {ks = ks} {left = left} led (spells.named_argument {i} {value = inner} {tokens = tokens} dollar name colon value) it =
+    argument_behind {ks = ks} {left = left} led ended (spells.named_argument {i} {value = inner} {tokens = tokens} dollar name colon value) it =
         let said = dollar_name (dashed (bytes_at source (suc i))) in
         arguments_as
         (three left (codes ", ") said (codes ": " ++ expr_text inner)
         ∙ ap (λ (t : List ℕ). left ++ (codes ", " ++ t)) (named_text said (expr_text inner)))
         (append_assoc ks (again.sign terminals.Comma ∷ again.sign terminals.DollarNamed
         ∷ tok terminals.VariableName (again.Dashed (dashed (bytes_at source (suc i)))) ∷ []) (again.sign terminals.Colon ∷ tokens))
-        (colon_argument (further_argument it (name_argument true source (suc i) was name)) (value_argument true (plain (behind_old colon refl) value).written))
-    argument_behind {left = left} led (spells.placed_argument {value = inner} value) it =
+        (colon_argument (further_argument it (name_argument true source (suc i) was name)) (value_argument true (plain (behind_old colon refl) ended value).written))
+    argument_behind {left = left} led ended (spells.placed_argument {value = inner} value) it =
         arguments_as (ap (λ (t : List ℕ). left ++ (codes ", " ++ t)) (sym (append-nil (expr_text inner)))) refl
-        (further_argument it (placed_argument true (plain led value).written))
-    argument_behind {ks = ks} {left = left} led (spells.spread_argument {value = inner} {tokens = tokens} value dots) it =
+        (further_argument it (placed_argument true (plain led ended value).written))
+    argument_behind {ks = ks} {left = left} led ended (spells.spread_argument {value = inner} {tokens = tokens} value dots) it =
         arguments_as (three left (codes ", ") (expr_text inner) (codes "..."))
         (tokens_behind ks (again.sign terminals.Comma) (undollared tokens) (again.sign terminals.Ellipsis ∷ []))
-        (dots_behind (further_argument it (placed_argument true (plain led value).written)))
+        (dots_behind (further_argument it (placed_argument true (plain led (before_old dots refl) value).written)))
 
     more_in : {k j : ℕ} {ks others : List Tok} {args : List Argument} {left : List ℕ} {before : Before} {spaced : Bool}
-        → SpellsMore source k j args others → ArgumentsBehind before spaced false left ks
+        → goes_on source j ≡ false → SpellsMore source k j args others → ArgumentsBehind before spaced false left ks
         → ArgumentsBehind before spaced false (left ++ with_commas false (map argument_text args)) (ks ++ others)
-    more_in {ks = ks} {left = left} spells.no_more it = arguments_as (sym (append-nil left)) (sym (append-nil ks)) it
-    more_in {ks = ks} {left = left}
+    more_in {ks = ks} {left = left} ended spells.no_more it = arguments_as (sym (append-nil left)) (sym (append-nil ks)) it
+    more_in {ks = ks} {left = left} ended
         (spells.more {arg = arg} {args = args} {tokens = tokens} {others = others} comma one rest) it =
         arguments_as (three left (codes ", ") (argument_text arg) (with_commas false (map argument_text args)))
         (tokens_behind ks (again.sign terminals.Comma) tokens others)
-        (more_in rest (argument_behind (behind_old comma refl) one it))
+        (more_in ended rest (argument_behind (behind_old comma refl) (before_more rest ended) one it))
 
-    arguments_in : {i j : ℕ} {args : List Argument} {tokens : List Tok} → is_led source i ≡ false → SpellsArguments source i j args tokens
+    arguments_in : {i j : ℕ} {args : List Argument} {tokens : List Tok} → is_led source i ≡ false → goes_on source j ≡ false
+        → SpellsArguments source i j args tokens
         → IsItems (with_commas true (map argument_text args)) tokens
-    arguments_in led spells.no_arguments = no_arguments_written
-    arguments_in led (spells.arguments one rest end) =
-        arguments_written (more_in rest (argument_in led one))
+    arguments_in led ended spells.no_arguments = no_arguments_written
+    arguments_in led ended (spells.arguments one rest end) =
+        let stop = before_end end ended in
+        arguments_written (more_in stop rest (argument_in led (before_more rest stop) one))
 
     -- the first behind a comment, and all of a url
-    guarded_in : {i j : ℕ} {arg : Argument} {tokens : List Tok} → is_led source i ≡ false → SpellsArgument source i j arg tokens
+    guarded_in : {i j : ℕ} {arg : Argument} {tokens : List Tok} → is_led source i ≡ false → goes_on source j ≡ false
+        → SpellsArgument source i j arg tokens
         → (of_argument arg).opaque ≡ false
         → IsBegun (argument_text arg) × ArgumentsBehind befores.White true false (argument_text arg) tokens
-    guarded_in led (spells.named_argument dollar name colon value) o = absurd (cc)
-    guarded_in led (spells.placed_argument {value = inner} value) o =
-        let it = (plain led value).written in (
+    guarded_in led ended (spells.named_argument dollar name colon value) o = absurd (cc)
+    guarded_in led ended (spells.placed_argument {value = inner} value) o =
+        let it = (plain led ended value).written in (
           begun_more (expr_text inner) [] (value_begun it),
           arguments_as (sym (append-nil (expr_text inner))) refl (first_argument (spaced_argument befores.White it)),
         )
-    guarded_in led (spells.spread_argument {value = inner} value dots) o =
-        let it = (plain led value).written in (
+    guarded_in led ended (spells.spread_argument {value = inner} value dots) o =
+        let it = (plain led (before_old dots refl) value).written in (
           begun_more (expr_text inner) (codes "...") (value_begun it),
           dots_behind (first_argument (spaced_argument befores.White it)),
         )
 
-    url_arguments_in : {i j : ℕ} {args : List Argument} {tokens : List Tok} → is_led source i ≡ false
+    url_arguments_in : {i j : ℕ} {args : List Argument} {tokens : List Tok} → is_led source i ≡ false → goes_on source j ≡ false
         → SpellsArguments source i j args tokens → has_arguments args ≡ true → UrlArguments args tokens
-    url_arguments_in led spells.no_arguments e = absurd (cc)
-    url_arguments_in led (spells.arguments {arg = arg} {args = args} one rest end) e =
+    url_arguments_in led ended spells.no_arguments e = absurd (cc)
+    url_arguments_in led ended (spells.arguments {arg = arg} {args = args} one rest end) e =
+        let stop = before_end end ended in
         by_test (UrlArguments _ _) (of_argument arg).opaque
-        (λ o. opaque_arguments arg args o (arguments_written (more_in rest (argument_in led one))))
-        (λ o. let first = guarded_in led one o in
-        guarded_arguments arg args o first.0 (guarded_written (more_in rest first.1)))
+        (λ o. opaque_arguments arg args o (arguments_written (more_in stop rest (argument_in led (before_more rest stop) one))))
+        (λ o. let first = guarded_in led (before_more rest stop) one o in
+        guarded_arguments arg args o first.0 (guarded_written (more_in stop rest first.1)))
 
 pub values_written : ValuesAreWritten
-values_written source was known i j value tokens led spelt = row_in value (either source was known led spelt)
+values_written source was known i j value tokens led ended spelt = row_in value (either source was known led ended spelt)
 
 pub plains_written : PlainsAreWritten
-plains_written source was known i j value tokens led spelt =
-    let one = plain source was known led spelt in (one.signed, one.written)
+plains_written source was known i j value tokens led ended spelt =
+    let one = plain source was known led ended spelt in (one.signed, one.written)

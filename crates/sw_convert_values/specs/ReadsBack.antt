@@ -13,7 +13,7 @@ use Rattle.sw_convert_alike.specs.Expressions.{Like}
 use Rattle.sw_convert_written.specs.Expressions.{expr_text}
 use Rattle.sw_convert_again.specs.Again.{Reads}
 use Rattle.sw_convert_tokens.specs.Values.{WasRead}
-use Rattle.sw_convert_values.specs.Values.{is_led, SinglesAreWritten}
+use Rattle.sw_convert_values.specs.Values.{is_led, goes_on, SinglesAreWritten}
 
 -- what is read of a text as an expression: its tokens, and what the grammar sees of them
 pub record IsText (source : Source) (text : List ℕ) : Type 0 where
@@ -31,5 +31,5 @@ pub record ReadsAlike (source : Source) (levels : ℕ) (value : Expr) : Type 0 w
 abbrev pub ExpressionsReadBack : Type 0
 ExpressionsReadBack =
     (source written : Source) (levels i j : ℕ) (value : Expr) → WasRead source → SinglesAreWritten source
-    → is_led source i ≡ false → Reads source levels (expr source) i j (Values value ∷ []) → IsText written (expr_text value)
+    → is_led source i ≡ false → goes_on source j ≡ false → Reads source levels (expr source) i j (Values value ∷ []) → IsText written (expr_text value)
     → ReadsAlike written levels value

@@ -3,17 +3,16 @@ use Rattle.std.specs.Prelude.{◌≡◌, ℕ, zero, suc, Bool, true, false, if�
 use Rattle.sw_tree.specs.declared.expr.Argument.{Argument}
 use Rattle.sw_tree.specs.declared.expr.Expr.{Expr}
 use Rattle.sw_tree.specs.declared.text.Parts.{Parts}
-use Rattle.sw_tree.specs.declared.text.Piece.{Piece}
 use Rattle.sw_parse_terminals.specs.declared.terminal.Terminal.{Terminal}
 use Rattle.sw_parse_terminals.specs.declared.terminal.Terminal.TheVariants as terminals
 use Rattle.sw_parse_terminals.specs.declared.lexeme.Lexeme.{Lexeme}
 use Rattle.sw_parse_lexemes.specs.Classes.{is_reserved}
 use Rattle.sw_parse_lexemes.specs.Words.{word_sort}
 use Rattle.sw_parse_table.specs.declared.source.Source.{Source}
-use Rattle.sw_parse_table.specs.Sources.{lexeme_at, bytes_at, decoded_at}
+use Rattle.sw_parse_table.specs.Sources.{lexeme_at, bytes_at}
 use Rattle.sw_convert_written.specs.Expressions.{is_url, ends_in_url, expr_text}
 use Rattle.sw_convert_again.specs.Tokens.{Tok}
-use Rattle.sw_convert_again.specs.Spells.{Spells, SpellsPlain, SpellsWord, SpellsArgument, SpellsMore, SpellsArguments, SpellsPieces, is_named}
+use Rattle.sw_convert_again.specs.Spells.{Spells, SpellsPlain, SpellsWord}
 use Rattle.sw_convert_again.specs.Spells as spells
 use Rattle.sw_convert_tokens.specs.Written.{AsValue, AsRow, WrittenAs}
 use Rattle.sw_convert_tokens.specs.Values.{WasRead}
@@ -53,13 +52,6 @@ goes_on source at = part_in (lexeme_at source at)
 
 -- ---- single values
 
--- the first token of a word with `#{}`, by whose name a constant or an operator is meant elsewhere
-abbrev pub is_single_word : (source : Source) {i j : ℕ} {parts : Parts} {tokens : List Tok}
-    → SpellsWord source i j parts tokens → Bool
-is_single_word source (spells.named {i} old spells.row_end) =
-    is_reserved (word_sort (bytes_at source i)) && goes_on source (suc i)
-is_single_word source word = false
-
 -- one name that is no url: by itself that of no special function, and behind a namespace that of no constant or operator,
 -- which the text of a special function has there
 abbrev pub is_name_called : (source : Source) (owned : Bool) {i j : ℕ} {parts : Parts} {tokens : List Tok}
@@ -91,26 +83,12 @@ abbrev pub is_call : (source : Source) (owned : Bool) (arguments : List Argument
     {tokens : List Tok} → SpellsWord source i j parts tokens → Bool
 is_call source owned arguments name = is_called source owned name || is_url_called source arguments name
 
-abbrev pub is_text : List ℕ → Bool
-is_text [] = false
-is_text (b ∷ text) = true
-
--- no text of a string is empty
-abbrev pub are_some : {source : Source} {i j : ℕ} {texts : List Piece} {tokens : List Tok}
-    → SpellsPieces source i j texts tokens → Bool
-are_some spells.no_pieces = true
-are_some {source = source} (spells.text_piece {i} old more) = is_text (decoded_at source i) && are_some more
-are_some (spells.inserted_piece opens inner closes more) = are_some more
-
--- words told by `is_single_word`, urls with `#{}`, or with a `}`, special functions, strings with
--- `#{}` in which a text is empty, and calls by other names
+-- urls with `#{}`, or with a `}`, special functions, and calls by other names
 abbrev pub is_single : {source : Source} {i j : ℕ} {value : Expr} {tokens : List Tok} → Spells source i j value tokens
     → Bool
-is_single (spells.template span opens inner close) = not (are_some inner)
 is_single {source = source} (spells.url {i} span old) = not (is_unbroken (bytes_at source i))
 is_single (spells.url_template span opens inner close) = true
 is_single (spells.special span name opens inner close) = true
-is_single {source = source} (spells.word span word) = is_single_word source word
 is_single {source = source} (spells.call {args = arguments} span name_span name opens inner close) =
     not (is_call source false arguments name)
 is_single {source = source} (spells.owned_call {args = arguments} span name_span owner dot name opens inner close) =
@@ -121,17 +99,18 @@ is_single _ = false
 abbrev pub SinglesAreWritten : Source → Type 0
 SinglesAreWritten source =
     (i j : ℕ) (value : Expr) (tokens : List Tok) (spelt : Spells source i j value tokens) → is_led source i ≡ false
-    → is_single spelt ≡ true → WrittenAs (AsValue false) (expr_text value) tokens
+    → goes_on source j ≡ false → is_single spelt ≡ true → WrittenAs (AsValue false) (expr_text value) tokens
 
 -- what is written of any value is its tokens
 abbrev pub ValuesAreWritten : Type 0
 ValuesAreWritten =
     (source : Source) → WasRead source → SinglesAreWritten source → (i j : ℕ) (value : Expr) (tokens : List Tok)
-    → is_led source i ≡ false → Spells source i j value tokens → WrittenAs AsRow (expr_text value) tokens
+    → is_led source i ≡ false → goes_on source j ≡ false → Spells source i j value tokens
+    → WrittenAs AsRow (expr_text value) tokens
 
 -- of one that is no list with commas and without brackets, as those of one value
 abbrev pub PlainsAreWritten : Type 0
 PlainsAreWritten =
     (source : Source) → WasRead source → SinglesAreWritten source → (i j : ℕ) (value : Expr) (tokens : List Tok)
-    → is_led source i ≡ false → SpellsPlain source i j value tokens
+    → is_led source i ≡ false → goes_on source j ≡ false → SpellsPlain source i j value tokens
     → (signed : Bool) × WrittenAs (AsValue signed) (expr_text value) tokens
