@@ -65,3 +65,5 @@ mod RawJoined
 pub mod RawWritten
 mod RuleHeads
 pub mod RuleWritten
+mod Specials
+pub mod SpecialWritten

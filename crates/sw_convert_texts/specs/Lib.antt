@@ -7,3 +7,4 @@ pub mod RuleTexts
 pub mod Urls
 pub mod Comments
 pub mod AtInserts
+pub mod Specials

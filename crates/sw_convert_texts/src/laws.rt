@@ -5,6 +5,7 @@ ghost use Rattle.sw_convert_texts.specs.Comments.{CommentsAreWritten};
 ghost use Rattle.sw_convert_texts.specs.Names.{AtNamesAreWritten, CalledWordsAreWritten, CustomNamesAreWritten, WordsWithValuesAreWritten};
 ghost use Rattle.sw_convert_texts.specs.RawKinds.{RawTextsAreWritten, SelectorsAreWritten};
 ghost use Rattle.sw_convert_texts.specs.RuleTexts.{RuleTextsAreWritten};
+ghost use Rattle.sw_convert_texts.specs.Specials.{SpecialsAreWritten};
 ghost use Rattle.sw_convert_texts.specs.Urls.{UrlsAreWritten};
 
 /// A law: what is written of a word with `#{}` in it is its tokens, where this is so of the values in it.
@@ -65,4 +66,10 @@ pub fn rule_texts_are_written()
 /// it.
 pub fn comments_are_written()
     ensures { CommentsAreWritten }
+{}
+
+/// A law: what is written of a special function in whose parentheses names, commas and further parentheses stand is its
+/// tokens.
+pub fn specials_are_written()
+    ensures { SpecialsAreWritten }
 {}

@@ -8,5 +8,5 @@ mod laws;
 pub use laws::{
     at_inserts_are_written, at_names_are_written, called_words_are_written, comments_are_written,
     custom_names_are_written, parts_adjoin, raw_texts_are_written, rule_texts_are_written,
-    selectors_are_written, urls_are_written, words_with_values_are_written,
+    selectors_are_written, specials_are_written, urls_are_written, words_with_values_are_written,
 };

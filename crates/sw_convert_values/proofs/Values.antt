@@ -57,7 +57,9 @@ use Rattle.sw_convert_tokens.proofs.Undollared.{placed_argument, spaced_argument
 use Rattle.sw_convert_tokens.proofs.Arguments.{IsItems, AreArguments, ArgumentsBehind, value_argument, name_argument, first_argument, further_argument, colon_argument, dots_behind, no_arguments_written, arguments_written, guarded_written}
 use Rattle.sw_convert_tokens.proofs.Templates.{IsText, nothing_more, text_more, insert_more, template_written}
 use Rattle.sw_convert_texts.specs.Inserted.{RowHasValues, WordHasValues}
+use Rattle.sw_convert_texts.specs.Specials.{special_known}
 use Rattle.sw_convert_texts.specs.Urls.{is_unbroken}
+use Rattle.sw_convert_texts.proofs.SpecialWritten.{specials_written}
 use Rattle.sw_convert_texts.proofs.Urls.{urls_written}
 use Rattle.sw_convert_tokens.proofs.OldNumbers.{only_sign, plus_sort, numbers_written}
 use Rattle.sw_convert_tokens.proofs.Variables.{variable_written, qualified_written}
@@ -100,8 +102,10 @@ module _ (source : Source) (was : WasRead source) (known : SinglesAreWritten sou
         (λ e. single source was known led ended (spells.url span old) (ap not e)))
     either led ended (spells.url_template span opens inner close) =
         inl (single source was known led ended (spells.url_template span opens inner close) refl)
-    either led ended (spells.special span name opens inner close) =
-        inl (single source was known led ended (spells.special span name opens inner close) refl)
+    either led ended (spells.special {i} {k} {inserts} {tokens} {extents} span name opens inner close) =
+        inl (by_test (IsWritten _ _ _) (special_known source name inner)
+        (λ e. unsigned (specials_written source i k span inserts tokens extents was name inner e))
+        (λ e. single source was known led ended (spells.special span name opens inner close) (ap not e)))
     either led ended (spells.stays_number {i} span old) =
         inl (unsigned (same (sym (stays_as (bytes_between source i (suc i)) span)) refl (number_kept source was i old)))
     either led ended (spells.stays_signed {i} span one two) = inl (by_sign (sign_bytes source was i one))

@@ -18,6 +18,7 @@ use Rattle.sw_convert_tokens.specs.Written.{AsValue, AsRow, WrittenAs}
 use Rattle.sw_convert_tokens.specs.Values.{WasRead}
 use Rattle.sw_convert_tokens.specs.Calls.{is_unspecial}
 use Rattle.sw_convert_texts.specs.Names.{joined, is_mixed}
+use Rattle.sw_convert_texts.specs.Specials.{special_known}
 use Rattle.sw_convert_texts.specs.Urls.{is_unbroken}
 
 -- ---- where a value stands
@@ -83,12 +84,12 @@ abbrev pub is_call : (source : Source) (owned : Bool) (arguments : List Argument
     {tokens : List Tok} → SpellsWord source i j parts tokens → Bool
 is_call source owned arguments name = is_called source owned name || is_url_called source arguments name
 
--- urls with `#{}`, or with a `}`, special functions, and calls by other names
+-- urls with `#{}`, or with a `}`, special functions but for those that are known, and calls by other names
 abbrev pub is_single : {source : Source} {i j : ℕ} {value : Expr} {tokens : List Tok} → Spells source i j value tokens
     → Bool
 is_single {source = source} (spells.url {i} span old) = not (is_unbroken (bytes_at source i))
 is_single (spells.url_template span opens inner close) = true
-is_single (spells.special span name opens inner close) = true
+is_single {source = source} (spells.special span name opens inner close) = not (special_known source name inner)
 is_single {source = source} (spells.call {args = arguments} span name_span name opens inner close) =
     not (is_call source false arguments name)
 is_single {source = source} (spells.owned_call {args = arguments} span name_span owner dot name opens inner close) =
