@@ -25,11 +25,11 @@ use Rattle.sw_convert_heads_passing.specs.Media.{is_insert, opens, Joins, and_jo
 use Rattle.sw_convert_values.proofs.Starts.{is_clear, behind_old}
 use Rattle.sw_convert_values.proofs.Stops.{before_old}
 use Rattle.sw_convert_statements.specs.Fronts.{ValuesAreKnown}
-use Rattle.sw_convert_statements.specs.Media.{begins_feature, in_parens, begins_condition, is_feature, is_worded, are_joined, is_condition}
+use Rattle.sw_convert_statements.specs.Media.{opens_feature, in_parens, begins_condition, is_feature, is_worded, are_joined, is_condition}
 use Rattle.sw_convert_statements.proofs.Comparisons.{inside_written}
 use Rattle.sw_convert_statements.proofs.FeatureStarts.{starts_told}
 use Rattle.sw_convert_statements.proofs.InsertTokens.{insert_written}
-use Rattle.sw_convert_statements.proofs.MediaPieces.{flat, no_pieces, flat_append, flat_text, flat_insert, flat_parens, IsWord, and_word, or_word, direct_not, not_follows, open_paren}
+use Rattle.sw_convert_statements.proofs.MediaPieces.{flat, flat_is, no_pieces, flat_append, flat_text, flat_insert, flat_parens, IsWord, and_word, or_word, direct_not, not_follows, open_paren}
 use Rattle.sw_convert_statements.proofs.Params.{close_segment}
 
 -- ---- one feature
@@ -189,12 +189,13 @@ module _ (source : Source) (values : ValuesAreKnown source) where
           segment = in_parens_written terminals.ConditionParen spaced it.segment (λ after. tt);
         })
     feature_written (spells.inside_feature {list = list} {tokens = tokens} opened inside closes) t spaced =
-        let it = inside_written source values (behind_old opened refl) (before_old closes refl) inside (and_right (begins_feature tokens) _ t) in
+        let it = inside_written source values (behind_old opened refl) (before_old closes refl) inside (and_right (opens_feature list tokens) _ t) in
         let seg = it.segment in
         same_feature (sym (flat_parens list)) (record {
           passed = _;
           are = inside_feature it.are
-              (starts_told seg.joints seg.seen seg.written (and_left (begins_feature tokens) _ t) it.starts);
+              (starts_told seg.joints befores.Other (codes ")") (seg.stand [] (codes ")") refl ([], refl))
+              (seg.spelling ∙ flat_is list) seg.seen seg.written (and_left (opens_feature list tokens) _ t) it.starts);
           opening = λ e more. refl;
           segment = in_parens_written terminals.Paren spaced seg (λ after. (after, refl));
         })

@@ -109,7 +109,7 @@ fronts_written source was known i j statement tokens ended
     let seamless = is_seamless (record { parts = Mixed list; span = text_span }) in
     media_written source was known queries (and_right seamless _ t) text_span (and_left seamless _ t)
 fronts_written source was known i j statement tokens ended (spells.comment_line {text = text} comment) t =
-    comments_written source i j text tokens comment t (comment_values known comment)
+    comments_written source i j text tokens was comment t (comment_values known comment)
 fronts_written source was known i j statement tokens ended _ t = absurd (cc)
 
 pub branches_written : BranchesAreWritten

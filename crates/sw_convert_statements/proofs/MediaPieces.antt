@@ -36,13 +36,18 @@ use Rattle.sw_convert_tokens.proofs.Between.{spaced_segment}
 use Rattle.sw_convert_tokens.proofs.Leaves.{word_segment}
 use Rattle.sw_convert_tokens.proofs.Signs.{Anything, lone_segment}
 use Rattle.sw_convert_tokens.proofs.Spaces.{BeginsSpace}
-use Rattle.sw_convert_statements.specs.Media.{is_seamless}
+use Rattle.sw_convert_statements.specs.Media.{is_seamless, text_in}
 
 -- ---- pieces directly behind each other
 
 pub flat : List Piece → List ℕ
 flat [] = []
 flat (piece ∷ list) = piece_text manners.Joined (piece_written piece) ++ flat list
+
+pub flat_is : (list : List Piece) → flat list ≡ text_in list
+unfolding flat
+flat_is [] = refl
+flat_is (piece ∷ list) = ap (λ (t : List ℕ). piece_text manners.Joined (piece_written piece) ++ t) (flat_is list)
 
 pub no_pieces : flat [] ≡ []
 unfolding flat

@@ -47,8 +47,10 @@ use Rattle.sw_convert_tokens.proofs.Joins.{join, as_text, as_behind}
 use Rattle.sw_convert_tokens.proofs.Olds.{old_token}
 use Rattle.sw_convert_tokens.proofs.OriginChoices.{fits}
 use Rattle.sw_convert_tokens.proofs.Stops.{Behind}
-use Rattle.sw_convert_tokens.proofs.Words.{only_word, kind_of_name, copied_behind, copied_bytes}
-use Rattle.sw_convert_heads_passing.specs.Media.{is_type, begins_type, opens, Joins, and_joins, or_joins, named_type, inserted_type, TypeRest, type_features, type_not, Typed, typed, Query, only_query, not_type_query, typed_query, not_query, joined_query, Queries, one_query, more_queries}
+use Rattle.sw_convert_tokens.proofs.Signs.{Fits, token_segment, sign_token}
+use Rattle.sw_convert_tokens.proofs.Words.{only_word, kind_of_name, copied_behind, copied_bytes, bytes_sit}
+use Rattle.sw_convert_texts.proofs.MinusBefore.{minus_there}
+use Rattle.sw_convert_heads_passing.specs.Media.{is_type, begins_type, opens, Joins, and_joins, or_joins, named_type, inserted_type, minus_type, TypeRest, type_features, type_not, Typed, typed, Query, only_query, not_type_query, typed_query, not_query, joined_query, Queries, one_query, more_queries}
 use Rattle.sw_convert_heads_passing.specs.Statements.{querying}
 use Rattle.sw_convert_values.proofs.Starts.{behind_old}
 use Rattle.sw_convert_values.proofs.Stops.{before_old}
@@ -243,6 +245,37 @@ insert_typed w tail =
           (join it.segment tail.segment (λ after s. tt));
     }
 
+-- a `-` before a `#{`
+before_insert : (rest : List ℕ) → Fits kinds.Minus (codes "#{" ++ rest)
+unfolding byte begins_name escape_end
+before_insert rest = refl
+
+minus_typed : (source : Source) → WasRead source → (i : ℕ) → Old source i (just terminals.WordMinus)
+    → Old source (suc i) (just terminals.WordInsert) → {value text : List ℕ} {ks tokens : List Tok}
+    → WrittenAs AsRow value ks → IsTail text tokens
+    → IsTyped (bytes_between source i (suc i) ++ ((codes "#{" ++ (value ++ codes "}")) ++ text))
+    (copied source i terminals.WordMinus ∷ (within (again.sign terminals.WordInsert) ks terminals.InsertEnd ++ tokens))
+unfolding byte
+minus_typed source was i old opened {value} {text} w tail =
+    let there = minus_there source was i old opened in
+    let it = insert_at terminals.WordInsert false w in
+    let same = between_one source i ∙ there.dash in
+    let first = token_segment kinds.Minus (codes "-") (terminals.WordMinus ∷ []) (Bytes 1 (bytes_between source i (suc i)))
+    befores.Other true (Fits kinds.Minus) refl refl refl (lit< tt)
+    (λ new commented at front after sits. one_byte new at ∙ bytes_sit new commented at front _ after sits ∙ sym same)
+    (λ inside after code fits. sign_token kinds.Minus after inside befores.White refl code refl fits) in record {
+      passed = written sorts.Minus true terminals.WordMinus
+          ∷ (inserted false terminals.WordInsert it.inner tail.parts ++ tail.rest);
+      are = typed (minus_type it.items tail.goes_on) tail.are;
+      begins = refl;
+      segment = as_text
+          (ap (λ (x : List ℕ). codes " " ++ (x ++ ((codes "#{" ++ (value ++ codes "}")) ++ text))) (sym same))
+          (join first
+          (passed_as (more_inserted terminals.WordInsert false it.inner tail.parts tail.rest)
+          (join it.segment tail.segment (λ after s. tt)))
+          (λ after s. before_insert _));
+    }
+
 typed_written : (source : Source) → WasRead source → ValuesAreKnown source → {i j : ℕ} {list : List Piece}
     {tokens : List Tok} → (media : SpellsTyped source i j list tokens) → is_typed source media ≡ true
     → IsTyped (flat list) tokens
@@ -263,7 +296,16 @@ typed_written source was values
     (ap (λ (x : List ℕ). x ++ flat (others ++ last)) (sym (flat_insert value))
     ∙ sym (flat_append (pieces.Inserted value ∷ []) (others ++ last)))
     (insert_typed (values.rows _ _ _ _ (behind_old opened refl) (before_old close refl) spelt) tail)
-typed_written source was values (spells.typed (spells.type_minus old one) parts rest) t = absurd (cc)
+typed_written source was values
+    (spells.typed {others = others} {last = last}
+    (spells.type_minus {i} old (spells.inserted_value {value = value} opened spelt close)) parts rest) t =
+    let tail = tail_written source values parts (and_left (are_type_parts parts) _ t) rest
+    (and_right (are_type_parts parts) _ t) in
+    same_typed
+    (ap (λ (x : List ℕ). bytes_between source i (suc i) ++ (x ++ flat (others ++ last))) (sym (flat_insert value))
+    ∙ ap (λ (x : List ℕ). bytes_between source i (suc i) ++ x) (sym (flat_append (pieces.Inserted value ∷ []) (others ++ last)))
+    ∙ sym (flat_text (bytes_between source i (suc i)) (pieces.Inserted value ∷ (others ++ last))))
+    (minus_typed source was i old opened (values.rows _ _ _ _ (behind_old opened refl) (before_old close refl) spelt) tail)
 
 -- ---- one query
 

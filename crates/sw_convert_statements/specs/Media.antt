@@ -1,15 +1,22 @@
 -- Media queries of which it is proved that what is written of them is their tokens.
-use Rattle.std.specs.Prelude.{ℕ, Bool, true, false, not, ◌&&◌, List, [], ◌∷◌, bytes_eq, codes}
+use Rattle.std.specs.Prelude.{ℕ, Bool, true, false, not, ◌&&◌, ◌||◌, if◌then◌else◌, List, [], ◌∷◌, ◌++◌, take, bytes_eq, codes}
+use Rattle.sw_text_scan.specs.declared.runs.Class.TheVariants as classes
+use Rattle.sw_text_scan.specs.Bytes.{is_white}
+use Rattle.sw_text_scan.specs.Runs.{run_end}
 use Rattle.sw_tree.specs.declared.text.Piece.{Piece}
 use Rattle.sw_tree.specs.declared.text.Text.{Text}
 use Rattle.sw_parse_terminals.specs.declared.terminal.Terminal.{Terminal}
 use Rattle.sw_parse_terminals.specs.declared.terminal.Terminal.TheVariants as terminals
+use Rattle.sw_parse_lexemes.specs.declared.sort.Sort.TheVariants as sorts
+use Rattle.sw_parse_lexemes.specs.Classes.{same}
 use Rattle.sw_parse_lexemes.specs.Words.{word_sort}
 use Rattle.sw_parse_table.specs.declared.source.Source.{Source}
 use Rattle.sw_parse_table.specs.Sources.{bytes_at}
 use Rattle.sw_convert_written.specs.Escapes.{ends_unclosed}
-use Rattle.sw_convert_written.specs.Expressions.{expr_text}
+use Rattle.sw_convert_written.specs.declared.manner.Manner.TheVariants as manners
+use Rattle.sw_convert_written.specs.Expressions.{expr_text, piece_written}
 use Rattle.sw_convert_written.specs.Heads.{plain_text, queries_text}
+use Rattle.sw_convert_written.specs.Pieces.{piece_text}
 use Rattle.sw_convert_again.specs.Bare.{is_bare}
 use Rattle.sw_convert_again.specs.Tokens.{Tok}
 use Rattle.sw_convert_again.specs.Queries.{SpellsValue, SpellsComparison, SpellsComparisons, SpellsSides, SpellsFeatureInside, SpellsFeature, SpellsWorded, SpellsJoined, SpellsCondition, SpellsTypeName, SpellsTypePart, SpellsTypeParts, SpellsTypeRest, SpellsTyped, SpellsQuery, SpellsCommaQuery, SpellsMoreQueries, SpellsQueries}
@@ -28,6 +35,31 @@ begins_value _ = true
 abbrev pub begins_feature : List Tok → Bool
 begins_feature [] = false
 begins_feature (token ∷ tokens) = begins_value token.kinds
+
+-- one that begins with a namespace
+abbrev pub begins_owner : List Terminal → Bool
+begins_owner (terminals.Owner ∷ kinds) = true
+begins_owner _ = false
+
+abbrev pub begins_owned : List Tok → Bool
+begins_owned [] = false
+begins_owned (token ∷ tokens) = begins_owner token.kinds
+
+-- the word `not` begins a text, behind white space or without
+abbrev pub begins_not : List ℕ → Bool
+begins_not [] = false
+begins_not (b ∷ text) =
+    if is_white b then begins_not text
+    else same (word_sort (take (run_end classes.Word (b ∷ text) 0) (b ∷ text))) sorts.Not
+
+-- the text of what stands in the parentheses
+abbrev pub text_in : List Piece → List ℕ
+text_in [] = []
+text_in (piece ∷ list) = piece_text manners.Joined (piece_written piece) ++ text_in list
+
+-- it begins with such a value, or with a namespace that isn't called `not`
+abbrev pub opens_feature : List Piece → List Tok → Bool
+opens_feature list tokens = begins_feature tokens || (begins_owned tokens && not (begins_not (text_in list ++ codes ")")))
 
 abbrev pub comparison_text : Terminal → List ℕ
 comparison_text terminals.Less = codes "<"
@@ -79,8 +111,8 @@ abbrev mutual
   is_feature source (spells.inserted_feature one) = true
   is_feature source (spells.condition_feature opens condition closes) =
       begins_condition condition && is_condition source condition
-  is_feature source (spells.inside_feature {tokens = tokens} opens inside closes) =
-      begins_feature tokens && is_inside source inside
+  is_feature source (spells.inside_feature {list = list} {tokens = tokens} opens inside closes) =
+      opens_feature list tokens && is_inside source inside
 
   pub is_worded : (source : Source) {word : Terminal} {text : List ℕ} {i j : ℕ} {list : List Piece} {tokens : List Tok}
       → SpellsWorded source word text i j list tokens → Bool
@@ -99,12 +131,12 @@ abbrev mutual
 
 -- ---- media types
 
--- one name by which no operator is meant, or `#{}`
+-- one name by which no operator is meant, or `#{}` with a `-` before it or without
 abbrev pub is_type_name : (source : Source) {i j : ℕ} {list : List Piece} {tokens : List Tok}
     → SpellsTypeName source i j list tokens → Bool
 is_type_name source (spells.type_word {i} old) =
     is_type (word_sort (bytes_at source i)) && not (ends_unclosed (bytes_at source i))
-is_type_name source (spells.type_minus old one) = false
+is_type_name source (spells.type_minus old one) = true
 is_type_name source (spells.type_insert one) = true
 
 -- and further `#{}` behind it

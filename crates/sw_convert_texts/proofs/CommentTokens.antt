@@ -17,7 +17,7 @@ use Rattle.sw_convert_spelling.proofs.Choices.{neither, right_no}
 use Rattle.sw_convert_texts.specs.Comments.{ends_at, is_comment_text}
 
 -- there a text in a comment ends
-abbrev ends_there : List ℕ → ℕ → Bool
+abbrev pub ends_there : List ℕ → ℕ → Bool
 ends_there bs i = ends_loud bs i || (opens_at bs i || (byte bs i == END))
 
 pub record Stops (after : List ℕ) : Type 0 where

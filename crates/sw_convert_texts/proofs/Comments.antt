@@ -25,10 +25,10 @@ use Rattle.sw_convert_heads_passing.specs.Comments.{whole, with_values}
 use Rattle.sw_convert_again.specs.Tokens.{Said, Plain, Worded, Says, Tok, tok, saying}
 use Rattle.sw_convert_again.specs.Tokens as again
 use Rattle.sw_convert_again.specs.Spells.{SpellsRow, from_start}
-use Rattle.sw_convert_again.specs.Comments.{behind_opening, before_closing, whole_comment, comment_template, whole_lines, lines_template}
+use Rattle.sw_convert_again.specs.Comments.{SpellsComment, whole_comment, comment_template, whole_lines, lines_template}
 use Rattle.sw_convert_tokens.specs.Joints.{Seen, Token, text}
 use Rattle.sw_convert_tokens.proofs.Words.{bytes_sit, parts_are}
-use Rattle.sw_convert_texts.specs.Comments.{is_whole_comment, comment_row, has_inserts, CommentWritten, CommentsAreWritten}
+use Rattle.sw_convert_texts.specs.Comments.{comment_row, has_inserts, CommentWritten, CommentsAreWritten}
 use Rattle.sw_convert_texts.specs.Names.{joined}
 use Rattle.sw_convert_texts.proofs.CommentRows.{RowIs, row_is, says_worded, BeginsSo, begins_so}
 use Rattle.sw_convert_texts.proofs.CommentTokens.{whole_token, template_token}
@@ -36,18 +36,17 @@ use Rattle.sw_convert_texts.proofs.JoinedTexts.{lone, slice_some}
 use Rattle.sw_convert_texts.proofs.NewRows.{says_first}
 use Rattle.sw_convert_texts.proofs.OldComments.{comment_head, started_text, started_is}
 use Rattle.sw_convert_texts.proofs.OldRows.{row_text}
+use Rattle.sw_convert_texts.proofs.WholeComments.{IsWholeText, whole_text}
 use Rattle.sw_convert_texts.proofs.Stretches.{none, said_start, start_is}
 
 -- ---- without values
 
-module _ (source : Source) (i : ℕ) (told : is_whole_comment (bytes_at source i) ≡ true) where
+module _ (source : Source) (i : ℕ) (it : IsWholeText (bytes_at source i)) where
   abbrev inner_text : List ℕ
-  inner_text = before_closing (behind_opening (bytes_at source i))
+  inner_text = it.inner
 
   bytes_are : bytes_at source i ≡ codes "/*" ++ (inner_text ++ codes "*/")
-  bytes_are =
-      (bytes_eq-Decides (bytes_at source i) (codes "/*" ++ (inner_text ++ codes "*/"))).0
-      (and_left (bytes_eq (bytes_at source i) (codes "/*" ++ (inner_text ++ codes "*/"))) _ told)
+  bytes_are = it.is
 
   length_is : length (bytes_at source i) ≡ (2 + length inner_text) + 2
   length_is =
@@ -59,8 +58,7 @@ module _ (source : Source) (i : ℕ) (told : is_whole_comment (bytes_at source i
   whole_is after before =
       ap (λ (t : List ℕ). piece (t ++ after) insides.Sheet before 0) bytes_are
       ∙ ap (λ (t : List ℕ). piece (codes "/*" ++ t) insides.Sheet before 0) (append_assoc inner_text (codes "*/") after)
-      ∙ whole_token inner_text after
-      (and_right (bytes_eq (bytes_at source i) (codes "/*" ++ (inner_text ++ codes "*/"))) _ told) before
+      ∙ whole_token inner_text after it.plain before
       ∙ ap (λ (n : ℕ). made kinds.Comment n changes.Keep) (sym length_is)
 
   some_bytes : 0 < length (bytes_at source i)
@@ -180,12 +178,12 @@ module _ (source : Source) {i k count : ℕ} {inserts : List Part} {tokens : Lis
       }
 
 pub comments_written : CommentsAreWritten
-comments_written source i j text tokens (whole_comment old) told has = whole_written source i told
-comments_written source i j text tokens (comment_template {inserts = inserts} old made row end) told has =
+comments_written source i j text tokens was (whole_comment old) told has = whole_written source i (whole_text source was i old)
+comments_written source i j text tokens was (comment_template {inserts = inserts} old made row end) told has =
     let rest = and_right (bytes_eq (bytes_at source i) (codes "/*")) _ told in
     let is = and_right (has_inserts inserts) _ rest in
     template_written source row
     ((bytes_eq-Decides (bytes_at source i) (codes "/*")).0 (and_left (bytes_eq (bytes_at source i) (codes "/*")) _ told))
     (and_left (has_inserts inserts) _ rest) is (row_is source Worded says_worded row is has)
-comments_written source i j text tokens (whole_lines old made) told has = absurd (cc)
-comments_written source i j text tokens (lines_template old made spelt) told has = absurd (cc)
+comments_written source i j text tokens was (whole_lines old made) told has = absurd (cc)
+comments_written source i j text tokens was (lines_template old made spelt) told has = absurd (cc)

@@ -29,13 +29,15 @@ mod AtTokens
 mod Rows
 mod Endings
 mod WordKinds
-mod MinusBefore
+pub mod MinusBefore
 mod Adjoining
 pub mod WordsWithValues
 pub mod Dotted
 mod UrlTokens
 pub mod Urls
 mod CommentTokens
+mod CommentPieces
+mod WholeComments
 mod OldComments
 mod CommentRows
 pub mod Comments

@@ -14,7 +14,8 @@ use Rattle.sw_convert_heads_passing.specs.Comments.{Comment}
 use Rattle.sw_convert_again.specs.Tokens.{Tok}
 use Rattle.sw_convert_again.specs.Spells.{SpellsRow}
 use Rattle.sw_convert_again.specs.Spells as spells
-use Rattle.sw_convert_again.specs.Comments.{SpellsComment, behind_opening, before_closing, whole_comment, comment_template}
+use Rattle.sw_convert_again.specs.Comments.{SpellsComment, whole_comment, comment_template}
+use Rattle.sw_convert_tokens.specs.Values.{WasRead}
 use Rattle.sw_convert_tokens.specs.Written.{is_calm}
 use Rattle.sw_convert_texts.specs.Inserted.{RowHasValues}
 use Rattle.sw_convert_texts.specs.RawTexts.{SheetSegment}
@@ -41,12 +42,6 @@ ends_at b text =
 abbrev pub is_comment_text : List ℕ → Bool
 is_comment_text [] = true
 is_comment_text (b ∷ text) = not (ends_at b text) && is_comment_text text
-
--- such a text between `/*` and `*/`
-abbrev pub is_whole_comment : List ℕ → Bool
-is_whole_comment text =
-    bytes_eq text (codes "/*" ++ (before_closing (behind_opening text) ++ codes "*/"))
-    && is_comment_text (before_closing (behind_opening text))
 
 abbrev pub is_comment_piece : List ℕ → Bool
 is_comment_piece [] = false
@@ -75,11 +70,11 @@ abbrev pub has_inserts : List Part → Bool
 has_inserts [] = false
 has_inserts (part ∷ parts) = true
 
--- a comment of a sheet that isn't written in lines: as every comment of one that was read, its tokens stand directly
--- behind each other, no text behind a text, and none is one where no value stands in it
+-- a comment of a sheet that isn't written in lines: as in every one that was read with values in it, its tokens stand
+-- directly behind each other, and no text behind a text
 abbrev pub comment_known : (source : Source) {i j : ℕ} {text : Text} {tokens : List Tok}
     → SpellsComment source i j text tokens → Bool
-comment_known source (whole_comment {i} old) = is_whole_comment (bytes_at source i)
+comment_known source (whole_comment old) = true
 comment_known source (comment_template {i} {inserts = inserts} old made row end) =
     bytes_eq (bytes_at source i) (codes "/*") && (has_inserts inserts && comment_row source row)
 comment_known source _ = false
@@ -92,5 +87,5 @@ CommentHasValues _ = Unit {0}
 
 abbrev pub CommentsAreWritten : Type 0
 CommentsAreWritten =
-    (source : Source) (i j : ℕ) (text : Text) (tokens : List Tok) → (spelt : SpellsComment source i j text tokens)
+    (source : Source) (i j : ℕ) (text : Text) (tokens : List Tok) → WasRead source → (spelt : SpellsComment source i j text tokens)
     → comment_known source spelt ≡ true → CommentHasValues spelt → CommentWritten (plain_text text) tokens
