@@ -36,21 +36,12 @@ ended_last count = ap (λ (l : List Sign). end_sign ∷ l) (ends_last count)
 -- ---- lines behind a line in so many blocks
 
 -- in how many blocks the last of them stands
-level_behind : ℕ → List Row → ℕ
+abbrev pub level_behind : ℕ → List Row → ℕ
 level_behind level [] = level
 level_behind level (row ∷ rows) = level_behind row.level rows
 
-level_nothing : (level : ℕ) → level_behind level [] ≡ level
-unfolding level_behind
-level_nothing level = refl
-
-level_more : (level : ℕ) (row : Row) (rows : List Row) → level_behind level (row ∷ rows) ≡ level_behind row.level rows
-unfolding level_behind
-level_more level row rows = refl
-
-level_both : (level : ℕ) (rows others : List Row)
+pub level_both : (level : ℕ) (rows others : List Row)
     → level_behind level (rows ++ others) ≡ level_behind (level_behind level rows) others
-unfolding level_behind
 level_both level [] others = refl
 level_both level (row ∷ rows) others = level_both row.level rows others
 
@@ -61,7 +52,6 @@ signs_from level (row ∷ rows) = entered level row ++ signs_from row.level rows
 
 signs_whole : (level : ℕ) (rows : List Row)
     → signs_behind level rows ≡ signs_from level rows ++ ended (level_behind level rows)
-unfolding level_behind
 signs_whole level [] = refl
 signs_whole level (row ∷ rows) =
     ap (λ (l : List Sign). entered level row ++ l) (signs_whole row.level rows)
@@ -69,7 +59,6 @@ signs_whole level (row ∷ rows) =
 
 signs_both : (level : ℕ) (rows others : List Row)
     → signs_from level (rows ++ others) ≡ signs_from level rows ++ signs_from (level_behind level rows) others
-unfolding level_behind
 signs_both level [] others = refl
 signs_both level (row ∷ rows) others =
     ap (λ (l : List Sign). entered level row ++ l) (signs_both row.level rows others)
@@ -142,8 +131,7 @@ module _ (level : ℕ) (blank : Bool) (one : Statement) (rest : Statements) (fro
 
     list_stands : level_behind from (rows_in level (more blank one rest)) ≡ level + further.deeper
     list_stands =
-        ap (level_behind from) split ∙ level_more from row (inner_rows level one ++ rows_in level rest)
-        ∙ level_both level (inner_rows level one) (rows_in level rest) ∙ further.stands
+        ap (level_behind from) split ∙ level_both level (inner_rows level one) (rows_in level rest) ∙ further.stands
 
     list_signs : bares (signs_from from (rows_in level (more blank one rest))) ++ ended further.deeper
         ≡ prefix ++ signs_in (more blank one rest)
@@ -204,7 +192,7 @@ mutual
   one_ends : (level : ℕ) (one : Statement) → IsWhole one → Ends level level (inner_rows level one) (tail one)
   one_ends level (line list) whole = record {
     deeper = 0;
-    stands = level_nothing level ∙ (let e : level ≡ level + 0 = omega arith in e);
+    stands = (let e : level ≡ level + 0 = omega arith in e);
     signs_are = refl;
   }
   one_ends level (block list none) (some, whole) = absurd some
@@ -216,7 +204,7 @@ mutual
       → Ends level from (rows_in level statements) (ended count ++ signs_in statements)
   list_ends level none whole from count e = record {
     deeper = count;
-    stands = level_nothing from ∙ e;
+    stands = e;
     signs_are = sym (append-nil (ended count));
   }
   list_ends level (more blank one rest) (first, others) from count e =

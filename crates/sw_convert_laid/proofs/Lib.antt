@@ -17,3 +17,5 @@ pub mod SamePieces
 pub mod Sound
 pub mod LineFeeds
 pub mod Blocks
+pub mod Held
+pub mod LaidBlocks

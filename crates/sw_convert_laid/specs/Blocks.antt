@@ -1,8 +1,12 @@
 -- Statements with blocks in each other, as lines and as tokens.
-use Rattle.std.specs.Prelude.{◌≡◌, ℕ, suc, Bool, List, [], ◌∷◌, ◌++◌, map}
+use Rattle.std.specs.Prelude.{◌≡◌, ℕ, suc, Bool, false, List, [], ◌∷◌, ◌++◌, length, map, Ok, codes}
+use Rattle.sw_text.specs.Places.{mark_length}
+use Rattle.sw_tokens.specs.declared.pieces.Before.TheVariants as befores
 use Rattle.sw_tokens.specs.declared.token.TokenKind.TheVariants as kinds
+use Rattle.sw_tokens.specs.Ends.{reached}
+use Rattle.sw_parse_layout.specs.Layout.{layout}
 use Rattle.sw_convert_spelling.specs.Spelt.{Spelt}
-use Rattle.sw_convert_laid.specs.Rows.{Row, Sign, Own, Made, own, signs_of}
+use Rattle.sw_convert_laid.specs.Rows.{Row, rows_text, Sign, Own, Made, own, signs_of, placed, IsRow}
 
 -- a statement of tokens alone, or with the statements in its block; and statements one after another, with a blank line
 -- before one or none
@@ -72,3 +76,45 @@ abbrev mutual
 -- the signs of their lines are theirs
 abbrev pub HasSigns : Statements → Type 0
 HasSigns statements = AreWhole statements → map bare (signs_of (rows_in 0 statements)) ≡ signs_in statements
+
+-- ---- the layout of their lines
+
+-- each line is one, whatever stands behind it
+abbrev pub IsLine : List Spelt → Type 0
+IsLine list = (rest : List ℕ) → IsRow (row_of 0 false list) rest
+
+abbrev mutual
+  pub HasLines : Statement → Type 0
+  HasLines (line list) = IsLine list
+  HasLines (block list inner) = IsLine list × HasSome inner × HaveLines inner
+
+  pub HaveLines : Statements → Type 0
+  HaveLines none = Unit {0}
+  HaveLines (more blank one rest) = HasLines one × HaveLines rest
+
+-- no blank line stands before the first
+abbrev pub BeginsAtOnce : Statements → Type 0
+BeginsAtOnce none = Unit {0}
+BeginsAtOnce (more blank one rest) = blank ≡ false
+
+-- what signs are as text, up to the last line feed
+abbrev pub signs_text : List Sign → List ℕ
+signs_text [] = []
+signs_text (Own spelt ∷ signs) = spelt.gap ++ (spelt.bytes ++ signs_text signs)
+signs_text (Made gap kind ∷ signs) = gap ++ signs_text signs
+
+abbrev pub last_line : Statements → List ℕ
+last_line none = []
+last_line (more blank one rest) = codes "\n"
+
+-- a text of statements in lines, from a place on: the signs that it stands for are those of the statements
+pub record AreLaid (bytes : List ℕ) (at : ℕ) (statements : Statements) : Type 0 where
+  pub signs : List Sign
+  pub are : map bare signs ≡ signs_in statements
+  pub text : rows_text (rows_in 0 statements) ≡ signs_text signs ++ last_line statements
+  pub layout_is : layout bytes ≡ Ok (reached (placed befores.White at signs)).list
+
+abbrev pub StatementsAreLaid : List ℕ → List ℕ → Statements → Type 0
+StatementsAreLaid bytes mark statements =
+    bytes ≡ mark ++ rows_text (rows_in 0 statements) → mark_length bytes ≡ length mark → BeginsAtOnce statements
+    → HaveLines statements → AreLaid bytes (length mark) statements

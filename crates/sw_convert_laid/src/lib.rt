@@ -4,4 +4,7 @@
 
 mod laws;
 
-pub use laws::{blocks_are_told_by_lines, lines_are_laid, tokens_stand_before_line_feeds};
+pub use laws::{
+    blocks_are_told_by_lines, lines_are_laid, lines_are_told_by_their_tokens, statements_are_laid,
+    tokens_stand_before_line_feeds,
+};
