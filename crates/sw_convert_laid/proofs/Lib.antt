@@ -19,3 +19,4 @@ pub mod LineFeeds
 pub mod Blocks
 pub mod Held
 pub mod LaidBlocks
+mod Examples
