@@ -1,5 +1,5 @@
 -- A compile under way, before and after a step.
-use Rattle.std.proofs.Common.{◌≡◌, List, [], ◌∷◌, ◌++◌, Option, None, Some, Result, Ok, Err, IfOk, tt, refl, sym, ◌∙◌, ap, subst, append_assoc}
+use Rattle.std.proofs.Common.{◌≡◌, List, [], ◌∷◌, ◌++◌, Option, None, Some, Result, Ok, Err, IfOk, refl, sym, ◌∙◌, ap, subst, append_assoc}
 use Rattle.sw_text.specs.declared.Memory.{Memory}
 use Rattle.sw_modules.specs.Fresh.{Setting}
 use Rattle.sw_step_bodies.specs.declared.begun.Start.{Start}
