@@ -56,6 +56,7 @@ mod RawStrings
 mod RawHeads
 mod RawNames
 mod RawSigns
+mod RawPercents
 mod RawLiterals
 mod RawWords
 mod RawTokens

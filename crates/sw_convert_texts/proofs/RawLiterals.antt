@@ -38,11 +38,12 @@ use Rattle.sw_convert_tokens.proofs.Hashes.{hex_token}
 use Rattle.sw_convert_tokens.proofs.Numbers.{numeric_opens, numeric_seen, numeric_sort, numeric_behind, calm_hash}
 use Rattle.sw_convert_tokens.proofs.Leaves.{no_other}
 use Rattle.sw_convert_tokens.proofs.Signs.{token_by}
-use Rattle.sw_convert_texts.specs.RawKinds.{is_some, is_other, goes_on, is_colour, string_end, is_string, is_digits, is_unescaped, is_number_text, ends_number, number_stays, told_by, is_at, is_equals, is_hex, stands_behind, sort_behind}
+use Rattle.sw_convert_texts.specs.RawKinds.{is_some, is_other, goes_on, is_colour, string_end, is_string, is_digits, is_unescaped, is_number_text, ends_number, is_percent, number_stays, told_by, is_at, is_equals, is_hex, stands_behind, sort_behind}
 use Rattle.sw_convert_texts.proofs.DigitTokens.{digit_token}
 use Rattle.sw_convert_texts.proofs.UnitTokens.{HasUnit, cut_unit, unit_black, unit_token}
 use Rattle.sw_convert_texts.proofs.Parts.{unit_stop}
 use Rattle.sw_convert_texts.proofs.RawNames.{RawToken, unescaped}
+use Rattle.sw_convert_texts.proofs.RawPercents.{percent_token, percent_black}
 use Rattle.sw_convert_texts.proofs.RawSigns.{fits, calm_by, stays_is, black_byte}
 
 -- a text by its bytes
@@ -192,8 +193,13 @@ digits_stay text after d e =
     sym (if_true (is_digits text) (not (goes_on (byte after 0) || ((byte after 0 == sign "%") || (byte after 0 == sign ".")))) _ d) ∙ e
 
 counted_stay : (text after : List ℕ) → is_digits text ≡ false → number_stays text after ≡ true
+    → (is_percent text || (is_number_text text && ends_number after)) ≡ true
+counted_stay text after d e = sym (if_false (is_digits text) _ (is_percent text || (is_number_text text && ends_number after)) d) ∙ e
+
+-- of one without a `%`
+plain_stay : (text after : List ℕ) → is_digits text ≡ false → is_percent text ≡ false → number_stays text after ≡ true
     → (is_number_text text && ends_number after) ≡ true
-counted_stay text after d e = sym (if_false (is_digits text) _ (is_number_text text && ends_number after) d) ∙ e
+plain_stay text after d p e = sym (ap (λ (t : Bool). t || (is_number_text text && ends_number after)) p) ∙ counted_stay text after d e
 
 taken_all : (f : ℕ → Bool) (n : ℕ) (xs : List ℕ) → list_all f xs ≡ true → list_all f (take n xs) ≡ true
 taken_all f zero xs e = refl
@@ -255,28 +261,47 @@ number_raw sort text behind plain same some e = go (is_digits text) refl
       digits = λ e. refl;
       neutral = refl;
     }
-    go false d =
-        let told_text = and_left (is_number_text text) _ (counted_stay text behind d e) in
-        let counts = counted text told_text in record {
-          kind = numbers.kind text counts;
-          closed = numeric_opens (numbers.kind text counts) (numbers.numeric text counts);
-          seen = numeric_seen (numbers.kind text counts) text (numbers.numeric text counts);
-          other = numeric_behind (numbers.kind text counts) (numbers.numeric text counts) ∙ plain.leaves;
+    go false d = other (is_percent text) refl
+      where
+        other : (u : Bool) → is_percent text ≡ u → RawToken sort text
+        other true p = record {
+          kind = kinds.Number;
+          closed = refl;
+          seen = refl;
+          other = plain.leaves;
           some = some_long text some;
-          black = numbers.black text counts;
+          black = percent_black text p;
           token = λ after stays before stands.
-              numbers.number_at text counts after
-              (counted_follows text after told_text
-              (and_right (is_number_text text) _ (counted_stay text after d (same after (stays_is sort text after plain.unnamed plain.unat stays)))))
-              insides.Sheet before refl (calm_hash before (calm_by before sort text plain.unnamed plain.unhex plain.unequal stands));
-          raw = λ mode around spaced rest more.
-              told.raw_number (sort_of (numbers.kind text counts) text)
-              (numeric_sort (numbers.kind text counts) text (numbers.numeric text counts)) more;
-          told = inr (plain.literal, numeric_literal (numbers.kind text counts) text (numbers.numeric text counts));
+              percent_token text after (some_long text some) p before
+              (calm_by before sort text plain.unnamed plain.unhex plain.unequal stands);
+          raw = λ mode around spaced rest more. told.raw_number sorts.Number refl more;
+          told = inr (plain.literal, refl);
           digits = λ both_are. absurd
               (let wrong : true ≡ false = sym (and_right (is_number sort) _ both_are) ∙ d in cc);
-          neutral = numeric_neutral (numbers.kind text counts) text (numbers.numeric text counts);
+          neutral = refl;
         }
+        other false p =
+            let told_text = and_left (is_number_text text) _ (plain_stay text behind d p e) in
+            let counts = counted text told_text in record {
+              kind = numbers.kind text counts;
+              closed = numeric_opens (numbers.kind text counts) (numbers.numeric text counts);
+              seen = numeric_seen (numbers.kind text counts) text (numbers.numeric text counts);
+              other = numeric_behind (numbers.kind text counts) (numbers.numeric text counts) ∙ plain.leaves;
+              some = some_long text some;
+              black = numbers.black text counts;
+              token = λ after stays before stands.
+                  numbers.number_at text counts after
+                  (counted_follows text after told_text
+                  (and_right (is_number_text text) _ (plain_stay text after d p (same after (stays_is sort text after plain.unnamed plain.unat stays)))))
+                  insides.Sheet before refl (calm_hash before (calm_by before sort text plain.unnamed plain.unhex plain.unequal stands));
+              raw = λ mode around spaced rest more.
+                  told.raw_number (sort_of (numbers.kind text counts) text)
+                  (numeric_sort (numbers.kind text counts) text (numbers.numeric text counts)) more;
+              told = inr (plain.literal, numeric_literal (numbers.kind text counts) text (numbers.numeric text counts));
+              digits = λ both_are. absurd
+                  (let wrong : true ≡ false = sym (and_right (is_number sort) _ both_are) ∙ d in cc);
+              neutral = numeric_neutral (numbers.kind text counts) text (numbers.numeric text counts);
+            }
 
 -- ---- colours
 

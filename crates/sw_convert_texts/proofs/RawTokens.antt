@@ -19,7 +19,7 @@ use Rattle.sw_convert_spelling.proofs.MovedRuns.{first_byte}
 use Rattle.sw_convert_spelling.proofs.Choices.{left_no, both, right_no}
 use Rattle.sw_convert_written.specs.Expressions.{is_url}
 use Rattle.sw_convert_tokens.specs.Values.{WasRead}
-use Rattle.sw_convert_texts.specs.RawKinds.{sign_text, is_some, sign_stays, goes_on, name_stays, escape_stays, is_colour, is_digits, is_number_text, number_stays, told_by, calls_url, is_at, at_stays, token_stays}
+use Rattle.sw_convert_texts.specs.RawKinds.{sign_text, is_some, sign_stays, goes_on, name_stays, escape_stays, is_colour, is_digits, is_number_text, is_percent, number_stays, told_by, calls_url, is_at, at_stays, token_stays}
 use Rattle.sw_convert_texts.specs.Urls.{is_unbroken}
 use Rattle.sw_convert_texts.proofs.RawWords.{url_raw, range_raw, at_name_raw}
 use Rattle.sw_convert_texts.proofs.LexemePairs.{plains_in}
@@ -141,11 +141,15 @@ end_number text b rest e f = go (is_digits text) f
     stop b e = grind (arith, nat_tests)
 
     go : (t : Bool)
-        → (if t then not (goes_on (byte [] 0) || ((byte [] 0 == sign "%") || (byte [] 0 == sign "."))) else (is_number_text text && true)) ≡ true
+        → (if t then not (goes_on (byte [] 0) || ((byte [] 0 == sign "%") || (byte [] 0 == sign "."))) else (is_percent text || (is_number_text text && true))) ≡ true
         → (if t then not (goes_on (byte (b ∷ rest) 0) || ((byte (b ∷ rest) 0 == sign "%") || (byte (b ∷ rest) 0 == sign ".")))
-        else (is_number_text text && is_stop b)) ≡ true
+        else (is_percent text || (is_number_text text && is_stop b))) ≡ true
     go true f = ap (λ (c : ℕ). not (goes_on c || ((c == sign "%") || (c == sign ".")))) (first_byte b rest) ∙ dark b e
-    go false f = both (is_number_text text) _ (and_left (is_number_text text) _ f) (stop b e)
+    go false f = by (is_percent text) f
+      where
+        by : (u : Bool) → (u || (is_number_text text && true)) ≡ true → (u || (is_number_text text && is_stop b)) ≡ true
+        by true g = refl
+        by false g = both (is_number_text text) _ (and_left (is_number_text text) _ g) (stop b e)
 
 end_stop : (b : ℕ) → is_end b ≡ true → is_stop b ≡ true
 end_stop b e = grind (arith, nat_tests)

@@ -186,11 +186,19 @@ abbrev pub ends_number : List ℕ → Bool
 ends_number [] = true
 ends_number (b ∷ behind) = is_stop b
 
+-- digits with a `%`
+abbrev pub percent_behind : List ℕ → Bool
+percent_behind [] = false
+percent_behind (b ∷ text) = if is_digit b then percent_behind text else ((b == sign "%") && not (is_some text))
+
+abbrev pub is_percent : List ℕ → Bool
+is_percent text = is_digit (byte text 0) && percent_behind text
+
 -- a number doesn't go on with what stands behind it
 abbrev pub number_stays : List ℕ → List ℕ → Bool
 number_stays text behind =
     if is_digits text then not (goes_on (byte behind 0) || ((byte behind 0 == sign "%") || (byte behind 0 == sign ".")))
-    else (is_number_text text && ends_number behind)
+    else (is_percent text || (is_number_text text && ends_number behind))
 
 -- nor does an `@` with a name
 abbrev pub at_stays : List ℕ → List ℕ → Bool
