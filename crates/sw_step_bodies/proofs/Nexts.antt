@@ -1,5 +1,5 @@
 -- Where a compile is that went on.
-use Rattle.std.proofs.Common.{◌≡◌, [], ◌∷◌, Option, Result, Ok, Err, IfOk, OnErr, sym, ◌∙◌, ap, subst}
+use Rattle.std.proofs.Common.{◌≡◌, ℕ, List, [], ◌∷◌, ◌++◌, Option, Result, Ok, Err, IfOk, OnErr, sym, ◌∙◌, ap, subst}
 use Rattle.std.specs.FinMap.{empty}
 use Rattle.sw_folder.specs.Files.{Files}
 use Rattle.sw_text.specs.declared.Memory.{Memory}
@@ -9,7 +9,8 @@ use Rattle.sw_step_bodies.specs.declared.going.Came.{Came}
 use Rattle.sw_step_bodies.specs.declared.going.Came.TheVariants as C
 use Rattle.sw_step_bodies.specs.Stepping.{Loading, Finished}
 use Rattle.sw_step_bodies.specs.Standing.{Moment, behind, left_at}
-use Rattle.sw_step_bodies.specs.Moves.{Comes}
+use Rattle.sw_step_bodies.specs.Moves.{Comes, ended_at}
+use Rattle.sw_step_bodies.specs.Steps.{ended_in}
 use Rattle.sw_step_bodies.specs.Under.{over_folder, IsWent, DidGo}
 
 -- a moment over the folder that it has
@@ -35,3 +36,16 @@ did_go setting folder old m (Err memory) now answer same went comes stays =
 pub on_err : {T E P : Type 0} → (r : Result T E) → P → OnErr r P
 on_err (Ok x) p = tt
 on_err (Err x) p = p
+
+-- what has run is what it tells
+pub went_ran : (came : Result Came Memory) (m : Moment) (now : Option Moment) (answer : Result Stepped Memory)
+    → IsWent came m now answer → (before after : List (List ℕ)) → IfOk came (λ c. after ≡ before ++ ended_at c m.times)
+    → IfOk answer (λ stepped. after ≡ before ++ ended_in stepped)
+went_ran (Ok (C.Loading body opened)) m now answer went before after ran =
+    subst (λ (a : Result Stepped Memory). IfOk a (λ (stepped : Stepped). after ≡ before ++ ended_in stepped)) (sym went.1) ran
+went_ran (Ok (C.Finished body)) m now answer went before after ran =
+    subst (λ (a : Result Stepped Memory). IfOk a (λ (stepped : Stepped). after ≡ before ++ ended_in stepped)) (sym went.1) ran
+went_ran (Ok (C.Over outcome)) m now answer went before after ran =
+    subst (λ (a : Result Stepped Memory). IfOk a (λ (stepped : Stepped). after ≡ before ++ ended_in stepped)) (sym went.1) ran
+went_ran (Err memory) m now answer went before after ran =
+    subst (λ (a : Result Stepped Memory). IfOk a (λ (stepped : Stepped). after ≡ before ++ ended_in stepped)) (sym went.1) tt
