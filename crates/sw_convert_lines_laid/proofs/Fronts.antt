@@ -1,5 +1,5 @@
 -- What is written of a statement up to its end or its block is a line.
-use Rattle.std.proofs.Common.{ℕ, Bool, false, List, [], ◌∷◌, ◌++◌, inl, ◌∙◌, ap}
+use Rattle.std.proofs.Common.{ℕ, Bool, false, List, [], ◌∷◌, ◌++◌, inl, refl, ◌∙◌, ap}
 use Rattle.std.specs.Prelude.{codes, Some}
 use Rattle.sw_tokens.specs.declared.pieces.Before.{Before}
 use Rattle.sw_tokens.specs.declared.pieces.Before.TheVariants as befores

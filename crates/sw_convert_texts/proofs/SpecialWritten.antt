@@ -38,8 +38,8 @@ use Rattle.sw_convert_tokens.specs.Values.{WasRead}
 use Rattle.sw_convert_tokens.specs.Written.{is_calm, gap_of, AsValue, WrittenAs}
 use Rattle.sw_convert_tokens.proofs.Joins.{text_append, toks_append, writtens_append, behind_append, tell_append, stand_append, sit_left}
 use Rattle.sw_convert_tokens.proofs.Signs.{gap_is}
-use Rattle.sw_convert_texts.specs.RawKinds.{gap_before, sort_there, is_beside, is_some}
-use Rattle.sw_convert_texts.specs.Specials.{special_text, name_ends, text_known, special_known, SpecialsAreWritten}
+use Rattle.sw_convert_texts.specs.RawKinds.{gap_before, sort_there, is_some}
+use Rattle.sw_convert_texts.specs.Specials.{is_calmly_beside, special_text, name_ends, text_known, special_known, SpecialsAreWritten}
 use Rattle.sw_convert_texts.proofs.JoinedTexts.{lone}
 use Rattle.sw_convert_texts.proofs.AroundTexts.{lones, CutFrom, cut_token, cut_end, first_token}
 use Rattle.sw_convert_texts.proofs.RawOlds.{lies}
@@ -69,10 +69,10 @@ pub record IsTold (source : Source) {i k : ℕ} {parts : List Part} {tokens : Li
   pub is_name : is_name (sort_there name) ≡ true
   pub sort_is : sort_there name ≡ sorts.Special
   pub ends : name_ends (bytes_at source i) (sign "(") ≡ true
-  pub beside : is_beside source (suc i) ≡ true
+  pub beside : is_calmly_beside source (suc i) ≡ true
   pub gap : gap_before source (suc i) ≡ []
   pub opening : bytes_at source (suc i) ≡ codes "("
-  pub last : is_beside source k ≡ true
+  pub last : is_calmly_beside source k ≡ true
   pub closing : bytes_at source k ≡ codes ")"
   pub known : text_known source inner (gap_before source k ++ codes ")") ≡ true
 
@@ -87,17 +87,17 @@ told_of source {i} {k} name inner e =
     let shuts = bytes_eq (bytes_at source k) (codes ")") in
     let one = and_right (is_special_name (sort_there name)) _ e in
     let two = and_right ends _ one in
-    let beside = and_left (is_beside source (suc i) && none) _ two in
-    let three = and_right (is_beside source (suc i) && none) _ two in
+    let beside = and_left (is_calmly_beside source (suc i) && none) _ two in
+    let three = and_right (is_calmly_beside source (suc i) && none) _ two in
     let four = and_right opens _ three in
-    let five = and_right (is_beside source k) _ four in record {
+    let five = and_right (is_calmly_beside source k) _ four in record {
       is_name = special.0;
       sort_is = special.1;
       ends = and_left ends _ one;
-      beside = and_left (is_beside source (suc i)) none beside;
-      gap = bytes_same (gap_before source (suc i)) [] (and_right (is_beside source (suc i)) none beside);
+      beside = and_left (is_calmly_beside source (suc i)) none beside;
+      gap = bytes_same (gap_before source (suc i)) [] (and_right (is_calmly_beside source (suc i)) none beside);
       opening = bytes_same (bytes_at source (suc i)) (codes "(") (and_left opens _ three);
-      last = and_left (is_beside source k) _ four;
+      last = and_left (is_calmly_beside source k) _ four;
       closing = bytes_same (bytes_at source k) (codes ")") (and_left shuts _ five);
       known = and_right shuts _ five;
     }

@@ -1,11 +1,11 @@
 -- The text of special functions in which names and commas stand, and parentheses around them, is written as its tokens.
-use Rattle.std.proofs.Common.{◌≡◌, ◌⊎◌, ◌<◌, ℕ, suc, ◌+◌, ◌-◌, Bool, true, false, not, ◌&&◌, ◌||◌, if◌then◌else◌, List, [], ◌∷◌, ◌++◌, length, Some, inl, inr, refl, sym, ◌∙◌, ap, subst, arith, append_assoc, length-append, lit<}
-use Rattle.std.specs.Prelude.{◌==◌, bytes_eq, codes}
+use Rattle.std.proofs.Common.{◌≡◌, ◌⊎◌, ◌≤◌, ◌<◌, ℕ, suc, ◌+◌, ◌-◌, Bool, true, false, not, ◌&&◌, ◌||◌, if◌then◌else◌, List, [], ◌∷◌, ◌++◌, length, Some, inl, inr, refl, sym, ◌∙◌, ap, subst, arith, append_assoc, length-append, lit<}
+use Rattle.std.specs.Prelude.{◌==◌, bytes_eq, codes, nat_le, nat_lt, slice_range}
 use Rattle.std.specs.List.{list_all}
 use Rattle.std.proofs.lemmas.Bool.Decides.{nat_tests}
 use Rattle.std.proofs.lemmas.Slice.Eq.{bytes_eq-Decides}
 use Rattle.sw_text_scan.specs.Bytes.{sign, byte, is_white, is_digit, starts_plainly}
-use Rattle.sw_text_scan.proofs.Bounds.{and_left, and_right, not_true}
+use Rattle.sw_text_scan.proofs.Bounds.{if_false, and_left, and_right, not_true}
 use Rattle.sw_tokens.specs.declared.pieces.Before.{Before}
 use Rattle.sw_tokens.specs.declared.pieces.Before.TheVariants as befores
 use Rattle.sw_tokens.specs.declared.pieces.Change.TheVariants as changes
@@ -27,7 +27,7 @@ use Rattle.sw_parse_table.specs.declared.source.Source.{Source}
 use Rattle.sw_parse_table.specs.Parts.{Part}
 use Rattle.sw_parse_table.specs.Sets.{special_texts}
 use Rattle.sw_parse_terminals.specs.Numbers.{just}
-use Rattle.sw_parse_table.specs.Sources.{lexeme_at, to_at, bytes_at}
+use Rattle.sw_parse_table.specs.Sources.{bytes, lexeme_at, from_at, to_at, bytes_at, is_commented, gap_at}
 use Rattle.sw_convert_spelling.specs.Spelt.{behind_gap, innermost, is_sheet_code, takes_gap, is_gap}
 use Rattle.sw_convert_spelling.proofs.MovedRuns.{first_byte}
 use Rattle.sw_convert_spelling.proofs.Choices.{left_no, right_no, both}
@@ -44,22 +44,52 @@ use Rattle.sw_convert_tokens.specs.Joints.{Seen, Joint, Token, toks, writtens, S
 use Rattle.sw_convert_tokens.specs.Joints as joints
 use Rattle.sw_convert_tokens.specs.Values.{WasRead}
 use Rattle.sw_convert_tokens.specs.Written.{is_calm, begins_white}
+use Rattle.sw_convert_tokens.proofs.Loud.{seen_by}
 use Rattle.sw_convert_tokens.proofs.Joins.{text_behind, toks_append, writtens_append, behind_append, tell_append, stand_append, sit_left}
 use Rattle.sw_convert_tokens.proofs.Signs.{lone_token}
 use Rattle.sw_convert_tokens.proofs.Words.{kind_of_name}
-use Rattle.sw_convert_texts.specs.RawKinds.{gap_before, sort_there, is_beside, is_some}
-use Rattle.sw_convert_texts.specs.Specials.{special_text, is_mild, name_ends, begins_parens, is_text, is_comma, token_known, text_known}
+use Rattle.sw_convert_texts.specs.RawKinds.{gap_before, sort_there, is_some}
+use Rattle.sw_convert_texts.specs.Specials.{is_calmly_beside, special_text, is_mild, name_ends, begins_parens, is_text, is_comma, token_known, text_known}
 use Rattle.sw_convert_texts.proofs.JoinedTexts.{lone}
-use Rattle.sw_convert_texts.proofs.AroundTexts.{CutFrom, cut_token}
+use Rattle.sw_convert_texts.proofs.AroundTexts.{CutFrom, Beside, cut_token}
 use Rattle.sw_convert_texts.proofs.LexemePairs.{plains_in}
 use Rattle.sw_convert_texts.proofs.NameTokens.{Quiet, Settled}
 use Rattle.sw_convert_texts.proofs.OldPieces.{old_piece, whole_bytes}
 use Rattle.sw_convert_texts.proofs.OldRows.{part_closed}
 use Rattle.sw_convert_texts.proofs.PartTokens.{PartToken}
 use Rattle.sw_convert_texts.proofs.Parts.{name_token}
-use Rattle.sw_convert_texts.proofs.RawOlds.{beside_told, step_told}
+use Rattle.sw_convert_texts.proofs.RawOlds.{step_told}
 use Rattle.sw_convert_texts.proofs.RawSits.{ends_apart, ends_append, at_next, step_sits, sit_right, sit_end}
 use Rattle.sw_convert_texts.proofs.WordKinds.{part_name}
+
+-- what stands beside the token before
+record IsCalm (source : Source) (i : ℕ) : Type 0 where
+  place : suc (i - 1) ≡ i
+  beside : Beside source (i - 1) (gap_before source i)
+  white : list_all is_white (gap_before source i) ≡ true
+
+calm_told : (source : Source) (i : ℕ) → is_calmly_beside source i ≡ true → IsCalm source i
+calm_told source i e =
+    let rest = and_right (nat_lt 0 i) _ e in
+    let more = and_right (not (is_commented source i)) _ rest in
+    let calm = not_true (is_commented source i) (and_left (not (is_commented source i)) _ rest) in
+    let place : suc (i - 1) ≡ i = behind i (and_left (nat_lt 0 i) _ e) in record {
+      place = place;
+      beside = record {
+        calm = ap (is_commented source) place ∙ calm;
+        gap_is = ap (λ (m : ℕ). slice_range (bytes source) (to_at source (i - 1)) (from_at source m)) place
+            ∙ sym (if_false (is_commented source i) (gap_at source i) _ calm);
+        low = subst (λ (m : ℕ). to_at source (i - 1) ≤ from_at source m) (sym place)
+            (le (to_at source (i - 1)) (from_at source i) (and_left (nat_le (to_at source (i - 1)) (from_at source i)) _ more));
+      };
+      white = and_right (nat_le (to_at source (i - 1)) (from_at source i)) _ more;
+    }
+  where
+    behind : (n : ℕ) → nat_lt 0 n ≡ true → suc (n - 1) ≡ n
+    behind n l = let some : 0 < n = grind (arith, nat_tests) in omega (arith, some)
+
+    le : (a b : ℕ) → nat_le a b ≡ true → a ≤ b
+    le a b l = grind (arith, nat_tests)
 
 -- ---- bytes
 
@@ -186,19 +216,19 @@ module _ (source : Source) (was : WasRead source) where
       record { part = part; sort_is = sort_is }
 
   -- one token more of the text that was read
-  pub old_token : (i : ℕ) (own : List ℕ) → is_beside source i ≡ true → bytes_at source i ≡ own → is_some own ≡ true
+  pub old_token : (i : ℕ) (own : List ℕ) → is_calmly_beside source i ≡ true → bytes_at source i ≡ own → is_some own ≡ true
       → (to end : ℕ) (t : List ℕ) → CutFrom source to end (suc i - 1) [] (lone t)
       → CutFrom source to end (i - 1) [] (lone (gap_before source i ++ (own ++ t)))
   old_token i own b same some to end t more =
-      let it = beside_told source i b in
+      let it = calm_told source i b in
       let place = it.place in
       subst (λ (xs : List ℕ). CutFrom source to end (i - 1) [] (lone (gap_before source i ++ (xs ++ t)))) same
       (cut_token source to end (i - 1) (gap_before source i) (bytes_at source i) [] (lone t)
-      (step_told source i it (ap is_some same ∙ some))
+      (step_told source i it.place it.beside (ap is_some same ∙ some))
       (subst (λ (m : ℕ). CutFrom source to end m [] (lone t)) (let z : suc i - 1 ≡ suc (i - 1) = omega (arith, place) in z) more))
 
-  pub white_there : (i : ℕ) → is_beside source i ≡ true → list_all is_white (gap_before source i) ≡ true
-  white_there i b = let it = beside_told source i b in it.white
+  pub white_there : (i : ℕ) → is_calmly_beside source i ≡ true → list_all is_white (gap_before source i) ≡ true
+  white_there i b = let it = calm_told source i b in it.white
 
   same_first : {i j : ℕ} {parts : List Part} {tokens : List Tok} {extents : List Extent}
       (text : SpellsText source i j parts tokens extents) (a b : List ℕ) → byte a 0 ≡ byte b 0
@@ -273,7 +303,7 @@ module _ (source : Source) (was : WasRead source) where
   -- a token, and the text behind it
   token_more : {i j : ℕ} {parts : List Part} {tokens : List Tok} {extents : List Extent} (sort : Sort)
       (old : Old source i special_texts) (text : SpellsText source (suc i) j parts tokens extents) (behind : List ℕ)
-      → is_beside source i ≡ true
+      → is_calmly_beside source i ≡ true
       → OneIs old.lexeme.terminal sort (gap_before source i) (bytes_at source i) (byte (special_text source text behind) 0)
       → TextIs text behind
       → ((inner ended : Bool) (rest : List Written) → Special inner false rest
@@ -329,7 +359,7 @@ module _ (source : Source) (was : WasRead source) where
         closed = λ stack xs after code white first more. (
           code_gap (innermost stack) gap own code white part.black,
           part.some,
-          (refl, part.seen),
+          (refl, seen_by (sort_of part.kind (bytes_at source i)) (old.lexeme.terminal ∷ []) part.seen),
           λ e. absurd (let no : true ≡ false = sym e ∙ part.closed in cc),
           part.token (joints.text xs ++ after)
               (mild_settled own (joints.text xs ++ after) (ap (name_ends own) first ∙ ends)) (innermost stack) code
@@ -350,7 +380,7 @@ module _ (source : Source) (was : WasRead source) where
   comma_closed gap terminal stack xs after code white more = (
     code_gap (innermost stack) gap (codes ",") code white refl,
     lit< tt,
-    (refl, refl),
+    (refl, seen_by (sort_of kinds.Comma (codes ",")) (terminal ∷ []) refl),
     λ e. absurd (cc),
     lone_token (sign ",") (innermost stack) (behind_gap befores.Other gap) (joints.text xs ++ after) code refl,
     more,
@@ -363,7 +393,7 @@ module _ (source : Source) (was : WasRead source) where
   open_closed gap terminal stack xs after code white more = (
     code_gap (innermost stack) gap (codes "(") code white refl,
     lit< tt,
-    (refl, refl),
+    (refl, seen_by (sort_of kinds.OpenParen (codes "(")) (terminal ∷ []) refl),
     λ e. absurd (cc),
     lone_token (sign "(") (innermost stack) (behind_gap befores.Other gap) (joints.text xs ++ after) code refl,
     more,
@@ -376,7 +406,7 @@ module _ (source : Source) (was : WasRead source) where
   shut_closed gap terminal stack xs after code white more = (
     code_gap (innermost stack) gap (codes ")") code white refl,
     lit< tt,
-    (refl, refl),
+    (refl, seen_by (sort_of kinds.CloseParen (codes ")")) (terminal ∷ []) refl),
     λ e. absurd (cc),
     lone_token (sign ")") (innermost stack) (behind_gap befores.Other gap) (joints.text xs ++ after) code refl,
     more,
@@ -400,7 +430,7 @@ module _ (source : Source) (was : WasRead source) where
 
   -- what is told of it
   token_is : {i j : ℕ} {parts : List Part} {tokens : List Tok} {extents : List Extent} (old : Old source i special_texts)
-      (text : SpellsText source (suc i) j parts tokens extents) (behind : List ℕ) → is_beside source i ≡ true
+      (text : SpellsText source (suc i) j parts tokens extents) (behind : List ℕ) → is_calmly_beside source i ≡ true
       → token_known old.lexeme.terminal (sort_there old) (bytes_at source i) (begins_parens text)
       (byte (special_text source text behind) 0) ≡ true
       → TextIs text behind → TextIs (spells.text_more (spells.item_token old) text) behind
@@ -437,7 +467,7 @@ module _ (source : Source) (was : WasRead source) where
   parens_more : {i c j : ℕ} {parts more : List Part} {tokens others : List Tok} {extents further : List Extent}
       (opens : Old source i (just terminals.RawParen)) (inner : SpellsText source (suc i) c parts tokens extents)
       (close : Old source c (just terminals.RawParenEnd)) (text : SpellsText source (suc c) j more others further)
-      (behind : List ℕ) → is_beside source i ≡ true → bytes_at source i ≡ codes "(" → is_beside source c ≡ true
+      (behind : List ℕ) → is_calmly_beside source i ≡ true → bytes_at source i ≡ codes "(" → is_calmly_beside source c ≡ true
       → bytes_at source c ≡ codes ")"
       → TextIs inner (gap_before source c ++ (codes ")" ++ special_text source text behind)) → TextIs text behind
       → TextIs (spells.text_more (spells.item_parens opens inner close) text) behind
@@ -540,21 +570,21 @@ module _ (source : Source) (was : WasRead source) where
       → TextIs text behind
   text_written spells.text_end behind e = nothing_is behind
   text_written (spells.text_more {i = i} (spells.item_token old) text) behind e =
-      let rest = and_right (is_beside source i) _ e in
+      let rest = and_right (is_calmly_beside source i) _ e in
       let known = token_known old.lexeme.terminal (sort_there old) (bytes_at source i) (begins_parens text)
       (byte (special_text source text behind) 0) in
-      token_is old text behind (and_left (is_beside source i) _ e) (and_left known _ rest)
+      token_is old text behind (and_left (is_calmly_beside source i) _ e) (and_left known _ rest)
       (text_written text behind (and_right known _ rest))
   text_written (spells.text_more {i = i} (spells.item_parens {c = c} opens inner close) text) behind e =
       let own = bytes_eq (bytes_at source i) (codes "(") in
       let end = bytes_eq (bytes_at source c) (codes ")") in
       let inside = gap_before source c ++ (codes ")" ++ special_text source text behind) in
-      let one = and_right (is_beside source i) _ e in
+      let one = and_right (is_calmly_beside source i) _ e in
       let two = and_right own _ one in
-      let three = and_right (is_beside source c) _ two in
+      let three = and_right (is_calmly_beside source c) _ two in
       let four = and_right end _ three in
-      parens_more opens inner close text behind (and_left (is_beside source i) _ e)
-      (bytes_same (bytes_at source i) (codes "(") (and_left own _ one)) (and_left (is_beside source c) _ two)
+      parens_more opens inner close text behind (and_left (is_calmly_beside source i) _ e)
+      (bytes_same (bytes_at source i) (codes "(") (and_left own _ one)) (and_left (is_calmly_beside source c) _ two)
       (bytes_same (bytes_at source c) (codes ")") (and_left end _ three))
       (text_written inner inside (and_left (text_known source inner inside) _ four))
       (text_written text behind (and_right (text_known source inner inside) _ four))

@@ -50,7 +50,8 @@ use Rattle.sw_convert_texts.proofs.CommentPieces.{is_css, pushes_css, is_loud, L
 use Rattle.sw_convert_texts.proofs.CommentTokens.{ends_there}
 use Rattle.sw_convert_texts.proofs.LexemePairs.{plains_in, comes_at}
 use Rattle.sw_convert_texts.proofs.OldPieces.{old_piece, Whole, whole_bytes}
-use Rattle.sw_convert_texts.proofs.TerminalChoices.{comes, is_at, is_whole_comment}
+use Rattle.sw_convert_texts.specs.RawKinds.{is_at}
+use Rattle.sw_convert_texts.proofs.TerminalChoices.{comes, is_whole_comment}
 use Rattle.sw_convert_texts.proofs.TokenPairs.{at_yes}
 
 -- ---- tokens

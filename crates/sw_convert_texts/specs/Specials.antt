@@ -1,8 +1,9 @@
 -- Special functions of which it is proved that they are written as their tokens: names and commas stand in their
 -- parentheses, and further ones, as in `var(--a, var(--b))`.
-use Rattle.std.specs.Prelude.{◌≡◌, ℕ, suc, ◌+◌, Bool, true, false, not, ◌&&◌, ◌||◌, ◌==◌, if◌then◌else◌, List, [], ◌∷◌, ◌++◌, length, codes, bytes_eq}
+use Rattle.std.specs.Prelude.{◌≡◌, ℕ, suc, ◌+◌, ◌-◌, nat_le, nat_lt, Bool, true, false, not, ◌&&◌, ◌||◌, ◌==◌, if◌then◌else◌, List, [], ◌∷◌, ◌++◌, length, codes, bytes_eq}
 use Rattle.sw_text.specs.declared.place.Span.{Span}
-use Rattle.sw_text_scan.specs.Bytes.{sign, byte}
+use Rattle.std.specs.List.{list_all}
+use Rattle.sw_text_scan.specs.Bytes.{sign, byte, is_white}
 use Rattle.sw_tree.specs.declared.expr.ExprKind.TheVariants as exprs
 use Rattle.sw_parse_terminals.specs.declared.terminal.Terminal.{Terminal}
 use Rattle.sw_parse_terminals.specs.declared.terminal.Terminal.TheVariants as terminals
@@ -13,7 +14,7 @@ use Rattle.sw_parse_lexemes.specs.Classes.{is_name}
 use Rattle.sw_parse_lexemes.specs.Names.{is_special_name, stays_text}
 use Rattle.sw_parse_table.specs.declared.source.Source.{Source}
 use Rattle.sw_parse_table.specs.Parts.{Part}
-use Rattle.sw_parse_table.specs.Sources.{bytes_at, parts_between}
+use Rattle.sw_parse_table.specs.Sources.{bytes_at, from_at, to_at, is_commented, parts_between}
 use Rattle.sw_parse_table.specs.Values.{expression}
 use Rattle.sw_convert_written.specs.Escapes.{ends_unclosed}
 use Rattle.sw_convert_written.specs.Expressions.{is_url, expr_text}
@@ -23,9 +24,16 @@ use Rattle.sw_convert_again.specs.Spells as spells
 use Rattle.sw_convert_again.specs.Tokens as again
 use Rattle.sw_convert_tokens.specs.Values.{WasRead}
 use Rattle.sw_convert_tokens.specs.Written.{AsValue, WrittenAs}
-use Rattle.sw_convert_texts.specs.RawKinds.{gap_before, sort_there, is_beside}
+use Rattle.sw_convert_texts.specs.RawKinds.{gap_before, sort_there}
 
 -- ---- the text
+
+-- white space alone, or nothing, stands between a token and the one before
+abbrev pub is_calmly_beside : Source → ℕ → Bool
+is_calmly_beside source i =
+    nat_lt 0 i
+    && (not (is_commented source i)
+    && (nat_le (to_at source (i - 1)) (from_at source i) && list_all is_white (gap_before source i)))
 
 -- items with the white space before each, where this stands behind them
 abbrev pub special_text : (source : Source) {i j : ℕ} {parts : List Part} {tokens : List Tok} {extents : List Extent}
@@ -71,14 +79,14 @@ abbrev pub text_known : (source : Source) {i j : ℕ} {parts : List Part} {token
     → SpellsText source i j parts tokens extents → List ℕ → Bool
 text_known source spells.text_end behind = true
 text_known source (spells.text_more {i = i} (spells.item_token old) text) behind =
-    is_beside source i
+    is_calmly_beside source i
     && (token_known old.lexeme.terminal (sort_there old) (bytes_at source i) (begins_parens text)
     (byte (special_text source text behind) 0)
     && text_known source text behind)
 text_known source (spells.text_more {i = i} (spells.item_parens {c = c} opens inner close) text) behind =
-    is_beside source i
+    is_calmly_beside source i
     && (bytes_eq (bytes_at source i) (codes "(")
-    && (is_beside source c
+    && (is_calmly_beside source c
     && (bytes_eq (bytes_at source c) (codes ")")
     && (text_known source inner (gap_before source c ++ (codes ")" ++ special_text source text behind))
     && text_known source text behind))))
@@ -90,9 +98,9 @@ abbrev pub special_known : (source : Source) {i k : ℕ} {parts : List Part} {to
 special_known source {i} {k} name inner =
     is_special_name (sort_there name)
     && (name_ends (bytes_at source i) (sign "(")
-    && ((is_beside source (suc i) && bytes_eq (gap_before source (suc i)) [])
+    && ((is_calmly_beside source (suc i) && bytes_eq (gap_before source (suc i)) [])
     && (bytes_eq (bytes_at source (suc i)) (codes "(")
-    && (is_beside source k
+    && (is_calmly_beside source k
     && (bytes_eq (bytes_at source k) (codes ")") && text_known source inner (gap_before source k ++ codes ")"))))))
 
 -- what is written of such a function is its tokens
