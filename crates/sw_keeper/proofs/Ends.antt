@@ -29,7 +29,7 @@ use Rattle.sw_keeper.specs.Keeping.{Table, kept_in}
 use Rattle.sw_keeper.specs.declared.departure.Departure.{Departure}
 use Rattle.sw_keeper.specs.Results.{Results}
 use Rattle.sw_keeper.specs.Departures.{HasTwoAnswers}
-use Rattle.sw_keeper.specs.Sound.{IsSound}
+use Rattle.sw_kept.specs.Sound.{IsSound}
 use Rattle.sw_keeper.specs.Steps.{Moment, Grown, Advances, DidEnd, DidEvaluate, AreAlike, NoneAlike, IsWith, DiffersBy, run_of}
 use Rattle.sw_keeper.specs.Replays.{DidAgree, DidDepart, IsDeparture}
 use Rattle.sw_keeper.proofs.Pairs.{goes_other}

@@ -7,8 +7,7 @@ pub mod Loads
 pub mod Again
 pub mod Replays
 pub mod Ends
-pub mod Same
-pub mod Tables
+pub use Rattle.sw_kept.proofs.Tables
 pub mod Outputs
 pub mod Whole
 pub mod Cuts

@@ -4,11 +4,10 @@ pub mod Departures
 pub mod Departing
 pub mod Loading
 pub mod Keeping
-pub mod Sound
-pub mod Using
+pub use Rattle.sw_kept.specs.Latest
+pub use Rattle.sw_kept.specs.Lists
 pub mod Results
 pub mod Steps
 pub mod Cuts
 pub mod Replays
 pub mod Whole
-pub mod Latest

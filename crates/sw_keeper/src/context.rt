@@ -1,7 +1,7 @@
 // What the functions of an evaluation are handed.
-use crate::kept::KeptRuns;
 use crate::results::Results;
 use std::alloc::Global;
+use sw_kept::KeptRuns;
 use sw_modules::{Live, Nothing, Reader};
 use sw_record::{Cause, Run};
 use sw_text::{Name, Shared};

@@ -3,20 +3,18 @@ ghost use Rattle.std.specs.Prelude.{◌≡◌, ◌++◌, ◌≤◌, [], Ok, Err,
 ghost use Rattle.std.specs.FinMap as files;
 ghost use Rattle.sw_folder.specs.Edits.{after_put, after_removal, IsFaultOf};
 ghost use Rattle.sw_keeper.specs.Compile.{compiled, CompilesTo, BreaksOff};
-ghost use Rattle.sw_record.specs.Ran.{Ran};
-ghost use Rattle.sw_keeper.specs.Keeping.{kept_in, AreKept};
 ghost use Rattle.sw_keeper.specs.Whole.{IsCompiled, CompileCut};
 
 use crate::context::{Moment, Opening, Within};
 use crate::evaluate::evaluate;
-use crate::kept::{KeptRun, KeptRuns};
 use crate::outcome::outcome_of;
 use crate::results::Results;
 use std::alloc::Global;
 use std::marker::Model;
 use sw_folder::{EditFault, Folder};
+use sw_kept::{KeptRun, KeptRuns, keep_runs};
 use sw_modules::{Enter, HasSetting, Live, Nothing, Reader};
-use sw_record::{Cause, Outcome, Reply};
+use sw_record::{Outcome, Reply};
 use sw_text::{List, Memory, Name};
 use sw_world::{Engine, Hosts};
 
@@ -127,26 +125,6 @@ impl<R: Reader, E: Engine> Keeper<R, E> {
         )?;
         Ok(reply)
     }
-}
-
-/// Keeps the runs of a compile, of which those ran that `ran` names. Where each stands in front of its module's list,
-/// nothing changes. After `Memory` the kept runs are as before.
-fn keep_runs<R: Reader, E: Engine>(
-    alloc: Global,
-    kept: &mut KeptRuns<R, E>,
-    runs: &[KeptRun<R, E>],
-    ran: &[(Name, Cause)],
-) -> Result<(), Memory>
-    requires { Ran (kept_in kept.old) runs.now ran.now }
-    ensures ok { OnOk result (AreKept kept.old runs.now kept.new) }
-    ensures err { OnErr result (kept.new ≡ kept.old) }
-{
-    if kept.has_in_front(runs, ran) {
-        return Ok(());
-    }
-    let after = kept.with(alloc, runs, ran)?;
-    *kept = after;
-    Ok(())
 }
 
 /// What a compile replies, and the runs that ended in it.

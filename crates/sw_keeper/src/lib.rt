@@ -6,7 +6,6 @@ mod context;
 mod departure;
 mod evaluate;
 mod keeper;
-mod kept;
 mod laws;
 mod loading;
 mod outcome;
@@ -15,4 +14,5 @@ mod reading;
 mod results;
 
 pub use keeper::Keeper;
-pub use laws::{css_is_of_runs, keeps_the_latest, kept_is_one};
+pub use laws::css_is_of_runs;
+pub use sw_kept::{keeps_the_latest, kept_is_one};

@@ -4,9 +4,9 @@ ghost use Rattle.sw_css_print.specs.Parts.{print_one};
 ghost use Rattle.sw_keeper.specs.Compile.{outcome_of};
 ghost use Rattle.sw_keeper.specs.Outputs.{output_of, outputs_of};
 
-use crate::kept::KeptRun;
 use std::alloc::Global;
 use sw_css_print::{Printed, join};
+use sw_kept::KeptRun;
 use sw_modules::Reader;
 use sw_record::Outcome;
 use sw_text::{List, Memory, Shared};

@@ -4,9 +4,9 @@ ghost use Rattle.sw_world.specs.Body.{Goes, Ends, answers};
 ghost use Rattle.sw_keeper.specs.Steps.{job_at, run_of};
 
 use crate::context::Opening;
-use crate::kept::KeptRun;
 use std::alloc::Global;
 use std::marker::Model;
+use sw_kept::KeptRun;
 use sw_modules::Reader;
 use sw_record::{Cause, Run, Trace};
 use sw_text::{List, Memory, Name, Shared};

@@ -1,6 +1,0 @@
-use Rattle.std.proofs.Common.{ℕ, List, take}
-use Rattle.sw_keeper.specs.Using.{IsUntouched, NoneRan}
-use Rattle.sw_keeper.proofs.kept.touched_by.Given as goal
-
-abbrev pub invariant-loop-at : goal.invariant-loop-at
-invariant-loop-at l = (path : List ℕ) → IsUntouched l.touched path → NoneRan (take l.at l.ran) path

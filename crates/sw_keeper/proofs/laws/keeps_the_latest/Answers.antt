@@ -1,5 +1,0 @@
-use Rattle.sw_keeper.proofs.Tables as law
-use Rattle.sw_keeper.proofs.laws.keeps_the_latest.Goals as goal
-
-pub returns : goal.returns
-returns c = law.keeps_the_latest

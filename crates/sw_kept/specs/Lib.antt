@@ -1,0 +1,4 @@
+pub mod Lists
+pub mod Latest
+pub mod Sound
+pub mod Using
