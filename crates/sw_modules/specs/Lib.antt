@@ -5,6 +5,7 @@ pub mod State
 pub mod BuiltIns
 pub mod Names
 pub mod Noted
+pub mod UsedPaths
 pub mod Loads
 pub mod Outside
 pub mod Fresh

@@ -58,14 +58,13 @@ pub record HoldsFirst (noted : List (List ℕ × Holding)) (loaded : List (List 
 abbrev pub has_name : Kind → List ℕ → Module → Bool
 has_name kind name held = has_own kind name held || is_some (origin_in held.uses.forwarded kind name)
 
--- the paths of built-in modules, and those of modules that may have a name
-abbrev pub is_kept : Option Holding → List ℕ → Bool
-is_kept held path = is_sass path || in_held held path
+-- one of these paths
+abbrev pub is_used : List (List ℕ) → List ℕ → Bool
+is_used paths path = list_any (bytes_eq path) paths
 
--- some of these paths: those of built-in modules, and of all loaded modules that have the name
+-- some of these paths: all of built-in modules, and of loaded modules all that have the name
 pub record IsFew (loaded : List (List ℕ × Module)) (name : List ℕ) (paths : List (List ℕ)) (few : List (List ℕ)) : Type 0 where
-  pub keep : List ℕ → Bool
-  pub is : few ≡ filter keep paths
-  pub sass : (path : List ℕ) → is_sass path ≡ true → keep path ≡ true
+  pub inside : (path : List ℕ) → is_used few path ≡ true → is_used paths path ≡ true
+  pub sass : (path : List ℕ) → is_sass path ≡ true → is_used paths path ≡ true → is_used few path ≡ true
   pub held : (path : List ℕ) (held : Module) (kind : Kind) → lookup (bytes_eq path) loaded ≡ Some held
-      → has_name kind name held ≡ true → keep path ≡ true
+      → has_name kind name held ≡ true → is_used paths path ≡ true → is_used few path ≡ true

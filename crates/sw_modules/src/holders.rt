@@ -1,11 +1,12 @@
 // Which modules have a name.
-ghost use Rattle.std.specs.Prelude.{◌≡◌, ◌++◌, ◌∷◌, ℕ, List, [], slice_get, bytes_eq, filter, false, true, Some, IfOk, OnOk, if◌then◌else◌};
+ghost use Rattle.std.specs.Prelude.{◌≡◌, ◌++◌, ◌∷◌, ℕ, List, [], slice_get, bytes_eq, filter, false, true, Some, IfOk, IfSome, OnOk, if◌then◌else◌};
 ghost use Rattle.std.specs.List.{list_any};
 ghost use Rattle.std.specs.Option.{option_copied, option_map_or};
-ghost use Rattle.sw_modules.specs.Noted.{in_holding, holds, HoldsMore, HoldsAll, HoldsOwn, HoldsBrought, is_kept};
+ghost use Rattle.sw_modules.specs.Noted.{in_holding, holds, HoldsMore, HoldsAll, HoldsOwn, HoldsBrought, in_held, is_used};
+ghost use Rattle.sw_modules.specs.BuiltIns.{is_sass};
 
 use crate::built_ins::is_sass;
-use crate::{Module, RareTable};
+use crate::{Module, RareTable, Stars};
 use std::alloc::Global;
 use sw_text::{List, Memory, Name};
 use sw_world::Table;
@@ -22,21 +23,10 @@ pub(crate) type Holders = Table<Holding>;
 
 const MOST_HELD: usize = 8;
 
-fn has_path(paths: &[Name], path: &Name) -> bool
+pub(crate) fn has_path(paths: &[Name], path: &Name) -> bool
     ensures { result ≡ list_any (bytes_eq path.now) paths.now }
 {
     paths.iter().any(|other| path.same(other))
-}
-
-impl Holding {
-    fn has(&self, path: &Name) -> bool
-        ensures { result ≡ in_holding self.now path.now }
-    {
-        match self {
-            Holding::Few(paths) => has_path(paths.as_slice(), path),
-            Holding::Many => true,
-        }
-    }
 }
 
 // The same names, and one more.
@@ -166,39 +156,70 @@ pub(crate) fn note_brought(
     note_rare(holders, alloc, &brought.mixins, path)
 }
 
-fn is_kept(holding: Option<&Holding>, path: &Name) -> bool
-    ensures { result ≡ is_kept (option_copied holding.entry) path.now }
-{
-    if is_sass(path.as_str()) {
-        return true;
-    }
-    match holding {
-        None => false,
-        Some(holding) => holding.has(path),
-    }
-}
-
-fn keep_one(few: &mut List<Name>, holding: Option<&Holding>, path: &Name) -> Result<(), Memory>
+fn add_used(few: &mut List<Name>, stars: &Stars, path: &Name) -> Result<(), Memory>
     ensures { OnOk result (few.new
-        ≡ few.old ++ (if is_kept (option_copied holding.entry) path.now then path.now ∷ [] else [])) }
+        ≡ few.old ++ (if is_used stars.now path.now then path.now ∷ [] else [])) }
 {
-    if is_kept(holding, path) {
+    if stars.has(path) {
         return few.push(path.share()?);
     }
     Ok(())
 }
 
-/// Of these paths those of built-in modules, and of those that may have a name.
-pub(crate) fn kept(
-    alloc: Global,
-    holding: Option<&Holding>,
-    paths: &[Name],
-) -> Result<List<Name>, Memory>
-    ensures { IfOk result (λ few. few ≡ filter (is_kept (option_copied holding.entry)) paths.now) }
+fn used(alloc: Global, paths: &[Name], stars: &Stars) -> Result<List<Name>, Memory>
+    ensures { IfOk result (λ few. few ≡ filter (is_used stars.now) paths.now) }
 {
     let mut few = List::new(alloc);
     'paths: for path in paths {
-        keep_one(&mut few, holding, path)?;
+        add_used(&mut few, stars, path)?;
     }
     Ok(few)
+}
+
+fn add_built_in(few: &mut List<Name>, path: &Name) -> Result<(), Memory>
+    ensures { OnOk result (few.new ≡ few.old ++ (if is_sass path.now then path.now ∷ [] else [])) }
+{
+    if is_sass(path.as_str()) {
+        return few.push(path.share()?);
+    }
+    Ok(())
+}
+
+fn and_all_built_in(few: List<Name>, paths: &[Name]) -> Result<List<Name>, Memory>
+    ensures { IfOk result (λ all. all ≡ few ++ filter is_sass paths.now) }
+{
+    let mut all = few;
+    'paths: for path in paths {
+        add_built_in(&mut all, path)?;
+    }
+    Ok(all)
+}
+
+fn and_built_in(few: List<Name>, stars: &Stars) -> Result<List<Name>, Memory>
+    ensures { IfOk result (λ all. all ≡ few ++ filter is_sass stars.now) }
+{
+    if stars.has_sass() {
+        return and_all_built_in(few, stars.as_slice());
+    }
+    Ok(few)
+}
+
+/// The paths of the modules that may have a name; none where they aren't kept.
+pub(crate) fn paths_of<'h>(holding: Option<&'h Holding>) -> Option<&'h [Name]>
+    ensures { IfSome result (λ paths. (path : List ℕ) → in_held (option_copied holding.entry) path ≡ true
+        → is_used paths.now path ≡ true) }
+{
+    match holding {
+        None => Some(&[]),
+        Some(Holding::Few(paths)) => Some(paths.as_slice()),
+        Some(Holding::Many) => None,
+    }
+}
+
+/// Of these paths those that are used, and those of the used built-in modules.
+pub(crate) fn chosen(alloc: Global, paths: &[Name], stars: &Stars) -> Result<List<Name>, Memory>
+    ensures { IfOk result (λ few. few ≡ filter (is_used stars.now) paths.now ++ filter is_sass stars.now) }
+{
+    let few = used(alloc, paths, stars)?;
+    and_built_in(few, stars)
 }

@@ -24,6 +24,7 @@ mod parked;
 mod rare;
 mod reader;
 mod setting;
+mod stars;
 mod uses;
 mod variables;
 
@@ -40,5 +41,6 @@ pub use parked::Parked;
 pub use rare::RareTable;
 pub use reader::Reader;
 pub use setting::HasSetting;
+pub use stars::Stars;
 pub use uses::{Used, Uses, UsesCounts};
 pub use variables::Variables;

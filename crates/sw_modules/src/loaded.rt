@@ -9,8 +9,8 @@ ghost use Rattle.sw_modules.specs.declared.holders.Holding.{Holding};
 ghost use Rattle.sw_modules.specs.declared.module.Module.{Module};
 ghost use Rattle.sw_modules.specs.Noted.{HoldsMore, HoldsOwn, HoldsBrought, HoldsFirst, IsFew};
 
-use crate::holders::{Holders, kept, note_brought, note_own};
-use crate::{Module, Uses};
+use crate::holders::{Holders, chosen, note_brought, note_own, paths_of};
+use crate::{Module, Stars, Uses};
 use indexmap::IndexMap;
 use std::alloc::Global;
 use std::marker::Model;
@@ -181,21 +181,30 @@ impl Loaded {
         Ok(())
     }
 
-    /// Of these paths those of built-in modules, and of those that may have a name; none where they are few, or where a
-    /// module isn't noted.
+    /// Of these paths those of built-in modules, and of those that may have a name; none where they are few, where the
+    /// name is one of many modules, or where a module isn't noted.
     pub(crate) fn few(
         &self,
         alloc: Global,
-        paths: &[Name],
+        stars: &Stars,
         name: &Name,
     ) -> Result<Option<List<Name>>, Memory>
-        ensures { IfOk result (λ few. IfSome few (IsFew self.now name.now paths.now)) }
+        ensures { IfOk result (λ few. IfSome few (IsFew self.now name.now stars.now)) }
     {
-        if paths.len() <= FEW || self.noted < self.entries.len() {
+        if stars.len() <= FEW {
             return Ok(None);
         }
-        let few = kept(alloc, self.holders.get(name), paths)?;
-        Ok(Some(few))
+        let count = self.entries.len();
+        if self.noted < count {
+            return Ok(None);
+        }
+        match paths_of(self.holders.get(name)) {
+            None => Ok(None),
+            Some(paths) => {
+                let few = chosen(alloc, paths, stars)?;
+                Ok(Some(few))
+            }
+        }
     }
 
     /// How many are loaded.

@@ -13,7 +13,7 @@ use crate::live::Recent;
 use crate::loaded::FEW;
 use crate::loads::is_innermost;
 use crate::names::{Found, built_in_member, has_meaning, has_own, is_member, own_member};
-use crate::{Live, Module, Origin, Used, Uses};
+use crate::{Live, Module, Origin, Stars, Used, Uses};
 use sw_builtins::find;
 use sw_text::{List, Memory, Name};
 use sw_tree::Kind;
@@ -113,7 +113,7 @@ impl<'a> Live<'a> {
         ensures { IfOk result (λ it. it.answer ≡ used_member self.now uses.now space.now kind name.now) }
     {
         match space {
-            None => self.star_member(uses.stars.as_slice(), kind, name),
+            None => self.star_member(&uses.stars, kind, name),
             Some(space) => {
                 let used = uses.named.find(space, self.recent.space);
                 self.public_member(kind, name, used)
@@ -158,22 +158,22 @@ impl<'a> Live<'a> {
         if is_member(&own.answer) {
             return Ok(own);
         }
-        self.star_member(at.1.uses.stars.as_slice(), kind, name)
+        self.star_member(&at.1.uses.stars, kind, name)
     }
 
     // ---- without a namespace
 
     // Of many modules those are asked that may have the name.
-    fn star_member(&self, stars: &[Name], kind: Kind, name: &Name) -> Result<Found, Memory>
+    fn star_member(&self, stars: &Stars, kind: Kind, name: &Name) -> Result<Found, Memory>
         ensures { IfOk result (λ it. it.answer ≡ star_member self.now kind name.now stars.now) }
     {
         match self.few(stars, name)? {
-            None => self.star_among(stars, kind, name),
+            None => self.star_among(stars.as_slice(), kind, name),
             Some(few) => self.star_among(few.as_slice(), kind, name),
         }
     }
 
-    fn few(&self, stars: &[Name], name: &Name) -> Result<Option<List<Name>>, Memory>
+    fn few(&self, stars: &Stars, name: &Name) -> Result<Option<List<Name>>, Memory>
         ensures { IfOk result (λ few. IfSome few (λ few. (kind : Kind)
             → star_member self.now kind name.now few ≡ star_member self.now kind name.now stars.now)) }
     {

@@ -2,7 +2,7 @@
 ghost use Rattle.std.specs.Prelude.{◌≡◌, OnOk, OnErr};
 ghost use Rattle.sw_modules.specs.Uses.{no_uses, is_taken, with_one, uses_counts, first_uses};
 
-use crate::{Counts, Entry, Members, RareTable};
+use crate::{Counts, Entry, Members, RareTable, Stars};
 use std::alloc::Global;
 use std::marker::Model;
 use sw_text::{List, Memory, Name};
@@ -56,7 +56,7 @@ pub(crate) struct Source {
 /// written as its own, and the members that its forwards brought.
 pub struct Uses {
     pub named: RareTable<Used>,
-    pub stars: List<Name>,
+    pub stars: Stars,
     pub forwarded: Members,
 }
 
@@ -85,7 +85,7 @@ impl Uses {
     {
         Uses {
             named: RareTable::new(alloc),
-            stars: List::new(alloc),
+            stars: Stars::new(alloc),
             forwarded: Members::new(alloc),
         }
     }
