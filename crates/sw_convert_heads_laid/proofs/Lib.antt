@@ -1,0 +1,10 @@
+pub mod Fits
+pub mod Walk
+pub mod Values
+pub mod Texts
+pub mod Heads
+pub mod Media
+pub mod Fronts
+pub mod Tests
+pub mod Passing
+pub mod Lines
