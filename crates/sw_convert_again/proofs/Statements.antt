@@ -46,7 +46,7 @@ module _ (source written : Source) (n : ℕ) where
   unfolding finish
   was_ended k j v (inl (m, e, f)) =
       (subst (Ended source k) (sym e) (marked (old_of source k (just terminals.Semicolon) refl m)), f)
-  was_ended k j v (inr (m, e, f)) = (subst (Ended source k) (sym e) unmarked, f)
+  was_ended k j v (inr (m, e, f)) = (subst (Ended source k) (sym e) (unmarked m), f)
 
   pub is_ended : (p q : ℕ) → Stands written p (sign terminals.Semicolon ∷ []) q → Reads written n (finish written) p q []
   unfolding finish

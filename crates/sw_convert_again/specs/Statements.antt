@@ -1,5 +1,5 @@
 -- What is written of a statement that was read, and of which tokens it was read.
-use Rattle.std.specs.Prelude.{ℕ, suc, ◌+◌, List, [], ◌∷◌, ◌++◌, Bool, true, false, Option, Some, None}
+use Rattle.std.specs.Prelude.{◌≡◌, ℕ, suc, ◌+◌, List, [], ◌∷◌, ◌++◌, Bool, true, false, Option, Some, None}
 use Rattle.sw_text.specs.declared.place.Span.{Span}
 use Rattle.sw_tree.specs.declared.callable.Kind.TheVariants as kinds
 use Rattle.sw_tree.specs.declared.callable.Params.{Params}
@@ -21,10 +21,11 @@ use Rattle.sw_tree.specs.declared.statement.Statement.{Statement}
 use Rattle.sw_tree.specs.declared.statement.Statement.TheVariants as statements
 use Rattle.sw_parse_terminals.specs.declared.terminal.Terminal.{Terminal}
 use Rattle.sw_parse_terminals.specs.declared.terminal.Terminal.TheVariants as terminals
-use Rattle.sw_parse_terminals.specs.Numbers.{just, these}
+use Rattle.sw_parse_grammar.specs.Grammar.{member}
+use Rattle.sw_parse_terminals.specs.Numbers.{number_of, just, these}
 use Rattle.sw_parse_table.specs.declared.source.Source.{Source}
 use Rattle.sw_parse_table.specs.Parts.{Part, Inserts}
-use Rattle.sw_parse_table.specs.Sources.{bytes_at, decoded_at, from_at, parts_between, text_between}
+use Rattle.sw_parse_table.specs.Sources.{bytes_at, decoded_at, from_at, terminal_at, parts_between, text_between}
 use Rattle.sw_parse_table.specs.Sets.{dollars, endings}
 use Rattle.sw_parse_table.specs.Values.{qualified_of}
 use Rattle.sw_parse_table.specs.Actions.{branch_of, mixin_of, name_at, names_at, stands_at, flags_at, url_at}
@@ -36,10 +37,14 @@ use Rattle.sw_convert_again.specs.Comments.{SpellsComment}
 use Rattle.sw_convert_again.specs.Loads.{SpellsNamespace, SpellsPrefix, SpellsFilter, SpellsConfiguration}
 use Rattle.sw_convert_again.specs.Queries.{SpellsQueries}
 
+-- a `}` stands at a place, or the text ends there
+abbrev pub is_last : Source → ℕ → Bool
+is_last source k = member (terminal_at source k) (number_of terminals.Close ∷ 0 ∷ [])
+
 -- a statement ends with a `;`, or with nothing before what closes its block or the text
 pub data Ended (source : Source) : ℕ → ℕ → Type 0 where
   marked : {k : ℕ} → Old source k (just terminals.Semicolon) → Ended source k (suc k)
-  unmarked : {k : ℕ} → Ended source k k
+  unmarked : {k : ℕ} → is_last source k ≡ true → Ended source k k
 
 -- a `;` is written behind each
 abbrev pub ended : List Tok → List Tok

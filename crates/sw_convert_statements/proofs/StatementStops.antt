@@ -36,7 +36,7 @@ module _ {source : Source} where
 
   pub before_close : {k j : ℕ} → Ended source k j → goes_on source j ≡ false → goes_on source k ≡ false
   before_close (marked old) end = before_old old refl
-  before_close unmarked end = end
+  before_close (unmarked last) end = end
 
   pub before_flags : {names : List ℕ} {k f : ℕ} {places : List ℕ} → OldFlags source names k f places
       → goes_on source f ≡ false → goes_on source k ≡ false
