@@ -32,12 +32,12 @@ module _ (Law : Terminal → Lexeme → Type 0) where
   some_is x y e = ap (λ (o : Option Lexeme). unwrap_or o x) e
 
   -- of the first, and of one behind another
-  first_law : (before : Terminal) (lexemes : List Lexeme) (b : Lexeme) → EachBehind Law before lexemes
+  pub first_law : (before : Terminal) (lexemes : List Lexeme) (b : Lexeme) → EachBehind Law before lexemes
       → slice_get lexemes zero ≡ Some b → Law before b
   first_law before [] b each got = absurd (cc)
   first_law before (x ∷ xs) b (l, each) got = subst (Law before) (some_is x b got) l
 
-  next_law : (before : Terminal) (lexemes : List Lexeme) (at : ℕ) (b : Lexeme) → EachBehind Law before lexemes
+  pub next_law : (before : Terminal) (lexemes : List Lexeme) (at : ℕ) (b : Lexeme) → EachBehind Law before lexemes
       → slice_get lexemes (suc at) ≡ Some b → (a : Lexeme) × (slice_get lexemes at ≡ Some a) × Law a.terminal b
   next_law before [] at b each got = absurd (cc)
   next_law before (x ∷ xs) zero b (l, each) got = (x, refl, first_law x.terminal xs b each got)
@@ -71,7 +71,7 @@ module _ (source : Source) (was : WasRead source) where
   all = subst (AllGoOn plains_in) (sym was.lexemes) (words_go_on (bytes source) source.tokens.now.list)
 
   -- such a word is no more than the first token of one
-  pub reserved_goes_on : (i : ℕ) → is_led source i ≡ false → (old : Old source i (just terminals.Word))
+  reserved_goes_on : (i : ℕ) → is_led source i ≡ false → (old : Old source i (just terminals.Word))
       (it : OldToken source i old.lexeme) → is_reserved (sort_of it.kind it.text) ≡ true
       → goes_on source (suc i) ≡ true
   reserved_goes_on i led old it r = by i led old.there
@@ -97,16 +97,20 @@ module _ (source : Source) (was : WasRead source) where
           goes_there plains_in source.lexemes.now (suc k) old.lexeme all there word
           (told (ap leads_in (sym got) ∙ calm) law)
 
-  -- none is called
+  -- none is a whole one
+  pub whole_unreserved : (i : ℕ) → is_led source i ≡ false → goes_on source (suc i) ≡ false
+      → (old : Old source i (just terminals.Word)) (it : OldToken source i old.lexeme)
+      → is_reserved (sort_of it.kind it.text) ≡ false
+  whole_unreserved i led ended old it =
+      by_test (is_reserved (sort_of it.kind it.text) ≡ false) (is_reserved (sort_of it.kind it.text))
+      (λ t. absurd (let wrong : true ≡ false = sym (reserved_goes_on i led old it t) ∙ ended in cc)) (λ t. t)
+
+  -- and none is called
   pub called_unreserved : (i : ℕ) → is_led source i ≡ false → (old : Old source i (just terminals.Word))
       (it : OldToken source i old.lexeme) → Old source (suc i) (just terminals.CallParen)
       → is_reserved (sort_of it.kind it.text) ≡ false
   called_unreserved i led old it opens =
-      by_test (is_reserved (sort_of it.kind it.text) ≡ false) (is_reserved (sort_of it.kind it.text))
-      (λ t. absurd
-      (let wrong : true ≡ false =
-      sym (reserved_goes_on i led old it t) ∙ ap part_in opens.there ∙ call_no opens.lexeme.terminal opens.kind in cc))
-      (λ t. t)
+      whole_unreserved i led (ap part_in opens.there ∙ call_no opens.lexeme.terminal opens.kind) old it
     where
       call_no : (terminal : Terminal) → member (number_of terminal) (just terminals.CallParen) ≡ true
           → is_part_insert terminal ≡ false

@@ -6,8 +6,6 @@ use Rattle.sw_tree.specs.declared.expr.Expr.{Expr}
 use Rattle.sw_tree.specs.declared.expr.ExprKind.TheVariants as exprs
 use Rattle.sw_parse_terminals.specs.declared.terminal.Terminal.TheVariants as terminals
 use Rattle.sw_parse_terminals.specs.Numbers.{just}
-use Rattle.sw_parse_lexemes.specs.Classes.{is_reserved}
-use Rattle.sw_parse_lexemes.specs.Sorts.{sort_of}
 use Rattle.sw_parse_table.specs.declared.source.Source.{Source}
 use Rattle.sw_parse_table.specs.Operators.{constant_of, constant_in, constant_at}
 use Rattle.sw_parse_table.specs.Sets.{constants}
@@ -20,18 +18,16 @@ use Rattle.sw_convert_passing.specs.Values as passing
 use Rattle.sw_convert_again.specs.Bare.{is_bare}
 use Rattle.sw_convert_again.specs.Tokens.{Tok, tok, Old}
 use Rattle.sw_convert_again.specs.Spells.{from_start, Spells, SpellsWord}
-use Rattle.sw_convert_again.specs.Spells as spells
 use Rattle.sw_convert_tokens.specs.Written.{AsValue, AsRow, WrittenAs}
 use Rattle.sw_convert_tokens.specs.Values.{WasRead, IsValueWritten}
 use Rattle.sw_convert_values.specs.Values.{is_led, goes_on, is_single, SinglesAreWritten}
-use Rattle.sw_convert_spelling.proofs.Choices.{by_test}
 use Rattle.sw_convert_texts.specs.Inserted.{WordHasValues}
 use Rattle.sw_convert_texts.specs.Names.{is_mixed}
 use Rattle.sw_convert_texts.proofs.WordsWithValues.{words_written as mixed_words_written}
 use Rattle.sw_convert_tokens.proofs.Rows.{row_of}
 use Rattle.sw_convert_tokens.proofs.Words.{word_written}
 use Rattle.sw_convert_tokens.proofs.Olds.{old_token}
-use Rattle.sw_convert_values.proofs.Reserved.{reserved_goes_on}
+use Rattle.sw_convert_values.proofs.Reserved.{whole_unreserved}
 use Rattle.sw_convert_values.proofs.Shapes.{same}
 
 pub unsigned : {source : Source} {i : ℕ} {text : List ℕ} {tokens : List Tok} → WrittenAs (AsValue false) text tokens
@@ -77,9 +73,7 @@ module _ (source : Source) (was : WasRead source) (known : SinglesAreWritten sou
       (tok terminals.Word (from_start source i [] 1) ∷ [])
   name_in {i} led ended span old =
       let it = old_token source was i old.lexeme old.there in
-      by_test (IsValueWritten source _ _ _) (is_reserved (sort_of it.kind it.text))
-      (λ e. absurd (let wrong : true ≡ false = sym (reserved_goes_on source was i led old it e) ∙ ended in cc))
-      (λ e. unsigned (word_written source i span old it e))
+      unsigned (word_written source i span old it (whole_unreserved source was i led ended old it))
 
   -- a word with `#{}`
   pub mixed_in : {i j : ℕ} {parts : Parts} {tokens : List Tok} (span : Span)
