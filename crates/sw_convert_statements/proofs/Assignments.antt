@@ -1,9 +1,8 @@
 -- The assignment of another module's variable.
-use Rattle.std.proofs.Common.{◌≡◌, ℕ, suc, Bool, true, false, not, ◌||◌, List, [], ◌∷◌, ◌++◌, append-nil, refl, sym, ◌∙◌, ap, subst, append_assoc, lit<}
+use Rattle.std.proofs.Common.{◌≡◌, ℕ, suc, Bool, true, false, ◌||◌, List, [], ◌∷◌, ◌++◌, append-nil, refl, sym, ◌∙◌, ap, subst, append_assoc, lit<}
 use Rattle.std.specs.Prelude.{codes}
 use Rattle.sw_text.specs.Names.{dashed}
 use Rattle.sw_text_scan.specs.Bytes.{sign, byte}
-use Rattle.sw_text_scan.proofs.Bounds.{and_left, and_right, not_true}
 use Rattle.sw_tree.specs.declared.statement.Flags.{Flags as TreeFlags}
 use Rattle.sw_tokens.specs.declared.pieces.Before.{Before}
 use Rattle.sw_tokens.specs.declared.pieces.Before.TheVariants as befores
@@ -27,13 +26,13 @@ use Rattle.sw_convert_again.specs.Tokens.{Tok, tok, Old, Bytes, Dashed}
 use Rattle.sw_convert_again.specs.Tokens as again
 use Rattle.sw_convert_again.specs.Statements.{OldFlags, no_flags, more_flags, flag_if}
 use Rattle.sw_convert_again.proofs.Tokens.{one_byte}
-use Rattle.sw_convert_tokens.specs.Written.{Follows, is_calm, begins_white, AsRow, WrittenAs}
+use Rattle.sw_convert_tokens.specs.Written.{Follows, is_calm, AsRow, WrittenAs}
 use Rattle.sw_convert_tokens.specs.Values.{WasRead}
 use Rattle.sw_convert_tokens.proofs.Joins as joins
 use Rattle.sw_convert_tokens.proofs.Olds.{old_token}
 use Rattle.sw_convert_tokens.proofs.OriginChoices.{fits}
 use Rattle.sw_convert_tokens.proofs.Signs.{Fits, sign_segment, sign_token}
-use Rattle.sw_convert_tokens.proofs.Stops.{Parted, follows_parts}
+use Rattle.sw_convert_tokens.proofs.Stops.{Parted}
 use Rattle.sw_convert_tokens.proofs.Unclosed.{space_ends, follows_end}
 use Rattle.sw_convert_tokens.proofs.Variables.{only_owner, Begins, dot_parts, variable_name}
 use Rattle.sw_convert_tokens.proofs.Words.{copied_name, copied_bytes}
@@ -41,10 +40,10 @@ use Rattle.sw_convert_heads_passing.specs.Flow.{FlowHead, assigned_head}
 use Rattle.sw_convert_heads_passing.specs.Statements.{begins_else, assigned}
 use Rattle.sw_convert_texts.specs.RawTexts.{SheetSegment}
 use Rattle.sw_convert_statements.specs.Segments.{Anything, FrontWritten}
-use Rattle.sw_convert_statements.specs.OneName.{begins_dashed, is_owner}
-use Rattle.sw_convert_statements.proofs.Dashes.{first_dashed}
+use Rattle.sw_convert_statements.specs.Starts.{may_begin}
+use Rattle.sw_convert_statements.proofs.FirstTokens.{is_plain, first_undashed}
 use Rattle.sw_convert_statements.proofs.Flags.{flags_written}
-use Rattle.sw_convert_statements.proofs.KnownNames.{before_colon, name_else}
+use Rattle.sw_convert_statements.proofs.KnownNames.{name_else}
 use Rattle.sw_convert_statements.proofs.Segments.{sheet, join, as_text, as_toks, as_passed, as_behind, text_follows}
 use Rattle.sw_convert_statements.proofs.Variables.{colon_segment}
 
@@ -81,10 +80,10 @@ record OwnedHead (source : Source) (i : ℕ) (before : Before) : Type 0 where
       befores.Other Anything
 
 owned_head : (source : Source) (i : ℕ) → WasRead source → Old source i (just terminals.Owner)
-    → Old source (suc (suc (suc i))) (just terminals.VariableName) → is_owner (bytes_at source i) ≡ true
+    → Old source (suc (suc (suc i))) (just terminals.VariableName) → may_begin source i ≡ true
     → (before : Before) → is_calm before ≡ true → OwnedHead source i before
 unfolding byte
-owned_head source i was owner old t before calm =
+owned_head source i was owner old begins before calm =
     let owned = old_token source was i owner.lexeme owner.there in
     let sort = sort_of owned.kind owned.text in
     let n : is_name sort ≡ true =
@@ -95,9 +94,7 @@ owned_head source i was owner old t before calm =
     let first = sheet
     (copied_name source i owner.lexeme owned n terminals.Owner (Bytes 1 (bytes_at source i)) before false calm
     (Parted owned.text) (λ after f. f) (λ new at same. one_byte new at ∙ same)) in
-    let black = ap begins_white (sym bytes_are) ∙ not_true (begins_white (bytes_at source i)) (and_left (not (begins_white (bytes_at source i))) _ t) in
-    let none = ap begins_dashed (sym bytes_are) ∙ not_true (begins_dashed (bytes_at source i)) (and_right (not (begins_white (bytes_at source i))) _ t) in
-    let plain = first_dashed first n black (codes ":") (follows_parts owned.text (codes ":") (before_colon owned.text)) ∙ none in
+    let plain = first_undashed source owner (ap is_plain (only_owner owner.lexeme.terminal owner.kind)) was owned begins in
     let dot = sign_segment kinds.Dot (codes ".") (terminals.OwnerDot ∷ []) befores.Other false (Begins (sign "$")) refl refl
     refl (lit< tt)
     (λ inside after code b.
@@ -123,15 +120,15 @@ owned_head source i was owner old t before calm =
 
 -- with its value and `!default`
 pub assignment_written : (source : Source) (i : ℕ) → WasRead source → Old source i (just terminals.Owner)
-    → Old source (suc (suc (suc i))) (just terminals.VariableName) → is_owner (bytes_at source i) ≡ true
+    → Old source (suc (suc (suc i))) (just terminals.VariableName) → may_begin source i ≡ true
     → {value : List ℕ} {tokens : List Tok} → WrittenAs AsRow value tokens → (flags : TreeFlags) → flags.global ≡ false
     → FrontWritten modes.Ends
     (with_flags flags (qualified_text (qualified_of source i (suc (suc (suc i)))) ++ (codes ": " ++ value)))
     (tok terminals.Owner (Bytes 1 (bytes_at source i)) ∷ again.sign terminals.OwnerDot ∷ again.sign terminals.OwnerDollar
     ∷ tok terminals.VariableName (Dashed (name_at source (suc (suc (suc i))))) ∷ again.sign terminals.Colon
     ∷ (tokens ++ flag_if flags.default terminals.Default))
-assignment_written source i was owner old t {value} {tokens} it flags local before calm =
-    let head = owned_head source i was owner old t before calm in
+assignment_written source i was owner old begins {value} {tokens} it flags local before calm =
+    let head = owned_head source i was owner old begins before calm in
     let one = it befores.Other true refl in
     let name = qualified_text (qualified_of source i (suc (suc (suc i)))) in
     let front = tok terminals.Owner (Bytes 1 (bytes_at source i)) ∷ again.sign terminals.OwnerDot

@@ -50,30 +50,30 @@ unguarded space name url arguments e =
     ∙ ap (λ (u : Bool). space ++ (name ++ given_behind_name u arguments)) (sym e)
 
 pub fronts_written : FrontsAreWritten
-fronts_written source was known i j statement tokens ended (spells.return_line span old inner end) t =
+fronts_written source was known i j statement tokens begins ended (spells.return_line span old inner end) t =
     return_written (known.rows _ _ _ _ (behind_old old refl) (before_close end ended) inner)
-fronts_written source was known i j statement tokens ended (spells.say_line level span old inner end) t =
+fronts_written source was known i j statement tokens begins ended (spells.say_line level span old inner end) t =
     say_written (known.rows _ _ _ _ (behind_old old (say_clear level)) (before_close end ended) inner) level
-fronts_written source was known i j statement tokens ended
+fronts_written source was known i j statement tokens begins ended
     (spells.variable_line {i = k} {places = places} span one two three inner flags end) t =
     variable_written source (suc k) was two
     (known.rows _ _ _ _ (behind_old three refl) (before_flags flags (before_close end ended)) inner) (flags_at source places)
-fronts_written source was known i j statement tokens ended
+fronts_written source was known i j statement tokens begins ended
     (spells.assignment_line {i = k} {places = places} span target_span one two three four five inner flags end) t =
-    assignment_written source k was one four t
+    assignment_written source k was one four begins
     (known.rows _ _ _ _ (behind_old five refl) (before_flags flags (before_close end ended)) inner) (flags_at source places)
     (no_global source flags)
-fronts_written source was known i j statement tokens ended (spells.charset_line span one two end) t = charset_written
-fronts_written source was known i j statement tokens ended (spells.content_line span old given end) t =
+fronts_written source was known i j statement tokens begins ended (spells.charset_line span one two end) t = charset_written
+fronts_written source was known i j statement tokens begins ended (spells.content_line span old given end) t =
     content_called (given_written source was known given)
-fronts_written source was known i j statement tokens ended
+fronts_written source was known i j statement tokens begins ended
     (spells.include_line {namespace = namespace} {name = at} {arguments = arguments} {tokens = ks} {others = os} span name_span old mixin given
     using end) t =
     subst
     (λ (x : List ℕ). FrontWritten modes.Include (codes "@include " ++ x) (again.sign terminals.AtInclude ∷ (ks ++ os)))
     (unguarded (space_text namespace) (name_text (name_at source at)) (is_url (name_at source at)) arguments (mixin_no_url source mixin t))
     (include_line_written source was known mixin t (given_written source was known given))
-fronts_written source was known i j statement tokens ended
+fronts_written source was known i j statement tokens begins ended
     (spells.include_block {namespace = namespace} {name = at} {arguments = arguments} {params = params} {tokens = ks} {others = os} {more = more} span name_span
     old mixin given using block) t =
     subst
@@ -83,34 +83,34 @@ fronts_written source was known i j statement tokens ended
     (λ (x : List ℕ). FrontWritten modes.Include (using_params params (codes "@include " ++ x)) (again.sign terminals.AtInclude ∷ ((ks ++ os) ++ more)))
     (unguarded (space_text namespace) (name_text (name_at source at)) (is_url (name_at source at)) arguments (mixin_no_url source mixin t))
     (using_written source was known mixin t (given_written source was known given) using))
-fronts_written source was known i j statement tokens ended (spells.at_root_block span old block) t = at_root_written
-fronts_written source was known i j statement tokens ended
+fronts_written source was known i j statement tokens begins ended (spells.at_root_block span old block) t = at_root_written
+fronts_written source was known i j statement tokens begins ended
     (spells.forward_line {i = k} span one two renamed members settings end) t =
     forward_written source (suc k) was known renamed members settings
-fronts_written source was known i j statement tokens ended (spells.use_line {i = k} span one two name settings end) t =
+fronts_written source was known i j statement tokens begins ended (spells.use_line {i = k} span one two name settings end) t =
     use_written source (suc k) was known name t settings
-fronts_written source was known i j statement tokens ended (spells.function_block {i = k} span one two head block) t =
+fronts_written source was known i j statement tokens begins ended (spells.function_block {i = k} span one two head block) t =
     function_written source was known (suc k) two t head
-fronts_written source was known i j statement tokens ended (spells.mixin_block {i = k} span one two head block) t =
+fronts_written source was known i j statement tokens begins ended (spells.mixin_block {i = k} span one two head block) t =
     mixin_written source was known (suc k) two t head
-fronts_written source was known i j statement tokens ended
+fronts_written source was known i j statement tokens begins ended
     (spells.for_block {from = from} {tokens = ks} span one two three four low old high block) t =
     for_written source was three old (known.rows _ _ _ _ (behind_old four refl) (before_old old refl) low) (and_left (is_unbounded (expr_text from) ks) _ t)
     (known.rows _ _ _ _ (behind_old old refl) (before_block block) high) (and_right (is_unbounded (expr_text from) ks) _ t)
-fronts_written source was known i j statement tokens ended (spells.while_block span old inner block) t =
+fronts_written source was known i j statement tokens begins ended (spells.while_block span old inner block) t =
     while_written (known.rows _ _ _ _ (behind_old old refl) (before_block block) inner)
-fronts_written source was known i j statement tokens ended (spells.if_block span old inner block further otherwise) t =
+fronts_written source was known i j statement tokens begins ended (spells.if_block span old inner block further otherwise) t =
     if_written (known.rows _ _ _ _ (behind_old old refl) (before_block block) inner)
-fronts_written source was known i j statement tokens ended
+fronts_written source was known i j statement tokens begins ended
     (spells.each_block span one two three names in_word inner block) t =
     each_written source was three names (known.rows _ _ _ _ (behind_old in_word refl) (before_block block) inner)
-fronts_written source was known i j statement tokens ended
+fronts_written source was known i j statement tokens begins ended
     (spells.media_block {list = list} span text_span old queries block) t =
     let seamless = is_seamless (record { parts = Mixed list; span = text_span }) in
     media_written source was known queries (and_right seamless _ t) text_span (and_left seamless _ t)
-fronts_written source was known i j statement tokens ended (spells.comment_line {text = text} comment) t =
+fronts_written source was known i j statement tokens begins ended (spells.comment_line {text = text} comment) t =
     comments_written source i j text tokens was comment t (comment_values known comment)
-fronts_written source was known i j statement tokens ended _ t = absurd (cc)
+fronts_written source was known i j statement tokens begins ended _ t = absurd (cc)
 
 pub branches_written : BranchesAreWritten
 branches_written value tokens it = else_if_written it

@@ -17,7 +17,6 @@ use Rattle.sw_parse_lexemes.specs.declared.sort.Sort.TheVariants as sorts
 use Rattle.sw_parse_lexemes.specs.declared.state.Mode.TheVariants as modes
 use Rattle.sw_parse_lexemes.specs.Classes.{is_name, is_reserved, is_else, same}
 use Rattle.sw_parse_lexemes.specs.Sorts.{sort_of}
-use Rattle.sw_parse_lexemes.specs.Words.{word_sort}
 use Rattle.sw_parse_table.specs.declared.source.Source.{Source}
 use Rattle.sw_parse_table.specs.Parts.{Part}
 use Rattle.sw_parse_table.specs.Sources.{bytes_at, parts_between}
@@ -39,10 +38,10 @@ use Rattle.sw_convert_tokens.proofs.Joins as joins
 use Rattle.sw_convert_tokens.proofs.Olds.{old_token}
 use Rattle.sw_convert_tokens.proofs.OriginChoices.{fits}
 use Rattle.sw_convert_tokens.proofs.Stops.{follows_parts}
-use Rattle.sw_convert_tokens.proofs.Words.{only_word, kind_of_name, name_reserved, parts_are, said_is, copied_name, copied_bytes}
+use Rattle.sw_convert_tokens.proofs.Words.{only_word, parts_are, said_is, copied_name, copied_bytes}
 use Rattle.sw_convert_heads_passing.specs.Heads.{is_keyword, TextHead, named_head, keyword_head}
 use Rattle.sw_convert_heads_passing.specs.Heads as heads
-use Rattle.sw_convert_heads_passing.specs.Properties.{colon, is_dashed, PropertyHead, named_property, begun_property, minus_property, CustomHead, custom_head}
+use Rattle.sw_convert_heads_passing.specs.Properties.{colon, PropertyHead, named_property, begun_property, minus_property, CustomHead, custom_head}
 use Rattle.sw_convert_heads_passing.specs.Statements.{begins_else}
 use Rattle.sw_convert_again.specs.Comments.{SpellsComment, whole_comment, comment_template, whole_lines, lines_template}
 use Rattle.sw_convert_texts.specs.Comments.{CommentHasValues}
@@ -53,10 +52,13 @@ use Rattle.sw_convert_texts.specs.RawTexts.{SheetSegment}
 use Rattle.sw_convert_texts.proofs.AtInserts.{at_inserts_written}
 use Rattle.sw_convert_texts.proofs.WordsWithValues.{words_written, custom_names_written, at_names_written}
 use Rattle.sw_convert_statements.specs.Fronts.{ValuesAreKnown}
-use Rattle.sw_convert_statements.specs.OneName.{begins_dashed}
-use Rattle.sw_convert_statements.specs.Names.{NamedAs, is_free_word, is_property, is_custom, names_rule, is_at_rule}
+use Rattle.sw_convert_statements.specs.Names.{NamedAs, begins_dashed, is_property, is_custom, names_rule, is_at_rule}
+use Rattle.sw_convert_statements.specs.Starts.{may_begin}
 use Rattle.sw_convert_statements.proofs.Dashes.{first_dashed}
+use Rattle.sw_convert_statements.proofs.FirstTokens.{is_plain, dashed_sort, first_calm, first_undashed}
 use Rattle.sw_convert_statements.proofs.Segments.{sheet}
+use Rattle.sw_convert_values.specs.Values.{goes_on}
+use Rattle.sw_convert_values.proofs.Reserved.{whole_unreserved}
 use Rattle.sw_convert_values.proofs.Starts.{is_clear, behind_old}
 use Rattle.sw_convert_values.proofs.Stops.{before_old}
 
@@ -145,18 +147,17 @@ word_head {spaced = spaced} (passing.begun_minus {inner = inner} {parts = parts}
 
 module _ (source : Source) (was : WasRead source) where
   -- a name by itself
-  name_written : {i : ℕ} (old : Old source i (just terminals.Word)) → is_reserved (word_sort (bytes_at source i)) ≡ false
-      → begins_white (joined (parts_between source i (suc i) [])) ≡ false
-      → begins_dashed (joined (parts_between source i (suc i) [])) ≡ false
+  name_written : {i : ℕ} (old : Old source i (just terminals.Word)) → may_begin source i ≡ true
+      → goes_on source (suc i) ≡ false
       → NamedAs AsProperty (joined (parts_between source i (suc i) [])) (tok terminals.Word (from_start source i [] 1) ∷ [])
-  name_written {i} old free black none before calm =
+  name_written {i} old begins ended before calm =
       let it = old_token source was i old.lexeme old.there in
       let sort = sort_of it.kind it.text in
-      let n : is_name sort ≡ true =
-      ap (λ (t : Terminal). fits t sort) (sym (only_word old.lexeme.terminal old.kind)) ∙ it.fit in
+      let word = only_word old.lexeme.terminal old.kind in
+      let plain : is_plain old.lexeme.terminal ≡ true = ap is_plain word in
+      let n : is_name sort ≡ true = ap (λ (t : Terminal). fits t sort) (sym word) ∙ it.fit in
       let bytes_are = copied_bytes source i old.lexeme it n in
-      let reserved = name_reserved it.kind it.text (kind_of_name it.kind it.text n)
-      (ap (λ (t : List ℕ). is_reserved (word_sort t)) (sym bytes_are) ∙ free) in
+      let free = whole_unreserved source was i (first_calm source old plain begins) ended old it in
       let shown : it.text ≡ joined (parts_between source i (suc i) []) =
       sym bytes_are ∙ ap (pieces_text manners.Joined) (sym (unrolled.plain_is (bytes_at source i)))
       ∙ ap (λ (p : Parts). pieces_text manners.Joined (parts_written p)) (sym (parts_are source i)) in
@@ -168,9 +169,7 @@ module _ (source : Source) (was : WasRead source) where
       (λ new at same. said_is new at ∙ ap (λ (t : List ℕ). record { first = t; rest = [] }) same ∙ sym (said_is source i))))) in
       record {
         passed = _;
-        head = named_property sort n
-            (first_dashed segment n black (codes ":") (before_colon (joined (parts_between source i (suc i) []))) ∙ none)
-            (ap not reserved) passing.no_part;
+        head = named_property sort n (first_undashed source old plain was it begins) (ap not free) passing.no_part;
         first = λ more. name_else sort n;
         segment = segment;
       }
@@ -188,29 +187,27 @@ module _ (source : Source) (was : WasRead source) where
           segment = sheet it.segment;
         }
 
+    mixed_property : {i j : ℕ} {parts : Parts} {tokens : List Tok} → (word : SpellsWord source i j parts tokens)
+        → is_mixed word ≡ true → (not (begins_white (joined parts)) && not (begins_dashed (joined parts))) ≡ true
+        → NamedAs AsProperty (joined parts) tokens
+    mixed_property {parts = parts} word mixed t =
+        mixed_written word mixed (not_true _ (and_left (not (begins_white (joined parts))) _ t))
+        (not_true _ (and_right (not (begins_white (joined parts))) _ t))
+
     pub properties_written : {i j : ℕ} {parts : Parts} {tokens : List Tok} → (word : SpellsWord source i j parts tokens)
-        → is_property source word ≡ true → NamedAs AsProperty (joined parts) tokens
-    properties_written {parts = parts} word t = go word (and_left _ _ t)
-        (not_true _ (and_left (not (begins_white (joined parts))) _ (and_right _ _ t)))
-        (not_true _ (and_right (not (begins_white (joined parts))) _ (and_right _ _ t)))
-      where
-        go : {i j : ℕ} {ps : Parts} {ks : List Tok} → (one : SpellsWord source i j ps ks) → is_free_word source one ≡ true
-            → begins_white (joined ps) ≡ false → begins_dashed (joined ps) ≡ false → NamedAs AsProperty (joined ps) ks
-        go (spells.named old spells.row_end) free black none = name_written old (not_true _ free) black none
-        go (spells.named old (spells.row_part part row)) plain black none =
-            mixed_written (spells.named old (spells.row_part part row)) refl black none
-        go (spells.named old (spells.row_insert opens inner close row)) plain black none =
-            mixed_written (spells.named old (spells.row_insert opens inner close row)) refl black none
-        go (spells.begun opens inner close row) plain black none =
-            mixed_written (spells.begun opens inner close row) refl black none
-        go (spells.begun_minus minus opens inner close row) plain black none =
-            mixed_written (spells.begun_minus minus opens inner close row) refl black none
+        → may_begin source i ≡ true → goes_on source j ≡ false → is_property word ≡ true
+        → NamedAs AsProperty (joined parts) tokens
+    properties_written (spells.named old spells.row_end) begins ended t = name_written old begins ended
+    properties_written (spells.named old (spells.row_part part row)) begins ended t =
+        mixed_property (spells.named old (spells.row_part part row)) refl t
+    properties_written (spells.named old (spells.row_insert opens inner close row)) begins ended t =
+        mixed_property (spells.named old (spells.row_insert opens inner close row)) refl t
+    properties_written (spells.begun opens inner close row) begins ended t =
+        mixed_property (spells.begun opens inner close row) refl t
+    properties_written (spells.begun_minus minus opens inner close row) begins ended t =
+        mixed_property (spells.begun_minus minus opens inner close row) refl t
 
 -- ---- custom properties
-
-dashed_sort : (sort : Sort) → is_dashed sort ≡ true → sort ≡ sorts.DashedName
-dashed_sort sorts.DashedName d = refl
-dashed_sort _ d = absurd (cc)
 
 dash_black : (b : ℕ) → (b == sign "-") ≡ true → is_white b ≡ false
 dash_black b e = grind (arith, nat_tests)

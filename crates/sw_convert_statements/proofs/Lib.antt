@@ -29,6 +29,7 @@ mod Queries
 pub mod Fronts
 pub mod Texts
 mod Dashes
+mod FirstTokens
 mod KnownNames
 mod Assignments
 pub mod Names
@@ -42,4 +43,5 @@ mod LaidBehind
 mod KeywordLengths
 pub mod ReadsBack
 mod KnownTexts
+mod Begins
 pub mod Told

@@ -35,6 +35,7 @@ use Rattle.sw_convert_statements.proofs.Segments.{sheet, join, as_text, as_toks,
 use Rattle.sw_convert_statements.proofs.Texts.{begins_spaced, text_end}
 use Rattle.sw_convert_statements.proofs.Variables.{colon_segment}
 use Rattle.sw_convert_values.proofs.Starts.{behind_old}
+use Rattle.sw_convert_values.proofs.Stops.{before_old}
 use Rattle.sw_convert_statements.proofs.StatementStops.{before_block, before_close}
 
 colon_ends : Ends (sign ":")
@@ -160,29 +161,29 @@ rule_written {name = name} {ks = ks} is known (some_raw {i} {j} {values} {tokens
         subst (λ (l : List Written). Front modes.Raw (l ++ first ∷ rest)) (sym (append-nil head)) (texted h first spaced raw)
 
 pub named_fronts_written : NamedFrontsAreWritten
-named_fronts_written source was values raws customs selectors i j statement tokens ended
+named_fronts_written source was values raws customs selectors i j statement tokens begins ended
     (spells.declaration_line span text_span word mark inner end) t =
-    property_written (properties_written source was values word t)
+    property_written (properties_written source was values word begins (before_old mark refl) t)
     (values.rows _ _ _ _ (behind_old mark refl) (before_close end ended) inner)
-named_fronts_written source was values raws customs selectors i j statement tokens ended
+named_fronts_written source was values raws customs selectors i j statement tokens begins ended
     (spells.custom_line span text_span name mark inner end) t =
     custom_written (customs_written source was values name (and_left (is_custom source name) _ t)) customs inner
     (and_right (is_custom source name) _ t)
-named_fronts_written source was values raws customs selectors i j statement tokens ended
+named_fronts_written source was values raws customs selectors i j statement tokens begins ended
     (spells.at_rule_line span text_span name raw end) t =
     rule_written (at_rules_written source was values name (and_left (is_at_rule source name) _ t)) raws raw
     (and_right (is_at_rule source name) _ t)
-named_fronts_written source was values raws customs selectors i j statement tokens ended
+named_fronts_written source was values raws customs selectors i j statement tokens begins ended
     (spells.at_rule_block span text_span name raw block) t =
     rule_written (at_rules_written source was values name (and_left (is_at_rule source name) _ t)) raws raw
     (and_right (is_at_rule source name) _ t)
-named_fronts_written source was values raws customs selectors i j statement tokens ended
+named_fronts_written source was values raws customs selectors i j statement tokens begins ended
     (spells.properties_block span text_span word mark block) t =
-    lone_property (properties_written source was values word t)
-named_fronts_written source was values raws customs selectors i j statement tokens ended
+    lone_property (properties_written source was values word begins (before_old mark refl) t)
+named_fronts_written source was values raws customs selectors i j statement tokens begins ended
     (spells.properties_value_block span text_span word mark inner block) t =
-    property_written (properties_written source was values word t)
+    property_written (properties_written source was values word begins (before_old mark refl) t)
     (values.rows _ _ _ _ (behind_old mark refl) (before_block block) inner)
-named_fronts_written source was values raws customs selectors i j statement tokens ended (spells.rule_block span raw block) t =
+named_fronts_written source was values raws customs selectors i j statement tokens begins ended (spells.rule_block span raw block) t =
     selectors _ _ _ _ _ raw t
-named_fronts_written source was values raws customs selectors i j statement tokens ended _ t = absurd (cc)
+named_fronts_written source was values raws customs selectors i j statement tokens begins ended _ t = absurd (cc)

@@ -14,7 +14,7 @@ use Rattle.sw_parse_lexemes.specs.declared.state.Mode.TheVariants as modes
 use Rattle.sw_parse_lexemes.specs.Words.{word_sort}
 use Rattle.sw_parse_table.specs.declared.source.Source.{Source}
 use Rattle.sw_parse_terminals.specs.Urls.{has_namespace}
-use Rattle.sw_parse_table.specs.Sources.{bytes_at, decoded_at}
+use Rattle.sw_parse_table.specs.Sources.{decoded_at}
 use Rattle.sw_parse_table.specs.Actions.{name_at}
 use Rattle.sw_convert_written.specs.Expressions.{expr_text, is_url}
 use Rattle.sw_convert_written.specs.Names.{name_text}
@@ -32,7 +32,7 @@ use Rattle.sw_convert_texts.specs.Comments.{comment_known}
 use Rattle.sw_convert_statements.specs.Segments.{ElseWritten}
 use Rattle.sw_convert_statements.specs.Statements.{FrontIs}
 use Rattle.sw_convert_statements.specs.Media.{are_queries, is_seamless}
-use Rattle.sw_convert_statements.specs.OneName.{is_owner}
+use Rattle.sw_convert_statements.specs.Starts.{may_begin}
 use Rattle.sw_convert_values.specs.Values.{is_led, goes_on}
 
 -- what is written of each value of a sheet is its tokens, and of one that is no list with commas and without brackets
@@ -88,8 +88,7 @@ abbrev pub is_told : {source : Source} {i j : ℕ} {statement : Statement} {toke
 is_told (spells.return_line span old inner end) = true
 is_told (spells.say_line level span old inner end) = true
 is_told (spells.variable_line span one two three inner flags end) = true
-is_told {source} (spells.assignment_line {i} span target_span one two three four five inner flags end) =
-    is_owner (bytes_at source i)
+is_told (spells.assignment_line span target_span one two three four five inner flags end) = true
 is_told (spells.charset_line span one two end) = true
 is_told (spells.content_line span old given end) = true
 is_told {source} (spells.include_line span name_span old mixin given using end) = is_mixin_name source mixin
@@ -114,7 +113,8 @@ is_told _ = false
 abbrev pub FrontsAreWritten : Type 0
 FrontsAreWritten =
     (source : Source) → WasRead source → ValuesAreKnown source → (i j : ℕ) (statement : Statement) (tokens : List Tok)
-    → goes_on source j ≡ false → (spelt : SpellsStatement source i j statement tokens) → is_told spelt ≡ true → FrontIs spelt
+    → may_begin source i ≡ true → goes_on source j ≡ false → (spelt : SpellsStatement source i j statement tokens)
+    → is_told spelt ≡ true → FrontIs spelt
 
 -- the same of `@else if`
 abbrev pub BranchesAreWritten : Type 0

@@ -2,7 +2,7 @@ pub mod Segments
 pub mod Statements
 pub mod Written
 pub mod Sheets
-pub mod OneName
+pub mod Starts
 pub mod Media
 pub mod Fronts
 pub mod Texts

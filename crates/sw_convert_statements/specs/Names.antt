@@ -1,6 +1,7 @@
 -- What is written of declarations, custom properties, at-rules of CSS and rules, up to their end or their block, is their
 -- tokens, where what is written of their values and texts is.
-use Rattle.std.specs.Prelude.{◌≡◌, ℕ, Bool, true, false, not, ◌&&◌, List, ◌++◌, Option}
+use Rattle.std.specs.Prelude.{◌≡◌, ℕ, Bool, true, false, not, ◌&&◌, ◌||◌, ◌==◌, List, ◌++◌, Option, codes}
+use Rattle.sw_text_scan.specs.Bytes.{sign, byte}
 use Rattle.sw_tree.specs.declared.text.Parts.{Parts}
 use Rattle.sw_tree.specs.declared.text.Text.{Text}
 use Rattle.sw_tree.specs.declared.statement.Statement.{Statement}
@@ -11,8 +12,8 @@ use Rattle.sw_parse_lexemes.specs.declared.sort.Sort.{Sort}
 use Rattle.sw_parse_lexemes.specs.declared.sort.Sort.TheVariants as sorts
 use Rattle.sw_parse_lexemes.specs.declared.state.Mode.{Mode}
 use Rattle.sw_parse_lexemes.specs.declared.state.Mode.TheVariants as modes
-use Rattle.sw_parse_lexemes.specs.Classes.{is_reserved, is_else}
-use Rattle.sw_parse_lexemes.specs.Words.{word_sort, at_sort}
+use Rattle.sw_parse_lexemes.specs.Classes.{is_else}
+use Rattle.sw_parse_lexemes.specs.Words.{at_sort}
 use Rattle.sw_parse_table.specs.declared.source.Source.{Source}
 use Rattle.sw_parse_table.specs.Parts.{Part}
 use Rattle.sw_parse_table.specs.Sources.{bytes_at, parts_between, text_between}
@@ -22,14 +23,13 @@ use Rattle.sw_convert_passing.specs.Written.{Written}
 use Rattle.sw_convert_again.specs.Tokens.{Tok, Extent}
 use Rattle.sw_convert_again.specs.RawTexts.{SpellsRawText, raw_tokens}
 use Rattle.sw_convert_again.specs.Spells.{SpellsWord}
-use Rattle.sw_convert_again.specs.Spells as spells_values
 use Rattle.sw_convert_again.specs.Statements.{SpellsStatement, SpellsName, SpellsAtName, SpellsOptionalRaw, at_word, no_raw, some_raw}
 use Rattle.sw_convert_again.specs.Statements as spells
 use Rattle.sw_convert_tokens.specs.Values.{WasRead}
 use Rattle.sw_convert_tokens.specs.Written.{Follows, is_calm, begins_white}
 use Rattle.sw_convert_heads_passing.specs.Heads.{is_keyword}
 use Rattle.sw_convert_heads_passing.specs.Statements.{begins_else}
-use Rattle.sw_convert_texts.specs.Names.{joined, name_inserts}
+use Rattle.sw_convert_texts.specs.Names.{joined, is_mixed, name_inserts}
 use Rattle.sw_convert_texts.specs.RawKinds.{raw_known, is_uncut}
 use Rattle.sw_convert_texts.specs.AtInserts.{begins_inserted}
 use Rattle.sw_convert_texts.specs.RawTexts.{SheetSegment}
@@ -37,7 +37,7 @@ use Rattle.sw_convert_texts.specs.RuleTexts.{begins_rule}
 use Rattle.sw_convert_values.specs.Values.{goes_on}
 use Rattle.sw_convert_statements.specs.Segments.{RuleWritten}
 use Rattle.sw_convert_statements.specs.Statements.{FrontIs}
-use Rattle.sw_convert_statements.specs.OneName.{begins_dashed}
+use Rattle.sw_convert_statements.specs.Starts.{may_begin}
 use Rattle.sw_convert_statements.specs.Fronts.{ValuesAreKnown}
 use Rattle.sw_convert_statements.specs.Texts.{TextsAreKnown}
 
@@ -72,17 +72,15 @@ SelectorsAreKnown source =
 
 -- ---- names of which it is proved, told by their bytes
 
--- a name that is no constant and no operator by itself, or a word with more in it
-abbrev pub is_free_word : (source : Source) {i j : ℕ} {parts : Parts} {tokens : List Tok}
-    → SpellsWord source i j parts tokens → Bool
-is_free_word source (spells_values.named {i} old spells_values.row_end) = not (is_reserved (word_sort (bytes_at source i)))
-is_free_word source word = true
+-- with a `:` behind it, a name begins with `--`
+abbrev pub begins_dashed : List ℕ → Bool
+begins_dashed name = (byte (name ++ codes ":") 0 == sign "-") && (byte (name ++ codes ":") 1 == sign "-")
 
--- and that begins neither with white space nor with `--`
-abbrev pub is_property : (source : Source) {i j : ℕ} {parts : Parts} {tokens : List Tok}
+-- one name, or a word with more in it that begins neither with white space nor so
+abbrev pub is_property : {source : Source} {i j : ℕ} {parts : Parts} {tokens : List Tok}
     → SpellsWord source i j parts tokens → Bool
-is_property source {parts = parts} word =
-    is_free_word source word && (not (begins_white (joined parts)) && not (begins_dashed (joined parts)))
+is_property {parts = parts} word =
+    not (is_mixed word) || (not (begins_white (joined parts)) && not (begins_dashed (joined parts)))
 
 abbrev pub is_custom : (source : Source) {i j : ℕ} {parts : Parts} {tokens : List Tok}
     → SpellsName source terminals.Custom i j parts tokens → Bool
@@ -102,15 +100,15 @@ is_at_rule source name = begins_inserted name
 -- declarations with a value, a block or both, custom properties and at-rules of CSS with such names, and such rules
 abbrev pub has_name : {source : Source} {i j : ℕ} {statement : Statement} {tokens : List Tok}
     → SpellsStatement source i j statement tokens → Bool
-has_name {source} (spells.declaration_line span text_span word mark inner end) = is_property source word
+has_name {source} (spells.declaration_line span text_span word mark inner end) = is_property word
 has_name {source} (spells.custom_line span text_span name mark inner end) =
     is_custom source name && optional_known source modes.Custom inner
 has_name {source} (spells.at_rule_line span text_span name raw end) =
     is_at_rule source name && optional_known source modes.Raw raw
 has_name {source} (spells.at_rule_block span text_span name raw block) =
     is_at_rule source name && optional_known source modes.Raw raw
-has_name {source} (spells.properties_block span text_span word mark block) = is_property source word
-has_name {source} (spells.properties_value_block span text_span word mark inner block) = is_property source word
+has_name {source} (spells.properties_block span text_span word mark block) = is_property word
+has_name {source} (spells.properties_value_block span text_span word mark inner block) = is_property word
 has_name {source} (spells.rule_block span raw block) = rule_known source raw
 has_name _ = false
 
@@ -118,5 +116,5 @@ abbrev pub NamedFrontsAreWritten : Type 0
 NamedFrontsAreWritten =
     (source : Source) → WasRead source → ValuesAreKnown source → TextsAreKnown modes.Raw source
     → TextsAreKnown modes.Custom source → SelectorsAreKnown source → (i j : ℕ) (statement : Statement)
-    (tokens : List Tok) → goes_on source j ≡ false
+    (tokens : List Tok) → may_begin source i ≡ true → goes_on source j ≡ false
     → (spelt : SpellsStatement source i j statement tokens) → has_name spelt ≡ true → FrontIs spelt

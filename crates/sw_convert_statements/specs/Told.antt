@@ -10,6 +10,7 @@ use Rattle.sw_convert_again.specs.Statements as spells
 use Rattle.sw_convert_tokens.specs.Values.{WasRead}
 use Rattle.sw_convert_values.specs.Values.{goes_on}
 use Rattle.sw_convert_statements.specs.Statements.{ListHasFronts}
+use Rattle.sw_convert_statements.specs.Starts.{may_begin}
 use Rattle.sw_convert_statements.specs.Fronts.{ValuesAreKnown, is_told}
 use Rattle.sw_convert_statements.specs.Texts.{TextsAreKnown, has_text}
 use Rattle.sw_convert_statements.specs.Names.{SelectorsAreKnown, has_name}
@@ -77,5 +78,5 @@ abbrev pub KnownSheetsHaveFronts : Type 0
 KnownSheetsHaveFronts =
     (source : Source) → WasRead source → ValuesAreKnown source → TextsAreKnown modes.Raw source
     → TextsAreKnown modes.Custom source → SelectorsAreKnown source → (i j : ℕ) (list : List Statement) (tokens : List Tok)
-    → goes_on source j ≡ false → (spelt : SpellsStatements source i j list tokens) → list_known spelt ≡ true
-    → ListHasFronts spelt
+    → may_begin source i ≡ true → goes_on source j ≡ false → (spelt : SpellsStatements source i j list tokens)
+    → list_known spelt ≡ true → ListHasFronts spelt

@@ -5,7 +5,7 @@ mod UrlCalls
 pub mod Starts
 pub mod Stops
 mod ReservedWords
-mod Reserved
+pub mod Reserved
 mod Called
 mod Single
 mod Strings
