@@ -46,6 +46,11 @@ BOTH = (
     + nested("@at-root {", 60, "$x: map.deep-merge($l, $l); @include m;", "}")
     + " } a { @include m; }"
 )
+NAMES = (
+    '@use "sass:map"; $l: a; @for $i from 1 through 998 { $l: (k: $l); } @function f() { $x: map.deep-merge($l, $l); @return '
+    + nested("a#{", 60, "f()", "}()")
+    + "; } a { b: f(); }"
+)
 
 SHAPES = {
     "one rule": one("a { b: c; }"),
@@ -57,6 +62,11 @@ SHAPES = {
     "functions in each other": one("@function f($x) { @return f($x); } a { b: f(1); }"),
     "functions in parentheses": one("@function f() { @return " + nested("(1 + ", 60, "f()", ")") + "; } a { b: f(); }"),
     'functions in "#{}"': one("@function f() { @return " + nested('"#{', 60, "f()", '}"') + "; } a { b: f(); }"),
+    "functions in names of functions": one("@function f() { @return " + nested("a#{", 60, "f()", "}()") + "; } a { b: f(); }"),
+    "functions in calc()": one("@function f() { @return " + nested("calc(#{", 60, "f()", "})") + "; } a { b: f(); }"),
+    "functions in if()": one("@function f() { @return " + nested("if(true, ", 60, "f()", ", 1)") + "; } a { b: f(); }"),
+    "functions in arguments": one("@function g($x) { @return $x; } @function f() { @return " + nested("g(", 60, "f()", ")") + "; } a { b: f(); }"),
+    "functions in signs": one("@function f() { @return " + nested("+(", 60, "f()", ")") + "; } a { b: f(); }"),
     "functions in built-in calls": one("@function f() { @return " + nested("quote(", 60, "f()", ")") + "; } a { b: f(); }"),
     "functions in lists and maps": one("@function f() { @return " + nested("[(a: ", 30, "f()", ")]") + "; } a { b: f(); }"),
     "functions in @each": one("@function f() { " + nested("@each $x in 1 { ", 60, "@return f();", "}") + " } a { b: f(); }"),
@@ -75,6 +85,7 @@ SHAPES = {
     "a deep list as CSS": one(DEEP_LIST + "a { b: $d; }"),
     "map.deep-merge under @at-root": one(BOTH),
     "map.deep-merge under @at-root in loads": chain(BOTH, 63),
+    "map.deep-merge under names of functions in loads": chain(NAMES, 63),
 }
 
 

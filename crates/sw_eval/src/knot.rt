@@ -10,7 +10,7 @@ use sw_eval_literals::Parens;
 use sw_eval_questions::Stop;
 use sw_eval_state::fails;
 use sw_eval_statements::{does_placed, place_of, run_body};
-use sw_eval_walk::{Body, Level, Walk};
+use sw_eval_walk::{Body, Level, Returned, Walk};
 use sw_text::{FaultCode, Span};
 use sw_tree::{Expr, Statement};
 use sw_values::Value;
@@ -33,22 +33,25 @@ pub(crate) fn value_at<W: World>(
     let lower = depth - 1;
     let below = Lower {
         depth: lower,
-        value: |walk: &mut Walk, parens: Parens, e: &Expr, world: &mut W| -> Result<Value, Stop>
+        value: move |walk: &mut Walk, parens: Parens, e: &Expr, world: &mut W| -> Result<
+            Value,
+            Stop,
+        >
             requires { lower < depth }
             ensures { Goes_on W.gives (value_to lower parens e.now) walk.old world.old result walk.new world.new }
         {
             let _ = &depth;
             value_at(walk, lower, parens, e, world)
         },
-        does: |walk: &mut Walk, one: &Statement, world: &mut W| -> Result<Option<Value>, Stop>
+        does: move |walk: &mut Walk, one: &Statement, world: &mut W| -> Result<Returned, Stop>
             requires { lower < depth }
             ensures { Goes_on W.gives (does_to lower one.now) walk.old world.old result walk.new world.new }
         {
             let _ = &depth;
             does_at(walk, lower, one, world)
         },
-        enter: |walk: &mut Walk, span: &Span, body: Body<'_>, world: &mut W| -> Result<
-            Option<Value>,
+        enter: move |walk: &mut Walk, span: &Span, body: Body<'_>, world: &mut W| -> Result<
+            Returned,
             Stop,
         >
             requires { lower < depth }
@@ -70,7 +73,7 @@ pub(crate) fn enter_at<W: World>(
     span: &Span,
     body: Body<'_>,
     world: &mut W,
-) -> Result<Option<Value>, Stop>
+) -> Result<Returned, Stop>
     ensures { Goes_on W.gives (enter_to depth span.now body.entry.start.now body.entry.params.now
         body.entry.block.now) walk.old world.old result walk.new world.new }
 {
@@ -80,22 +83,25 @@ pub(crate) fn enter_at<W: World>(
     let lower = depth - 1;
     let below = Lower {
         depth: lower,
-        value: |walk: &mut Walk, parens: Parens, e: &Expr, world: &mut W| -> Result<Value, Stop>
+        value: move |walk: &mut Walk, parens: Parens, e: &Expr, world: &mut W| -> Result<
+            Value,
+            Stop,
+        >
             requires { lower < depth }
             ensures { Goes_on W.gives (value_to lower parens e.now) walk.old world.old result walk.new world.new }
         {
             let _ = &depth;
             value_at(walk, lower, parens, e, world)
         },
-        does: |walk: &mut Walk, one: &Statement, world: &mut W| -> Result<Option<Value>, Stop>
+        does: move |walk: &mut Walk, one: &Statement, world: &mut W| -> Result<Returned, Stop>
             requires { lower < depth }
             ensures { Goes_on W.gives (does_to lower one.now) walk.old world.old result walk.new world.new }
         {
             let _ = &depth;
             does_at(walk, lower, one, world)
         },
-        enter: |walk: &mut Walk, span: &Span, body: Body<'_>, world: &mut W| -> Result<
-            Option<Value>,
+        enter: move |walk: &mut Walk, span: &Span, body: Body<'_>, world: &mut W| -> Result<
+            Returned,
             Stop,
         >
             requires { lower < depth }
@@ -116,7 +122,7 @@ pub(crate) fn does_at<W: World>(
     depth: u32,
     statement: &Statement,
     world: &mut W,
-) -> Result<Option<Value>, Stop>
+) -> Result<Returned, Stop>
     ensures { Goes_on W.gives (does_to depth statement.now) walk.old world.old result walk.new world.new }
 {
     if depth == 0 {
@@ -125,22 +131,25 @@ pub(crate) fn does_at<W: World>(
     let lower = depth - 1;
     let below = Lower {
         depth: lower,
-        value: |walk: &mut Walk, parens: Parens, e: &Expr, world: &mut W| -> Result<Value, Stop>
+        value: move |walk: &mut Walk, parens: Parens, e: &Expr, world: &mut W| -> Result<
+            Value,
+            Stop,
+        >
             requires { lower < depth }
             ensures { Goes_on W.gives (value_to lower parens e.now) walk.old world.old result walk.new world.new }
         {
             let _ = &depth;
             value_at(walk, lower, parens, e, world)
         },
-        does: |walk: &mut Walk, one: &Statement, world: &mut W| -> Result<Option<Value>, Stop>
+        does: move |walk: &mut Walk, one: &Statement, world: &mut W| -> Result<Returned, Stop>
             requires { lower < depth }
             ensures { Goes_on W.gives (does_to lower one.now) walk.old world.old result walk.new world.new }
         {
             let _ = &depth;
             does_at(walk, lower, one, world)
         },
-        enter: |walk: &mut Walk, span: &Span, body: Body<'_>, world: &mut W| -> Result<
-            Option<Value>,
+        enter: move |walk: &mut Walk, span: &Span, body: Body<'_>, world: &mut W| -> Result<
+            Returned,
             Stop,
         >
             requires { lower < depth }

@@ -2,7 +2,7 @@
 
 use sw_eval_literals::Parens;
 use sw_eval_questions::Stop;
-use sw_eval_walk::{Below, Body, Walk};
+use sw_eval_walk::{Below, Body, Returned, Walk};
 use sw_text::Span;
 use sw_tree::{Expr, Statement};
 use sw_values::Value;
@@ -20,8 +20,8 @@ pub(crate) struct Lower<V, S, E> {
 impl<
     W: World,
     V: Fn(&mut Walk, Parens, &Expr, &mut W) -> Result<Value, Stop> + Copy,
-    S: Fn(&mut Walk, &Statement, &mut W) -> Result<Option<Value>, Stop> + Copy,
-    E: Fn(&mut Walk, &Span, Body<'_>, &mut W) -> Result<Option<Value>, Stop> + Copy,
+    S: Fn(&mut Walk, &Statement, &mut W) -> Result<Returned, Stop> + Copy,
+    E: Fn(&mut Walk, &Span, Body<'_>, &mut W) -> Result<Returned, Stop> + Copy,
 > Below<W> for Lower<V, S, E> {
     ghost use Rattle.sw_eval.specs.Means.{value_to, does_to, enter_to};
     ghost use Rattle.sw_eval.specs.Lower.{Values, Statements, Bodies};
@@ -45,12 +45,7 @@ impl<
         (self.value)(walk, parens, e, world)
     }
 
-    fn does(
-        self,
-        walk: &mut Walk,
-        statement: &Statement,
-        world: &mut W,
-    ) -> Result<Option<Value>, Stop> {
+    fn does(self, walk: &mut Walk, statement: &Statement, world: &mut W) -> Result<Returned, Stop> {
         (self.does)(walk, statement, world)
     }
 
@@ -60,7 +55,7 @@ impl<
         span: &Span,
         body: Body<'_>,
         world: &mut W,
-    ) -> Result<Option<Value>, Stop> {
+    ) -> Result<Returned, Stop> {
         (self.enter)(walk, span, body, world)
     }
 }

@@ -3,7 +3,7 @@
 use crate::knot::{does_at, enter_at, value_at};
 use sw_eval_literals::Parens;
 use sw_eval_questions::Stop;
-use sw_eval_walk::{Below, Body, Walk};
+use sw_eval_walk::{Below, Body, Returned, Walk};
 use sw_text::Span;
 use sw_tree::{Expr, Statement};
 use sw_values::Value;
@@ -40,12 +40,7 @@ impl<W: World> Below<W> for Outermost {
         value_at(walk, LOAD_DEPTH, parens, e, world)
     }
 
-    fn does(
-        self,
-        walk: &mut Walk,
-        statement: &Statement,
-        world: &mut W,
-    ) -> Result<Option<Value>, Stop> {
+    fn does(self, walk: &mut Walk, statement: &Statement, world: &mut W) -> Result<Returned, Stop> {
         does_at(walk, DEPTH, statement, world)
     }
 
@@ -55,7 +50,7 @@ impl<W: World> Below<W> for Outermost {
         span: &Span,
         body: Body<'_>,
         world: &mut W,
-    ) -> Result<Option<Value>, Stop> {
+    ) -> Result<Returned, Stop> {
         enter_at(walk, LOAD_DEPTH, span, body, world)
     }
 }

@@ -35,17 +35,21 @@ abbrev pub or_written : Option Plain → List ℕ → List Argument → List Pla
 or_written (Some v) name args vs span s = Gives (v, s)
 or_written None name args vs span s = answer (css_call name args vs span) s
 
+-- by this name, with these values; such a function takes no arguments by name
+unfoldable pub css_with : Callee → List ℕ → List Argument → List Plain → Span → Eval Plain
+css_with c name args vs span s =
+    if names_any (all_passed none_passed args vs) then Fails (fault C.ArgumentFault span)
+    else bind (hosted_value c name (all_passed none_passed args vs).items span s)
+    (λ h. or_written h.0 (written_name c.namespace name) args vs span h.1)
+
 -- ---- one level: `value` is the level below
 
 module _ (value : Parens → Expr → Eval Plain) where
-  -- such a function takes no arguments by name
   unfoldable pub css_called : Parens → Callee → List Argument → Span → Eval Plain
   css_called parens c args span s =
       bind (text value K.Expression parens c.name.parts c.name.span s)
       (λ t. bind (argument_values value (deeper parens) args [] t.1)
-      (λ vs. if names_any (all_passed none_passed args vs.0) then Fails (fault C.ArgumentFault span)
-      else bind (hosted_value c t.0 (all_passed none_passed args vs.0).items span vs.1)
-      (λ h. or_written h.0 (written_name c.namespace t.0) args vs.0 span h.1)))
+      (λ vs. css_with c t.0 args vs.0 span vs.1))
 
   -- ---- `if()`
 

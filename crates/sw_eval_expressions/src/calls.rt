@@ -1,4 +1,7 @@
 // Calls of functions.
+ghost use Rattle.sw_eval_questions.specs.Did.{IsReturn};
+ghost use Rattle.sw_eval_state.specs.Entering.{returned};
+ghost use Rattle.sw_eval_state.specs.declared.state.State.{State};
 ghost use Rattle.sw_eval_walk.specs.Going.{Goes_on};
 ghost use Rattle.sw_eval_expressions.specs.Calls.{sheet_call, built_in_call, built_in_by, call_value};
 
@@ -7,13 +10,27 @@ use crate::functions::{css_called, if_called};
 use sw_builtins::BuiltIn;
 use sw_eval_questions::{Stop, stopped};
 use sw_eval_state::{Called, Found, function_entry, returned};
-use sw_eval_walk::{Below, Body, Level, Walk, argument_values, arguments_of};
+use sw_eval_walk::{Below, Body, Level, Returned, Walk, argument_values, arguments_of};
 use sw_text::Span;
 use sw_tree::{Argument, Callee};
 use sw_values::Value;
 use sw_world::World;
 
+// What the body of a function gives, whose call stands here.
+fn given(value: Returned, span: &Span) -> Result<Value, Stop>
+    ensures { (s : State) → IsReturn result s (returned value span.now s) }
+{
+    match value {
+        Some(value) => {
+            let value = value.get().share()?;
+            returned(Some(value), span)
+        }
+        None => returned(None, span),
+    }
+}
+
 // The call of a function of a sheet.
+#[inline(never)]
 fn sheet_call<W: World, B: Below<W>>(
     walk: &mut Walk,
     level: Level<B>,
@@ -35,10 +52,11 @@ fn sheet_call<W: World, B: Below<W>>(
         block: callable.block.as_slice(),
     };
     let value = level.below.enter(walk, span, body, world)?;
-    returned(value, span)
+    given(value, span)
 }
 
 // A built-in function, which is given its arguments.
+#[inline(never)]
 fn built_in_call<W: World, B: Below<W>>(
     walk: &mut Walk,
     level: Level<B>,
@@ -80,6 +98,7 @@ fn built_in_by<W: World, B: Below<W>>(
 }
 
 // A call, which stands here.
+#[inline(never)]
 pub(crate) fn call<W: World, B: Below<W>>(
     walk: &mut Walk,
     level: Level<B>,

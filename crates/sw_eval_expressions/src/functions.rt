@@ -1,7 +1,7 @@
 // Calls of functions of CSS, and `if()`.
 ghost use Rattle.std.specs.Prelude.{◌≡◌, IfOk};
 ghost use Rattle.sw_eval_walk.specs.Going.{Goes_on};
-ghost use Rattle.sw_eval_expressions.specs.Functions.{written_name, css_called, one_of, chosen, if_called};
+ghost use Rattle.sw_eval_expressions.specs.Functions.{written_name, css_with, css_called, one_of, chosen, if_called};
 ghost use Rattle.sw_eval_expressions.specs.Choosing.{choice_of};
 
 use crate::choosing::{Chosen, choice, one_by};
@@ -29,7 +29,33 @@ fn written_name(alloc: Global, space: &Option<Namespaced>, name: Name) -> Result
     }
 }
 
+// The call of a function of CSS by this name with these values: the host's function, or else it is written out.
+#[inline(never)]
+fn css_with<W: World>(
+    walk: &mut Walk,
+    callee: &Callee,
+    name: Name,
+    arguments: &[Argument],
+    values: &[Value],
+    span: &Span,
+    world: &mut W,
+) -> Result<Value, Stop>
+    ensures { Goes_on W.gives (css_with callee.now name arguments.now values.now span.now) walk.old world.old result
+        walk.new world.new }
+{
+    let passed = all_passed(walk.alloc, arguments, values)?;
+    if names_any(&passed) {
+        return fails(FaultCode::ArgumentFault, span);
+    }
+    if let Some(value) = walk.hosted_value(callee, &name, passed.items, span, world)? {
+        return Ok(value);
+    }
+    let whole = written_name(walk.alloc, &callee.namespace, name)?;
+    stopped(css_call(walk.alloc, whole, arguments, values, span))
+}
+
 // The call of a function of CSS, which takes no arguments by name.
+#[inline(never)]
 pub(crate) fn css_called<W: World, B: Below<W>>(
     walk: &mut Walk,
     level: Level<B>,
@@ -52,15 +78,15 @@ pub(crate) fn css_called<W: World, B: Below<W>>(
         world,
     )?;
     let values = argument_values(walk, level.deeper(), arguments, world)?;
-    let passed = all_passed(walk.alloc, arguments, values.as_slice())?;
-    if names_any(&passed) {
-        return fails(FaultCode::ArgumentFault, span);
-    }
-    if let Some(value) = walk.hosted_value(callee, &name, passed.items, span, world)? {
-        return Ok(value);
-    }
-    let whole = written_name(walk.alloc, &callee.namespace, name)?;
-    stopped(css_call(walk.alloc, whole, arguments, values.as_slice(), span))
+    css_with(
+        walk,
+        callee,
+        name,
+        arguments,
+        values.as_slice(),
+        span,
+        world,
+    )
 }
 
 // What a condition chooses, which keeps no sides.
@@ -97,6 +123,7 @@ fn chosen<W: World, B: Below<W>>(
 }
 
 // `if()`, of whose arguments one is evaluated at most beside the condition.
+#[inline(never)]
 pub(crate) fn if_called<W: World, B: Below<W>>(
     walk: &mut Walk,
     level: Level<B>,

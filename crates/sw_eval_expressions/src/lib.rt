@@ -5,6 +5,7 @@
 mod calls;
 mod choosing;
 mod functions;
+mod leaves;
 mod special;
 mod value;
 

@@ -99,6 +99,7 @@ fn special_text<W: World, B: Below<W>>(
 }
 
 // `calc()` and what else is read as it is, an unquoted string.
+#[inline(never)]
 pub(crate) fn special<W: World, B: Below<W>>(
     walk: &mut Walk,
     level: Level<B>,

@@ -5,10 +5,10 @@ ghost use Rattle.sw_eval_walk.specs.Going.{Goes_on};
 ghost use Rattle.sw_eval_expressions.specs.Expressions.{string, word, signed, linked, links, chain, items, pairs, map, value_one};
 
 use crate::calls::call;
+use crate::leaves::{of_hash, of_important, of_items, of_number};
 use crate::special::special;
 use sw_eval_literals::{
-    Left, Parens, constant_value, hash_value, important_value, list_value, map_value, needs_right,
-    number_value, prefixed, string_value, word_value,
+    Left, Parens, constant_value, map_value, needs_right, prefixed, string_value, word_value,
 };
 use sw_eval_questions::{Stop, stopped};
 use sw_eval_walk::{Below, Level, TextKind, Walk, mixed, plain_value, text, value_of};
@@ -18,6 +18,7 @@ use sw_values::Value;
 use sw_world::World;
 
 // A quoted string or a url.
+#[inline(never)]
 fn string<W: World, B: Below<W>>(
     walk: &mut Walk,
     level: Level<B>,
@@ -35,6 +36,7 @@ fn string<W: World, B: Below<W>>(
 }
 
 // A word, which may be the name of a colour where no value stands in it.
+#[inline(never)]
 fn word<W: World, B: Below<W>>(
     walk: &mut Walk,
     level: Level<B>,
@@ -63,6 +65,7 @@ fn word<W: World, B: Below<W>>(
 }
 
 // An operand with the signs before it.
+#[inline(never)]
 fn signed<W: World, B: Below<W>>(
     walk: &mut Walk,
     level: Level<B>,
@@ -119,6 +122,7 @@ fn links<W: World, B: Below<W>>(
 }
 
 // Operands from left to right.
+#[inline(never)]
 fn chain<W: World, B: Below<W>>(
     walk: &mut Walk,
     level: Level<B>,
@@ -139,6 +143,7 @@ fn chain<W: World, B: Below<W>>(
 }
 
 // The values of the items of a list.
+#[inline(never)]
 fn items<W: World, B: Below<W>>(
     walk: &mut Walk,
     level: Level<B>,
@@ -180,6 +185,7 @@ fn pairs<W: World, B: Below<W>>(
     Ok(done)
 }
 
+#[inline(never)]
 fn map<W: World, B: Below<W>>(
     walk: &mut Walk,
     below: B,
@@ -207,16 +213,16 @@ pub fn value_one<W: World, B: Below<W>>(
         world.old result walk.new world.new }
 {
     match &e.kind {
-        ExprKind::Number(number) => stopped(number_value(number, &e.span)),
+        ExprKind::Number(number) => of_number(number, &e.span),
         ExprKind::Quoted(parts) => string(walk, level, parts, true, &e.span, world),
         ExprKind::Word(parts) => word(walk, level, parts, &e.span, world),
-        ExprKind::Hash(name) => stopped(hash_value(walk.alloc, name, &e.span)),
+        ExprKind::Hash(name) => of_hash(walk.alloc, name, &e.span),
         ExprKind::Constant(constant) => Ok(constant_value(*constant)),
         ExprKind::Url(parts) => string(walk, level, parts, false, &e.span, world),
         ExprKind::Variable(name) => walk.variable(name, &e.span, world),
         ExprKind::Qualified(q) => walk.qualified(q.get(), &e.span, world),
         ExprKind::Parent => walk.state.parent(walk.alloc, &e.span),
-        ExprKind::Important => Ok(important_value(walk.alloc)?),
+        ExprKind::Important => of_important(walk.alloc),
         ExprKind::Prefixed { signs, operand } => {
             signed(walk, level, signs.as_slice(), operand.get(), &e.span, world)
         }
@@ -230,7 +236,7 @@ pub fn value_one<W: World, B: Below<W>>(
         } => {
             let place = level.item(*separator, *around);
             let values = items(walk, place, all.as_slice(), world)?;
-            stopped(list_value(walk.alloc, values, *separator, *around, &e.span))
+            of_items(walk.alloc, values, *separator, *around, &e.span)
         }
         ExprKind::Paren(inner) => {
             let place = Level {

@@ -5,18 +5,18 @@ ghost use Rattle.sw_eval_statements.specs.Assignments.{variable_set, assigned, a
 use crate::names::name_span;
 use sw_eval_questions::Stop;
 use sw_eval_state::is_null;
-use sw_eval_walk::{Below, Level, Walk, plain_value};
+use sw_eval_walk::{Below, Level, Returned, Walk, plain_value};
 use sw_tree::{Assignment, Variable};
-use sw_values::Value;
 use sw_world::World;
 
 // An assignment to a variable without a namespace.
+#[inline(never)]
 pub(crate) fn variable_set<W: World, B: Below<W>>(
     walk: &mut Walk,
     below: B,
     statement: &Variable,
     world: &mut W,
-) -> Result<Option<Value>, Stop>
+) -> Result<Returned, Stop>
     requires { B.fits below }
     ensures { Goes_on W.gives (variable_set (B.values below) statement.now) walk.old world.old result
         walk.new world.new }
@@ -49,7 +49,7 @@ fn assigned_always<W: World, B: Below<W>>(
     below: B,
     statement: &Assignment,
     world: &mut W,
-) -> Result<Option<Value>, Stop>
+) -> Result<Returned, Stop>
     requires { B.fits below }
     ensures { Goes_on W.gives (assigned_always (B.values below) statement.now) walk.old world.old result
         walk.new world.new }
@@ -71,7 +71,7 @@ fn assigned_default<W: World, B: Below<W>>(
     below: B,
     statement: &Assignment,
     world: &mut W,
-) -> Result<Option<Value>, Stop>
+) -> Result<Returned, Stop>
     requires { B.fits below }
     ensures { Goes_on W.gives (assigned_default (B.values below) statement.now) walk.old world.old result
         walk.new world.new }
@@ -92,12 +92,13 @@ fn assigned_default<W: World, B: Below<W>>(
 }
 
 // An assignment to a variable behind a namespace.
+#[inline(never)]
 pub(crate) fn assigned<W: World, B: Below<W>>(
     walk: &mut Walk,
     below: B,
     statement: &Assignment,
     world: &mut W,
-) -> Result<Option<Value>, Stop>
+) -> Result<Returned, Stop>
     requires { B.fits below }
     ensures { Goes_on W.gives (assigned (B.values below) statement.now) walk.old world.old result
         walk.new world.new }

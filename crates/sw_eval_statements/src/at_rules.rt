@@ -6,19 +6,19 @@ use crate::styles::nested_block;
 use crate::texts::{raw_text, statement_text};
 use sw_eval_questions::Stop;
 use sw_eval_state::{bare_name, fails};
-use sw_eval_walk::{Below, Walk};
+use sw_eval_walk::{Below, Returned, Walk};
 use sw_text::{FaultCode, Name, Span};
 use sw_tree::{AtRoot, AtRule, Media, Statement, Supports, Text};
-use sw_values::Value;
 use sw_world::World;
 
 // `@media`: where no query is left, its block isn't evaluated.
+#[inline(never)]
 pub(crate) fn media<W: World, B: Below<W>>(
     walk: &mut Walk,
     below: B,
     statement: &Media,
     world: &mut W,
-) -> Result<Option<Value>, Stop>
+) -> Result<Returned, Stop>
     requires { B.fits below }
     ensures { Goes_on W.gives (media (B.values below) (B.statements below) statement.now) walk.old world.old result
         walk.new world.new }
@@ -39,12 +39,13 @@ pub(crate) fn media<W: World, B: Below<W>>(
     nested_block(walk, below, statement.block.as_slice(), world)
 }
 
+#[inline(never)]
 pub(crate) fn supports<W: World, B: Below<W>>(
     walk: &mut Walk,
     below: B,
     statement: &Supports,
     world: &mut W,
-) -> Result<Option<Value>, Stop>
+) -> Result<Returned, Stop>
     requires { B.fits below }
     ensures { Goes_on W.gives (supports (B.values below) (B.statements below) statement.now) walk.old world.old result
         walk.new world.new }
@@ -66,7 +67,7 @@ fn root_with<W: World, B: Below<W>>(
     block: &[Statement],
     span: &Span,
     world: &mut W,
-) -> Result<Option<Value>, Stop>
+) -> Result<Returned, Stop>
     requires { B.fits below }
     ensures { Goes_on W.gives (root_with (B.values below) (B.statements below) selector.now block.now span.now) walk.old
         world.old result walk.new world.new }
@@ -82,7 +83,7 @@ fn root_without<W: World, B: Below<W>>(
     below: B,
     block: &[Statement],
     world: &mut W,
-) -> Result<Option<Value>, Stop>
+) -> Result<Returned, Stop>
     requires { B.fits below }
     ensures { Goes_on W.gives (root_without (B.statements below) block.now) walk.old world.old result walk.new
         world.new }
@@ -91,12 +92,13 @@ fn root_without<W: World, B: Below<W>>(
     nested_block(walk, below, block, world)
 }
 
+#[inline(never)]
 pub(crate) fn at_root<W: World, B: Below<W>>(
     walk: &mut Walk,
     below: B,
     statement: &AtRoot,
     world: &mut W,
-) -> Result<Option<Value>, Stop>
+) -> Result<Returned, Stop>
     requires { B.fits below }
     ensures { Goes_on W.gives (at_root (B.values below) (B.statements below) statement.now) walk.old world.old result
         walk.new world.new }
@@ -119,7 +121,7 @@ fn block_by<W: World, B: Below<W>>(
     prelude: Name,
     statement: &AtRule,
     world: &mut W,
-) -> Result<Option<Value>, Stop>
+) -> Result<Returned, Stop>
     requires { B.fits below }
     ensures { Goes_on W.gives (block_by (B.statements below) name prelude statement.now.block statement.now.span)
         walk.old world.old result walk.new world.new }
@@ -137,12 +139,13 @@ fn block_by<W: World, B: Below<W>>(
 }
 
 // An at-rule that has no meaning of its own.
+#[inline(never)]
 pub(crate) fn at_rule<W: World, B: Below<W>>(
     walk: &mut Walk,
     below: B,
     statement: &AtRule,
     world: &mut W,
-) -> Result<Option<Value>, Stop>
+) -> Result<Returned, Stop>
     requires { B.fits below }
     ensures { Goes_on W.gives (at_rule (B.values below) (B.statements below) statement.now) walk.old world.old result
         walk.new world.new }

@@ -4,11 +4,10 @@ ghost use Rattle.sw_eval_statements.specs.Flow.{block, framed, holds, branches, 
 
 use sw_eval_questions::Stop;
 use sw_eval_state::fails;
-use sw_eval_walk::{Below, Level, Walk, value_of};
+use sw_eval_walk::{Below, Level, Returned, Walk, value_of};
 use sw_scope::FrameKind;
 use sw_text::{FaultCode, List};
 use sw_tree::{Branch, Expr, Statement, While};
-use sw_values::Value;
 use sw_world::World;
 
 pub(crate) fn block<W: World, B: Below<W>>(
@@ -16,7 +15,7 @@ pub(crate) fn block<W: World, B: Below<W>>(
     below: B,
     all: &[Statement],
     world: &mut W,
-) -> Result<Option<Value>, Stop>
+) -> Result<Returned, Stop>
     requires { B.fits below }
     ensures { Goes_on W.gives (block (B.statements below) all.now) walk.old world.old result walk.new world.new }
 {
@@ -35,7 +34,7 @@ pub(crate) fn framed<W: World, B: Below<W>>(
     kind: FrameKind,
     all: &[Statement],
     world: &mut W,
-) -> Result<Option<Value>, Stop>
+) -> Result<Returned, Stop>
     requires { B.fits below }
     ensures { Goes_on W.gives (framed (B.statements below) kind all.now) walk.old world.old result walk.new world.new }
 {
@@ -60,13 +59,14 @@ fn holds<W: World, B: Below<W>>(
 }
 
 // The block of the first condition that holds, or else the last one.
+#[inline(never)]
 pub(crate) fn branches<W: World, B: Below<W>>(
     walk: &mut Walk,
     below: B,
     all: &[Branch],
     otherwise: &Option<List<Statement>>,
     world: &mut W,
-) -> Result<Option<Value>, Stop>
+) -> Result<Returned, Stop>
     requires { B.fits below }
     ensures { Goes_on W.gives (branches (B.values below) (B.statements below) otherwise.now all.now) walk.old
         world.old result walk.new world.new }
@@ -89,7 +89,7 @@ fn repeats<W: World, B: Below<W>>(
     below: B,
     statement: &While,
     world: &mut W,
-) -> Result<Option<Value>, Stop>
+) -> Result<Returned, Stop>
     requires { B.fits below }
     ensures { Goes_on W.gives (repeats (B.values below) (B.statements below) statement.now) walk.old world.old result
         walk.new world.new }
@@ -110,12 +110,13 @@ fn repeats<W: World, B: Below<W>>(
 }
 
 // In one frame for all turns.
+#[inline(never)]
 pub(crate) fn repeat_in<W: World, B: Below<W>>(
     walk: &mut Walk,
     below: B,
     statement: &While,
     world: &mut W,
-) -> Result<Option<Value>, Stop>
+) -> Result<Returned, Stop>
     requires { B.fits below }
     ensures { Goes_on W.gives (repeat_in (B.values below) (B.statements below) statement.now) walk.old world.old
         result walk.new world.new }

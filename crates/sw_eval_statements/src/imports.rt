@@ -7,10 +7,9 @@ use crate::texts::statement_text;
 use sw_eval_questions::Stop;
 use sw_eval_raw_text::{all_plain, filled_all, inserted_of, parts_of, template};
 use sw_eval_state::fails;
-use sw_eval_walk::{Below, Level, TextKind, Walk, pieces};
+use sw_eval_walk::{Below, Level, Returned, TextKind, Walk, pieces};
 use sw_text::{FaultCode, List, Name};
 use sw_tree::{Import, Parts, Piece};
-use sw_values::Value;
 use sw_world::World;
 
 // The texts of the values in pieces.
@@ -53,7 +52,7 @@ fn plain_import<W: World, B: Below<W>>(
     parts: &[Name],
     statement: &Import,
     world: &mut W,
-) -> Result<Option<Value>, Stop>
+) -> Result<Returned, Stop>
     requires { B.fits below }
     ensures { Goes_on W.gives (plain_import (B.values below) parts.now statement.now) walk.old world.old result
         walk.new world.new }
@@ -71,7 +70,7 @@ fn import_by<W: World, B: Below<W>>(
     parts: &[Name],
     statement: &Import,
     world: &mut W,
-) -> Result<Option<Value>, Stop>
+) -> Result<Returned, Stop>
     requires { B.fits below }
     ensures { Goes_on W.gives (import_by (B.values below) parts.now statement.now) walk.old world.old result
         walk.new world.new }
@@ -89,7 +88,7 @@ fn css_import<W: World, B: Below<W>>(
     below: B,
     statement: &Import,
     world: &mut W,
-) -> Result<Option<Value>, Stop>
+) -> Result<Returned, Stop>
     requires { B.fits below }
     ensures { Goes_on W.gives (css_import (B.values below) statement.now) walk.old world.old result walk.new
         world.new }
@@ -105,7 +104,7 @@ fn sheet_import<W: World, B: Below<W>>(
     below: B,
     statement: &Import,
     world: &mut W,
-) -> Result<Option<Value>, Stop>
+) -> Result<Returned, Stop>
     requires { B.fits below }
     ensures { Goes_on W.gives (sheet_import (B.values below) statement.now) walk.old world.old result walk.new
         world.new }
@@ -119,12 +118,13 @@ fn sheet_import<W: World, B: Below<W>>(
 }
 
 // `@import`
+#[inline(never)]
 pub(crate) fn import<W: World, B: Below<W>>(
     walk: &mut Walk,
     below: B,
     statement: &Import,
     world: &mut W,
-) -> Result<Option<Value>, Stop>
+) -> Result<Returned, Stop>
     requires { B.fits below }
     ensures { Goes_on W.gives (import (B.values below) statement.now) walk.old world.old result walk.new world.new }
 {

@@ -8,7 +8,7 @@ use crate::flow::block;
 use sw_eval_calls::default_at;
 use sw_eval_questions::{Stop, stopped};
 use sw_eval_state::{Block, block_entry};
-use sw_eval_walk::{Below, Body, Level, Walk, arguments_of, plain_value};
+use sw_eval_walk::{Below, Body, Level, Returned, Walk, arguments_of, plain_value};
 use sw_scope::Slot;
 use sw_text::{Name, Shared, Span};
 use sw_tree::{Argument, Content, ContentCall, Expr, Mixin, Param};
@@ -75,7 +75,7 @@ pub fn run_body<W: World, B: Below<W>>(
     span: &Span,
     body: Body<'_>,
     world: &mut W,
-) -> Result<Option<Value>, Stop>
+) -> Result<Returned, Stop>
     requires { B.fits below }
     ensures { Goes_on W.gives (run_body (B.values below) (B.statements below) span.now body.entry.start.now body.entry.params.now
         body.entry.block.now) walk.old world.old result walk.new world.new }
@@ -89,6 +89,7 @@ pub fn run_body<W: World, B: Below<W>>(
 }
 
 // `@include`, which stands here.
+#[inline(never)]
 pub(crate) fn include<W: World, B: Below<W>>(
     walk: &mut Walk,
     below: B,
@@ -96,7 +97,7 @@ pub(crate) fn include<W: World, B: Below<W>>(
     content: &Option<Shared<Content>>,
     span: &Span,
     world: &mut W,
-) -> Result<Option<Value>, Stop>
+) -> Result<Returned, Stop>
     requires { B.fits below }
     ensures { Goes_on W.gives (include (B.values below) (B.bodies below) mixin.now content.now span.now) walk.old
         world.old result walk.new world.new }
@@ -124,7 +125,7 @@ fn content_run<W: World, B: Below<W>>(
     arguments: &[Argument],
     span: &Span,
     world: &mut W,
-) -> Result<Option<Value>, Stop>
+) -> Result<Returned, Stop>
     requires { B.fits below }
     ensures { Goes_on W.gives (content_run (B.values below) (B.bodies below) block.now arguments.now span.now)
         walk.old world.old result walk.new world.new }
@@ -141,12 +142,13 @@ fn content_run<W: World, B: Below<W>>(
 }
 
 // `@content`: nothing where the mixin was given no block.
+#[inline(never)]
 pub(crate) fn content<W: World, B: Below<W>>(
     walk: &mut Walk,
     below: B,
     statement: &ContentCall,
     world: &mut W,
-) -> Result<Option<Value>, Stop>
+) -> Result<Returned, Stop>
     requires { B.fits below }
     ensures { Goes_on W.gives (content (B.values below) (B.bodies below) statement.now) walk.old world.old result
         walk.new world.new }

@@ -6,7 +6,7 @@ use crate::flow::block;
 use sw_eval_literals::Counting;
 use sw_eval_questions::{Stop, stopped};
 use sw_eval_state::fails;
-use sw_eval_walk::{Below, Level, Walk, plain_value, value_of};
+use sw_eval_walk::{Below, Level, Returned, Walk, plain_value, value_of};
 use sw_scope::FrameKind;
 use sw_text::{FaultCode, List};
 use sw_tree::{Each, For};
@@ -20,7 +20,7 @@ fn each<W: World, B: Below<W>>(
     statement: &Each,
     elements: &[Value],
     world: &mut W,
-) -> Result<Option<Value>, Stop>
+) -> Result<Returned, Stop>
     requires { B.fits below }
     ensures { Goes_on W.gives (each (B.statements below) statement.now elements.now) walk.old world.old result
         walk.new world.new }
@@ -47,7 +47,7 @@ fn each_over<W: World, B: Below<W>>(
     statement: &Each,
     elements: &[Value],
     world: &mut W,
-) -> Result<Option<Value>, Stop>
+) -> Result<Returned, Stop>
     requires { B.fits below }
     ensures { Goes_on W.gives (each_over (B.statements below) statement.now elements.now) walk.old world.old result
         walk.new world.new }
@@ -75,12 +75,13 @@ fn elements<W: World, B: Below<W>>(
 }
 
 // The list is evaluated before the frame is opened.
+#[inline(never)]
 pub(crate) fn each_in<W: World, B: Below<W>>(
     walk: &mut Walk,
     below: B,
     statement: &Each,
     world: &mut W,
-) -> Result<Option<Value>, Stop>
+) -> Result<Returned, Stop>
     requires { B.fits below }
     ensures { Goes_on W.gives (each_in (B.values below) (B.statements below) statement.now) walk.old world.old result
         walk.new world.new }
@@ -96,7 +97,7 @@ fn counts<W: World, B: Below<W>>(
     statement: &For,
     numbers: &Counting,
     world: &mut W,
-) -> Result<Option<Value>, Stop>
+) -> Result<Returned, Stop>
     requires { B.fits below }
     ensures { Goes_on W.gives (counts (B.statements below) statement.now numbers.now) walk.old world.old result
         walk.new world.new }
@@ -124,7 +125,7 @@ fn count_over<W: World, B: Below<W>>(
     statement: &For,
     numbers: &Counting,
     world: &mut W,
-) -> Result<Option<Value>, Stop>
+) -> Result<Returned, Stop>
     requires { B.fits below }
     ensures { Goes_on W.gives (count_over (B.statements below) statement.now numbers.now) walk.old world.old result
         walk.new world.new }
@@ -153,12 +154,13 @@ fn bounds<W: World, B: Below<W>>(
 }
 
 // Both bounds are evaluated before the frame is opened.
+#[inline(never)]
 pub(crate) fn count_in<W: World, B: Below<W>>(
     walk: &mut Walk,
     below: B,
     statement: &For,
     world: &mut W,
-) -> Result<Option<Value>, Stop>
+) -> Result<Returned, Stop>
     requires { B.fits below }
     ensures { Goes_on W.gives (count_in (B.values below) (B.statements below) statement.now) walk.old world.old result
         walk.new world.new }

@@ -8,10 +8,9 @@ ghost use Rattle.sw_eval_statements.specs.Messages.{kind_of, said_by, said, sayi
 use sw_eval_literals::message;
 use sw_eval_questions::Stop;
 use sw_eval_state::fails;
-use sw_eval_walk::{Below, Level, Walk, value_of};
+use sw_eval_walk::{Below, Level, Returned, Walk, value_of};
 use sw_text::{FaultCode, Name, Span};
 use sw_tree::{Level as SayLevel, Say};
-use sw_values::Value;
 use sw_world::{SayKind, World};
 
 fn kind_of(level: SayLevel) -> SayKind
@@ -25,7 +24,7 @@ fn kind_of(level: SayLevel) -> SayKind
 }
 
 // What comes behind a message.
-fn said_by(level: SayLevel, span: &Span) -> Result<Option<Value>, Stop>
+fn said_by(level: SayLevel, span: &Span) -> Result<Returned, Stop>
     ensures { (s : State) → IsReturn result s (said_by level span.now s) }
 {
     match level {
@@ -42,7 +41,7 @@ fn said<W: World>(
     text: Name,
     span: &Span,
     world: &mut W,
-) -> Result<Option<Value>, Stop>
+) -> Result<Returned, Stop>
     ensures { Goes_on W.gives (said level text span.now) walk.old world.old result walk.new world.new }
 {
     walk.state.noted(&text, span)?;
@@ -51,12 +50,13 @@ fn said<W: World>(
 }
 
 // Says the value of an expression.
+#[inline(never)]
 pub(crate) fn saying<W: World, B: Below<W>>(
     walk: &mut Walk,
     below: B,
     statement: &Say,
     world: &mut W,
-) -> Result<Option<Value>, Stop>
+) -> Result<Returned, Stop>
     requires { B.fits below }
     ensures { Goes_on W.gives (saying (B.values below) statement.now) walk.old world.old result walk.new world.new }
 {

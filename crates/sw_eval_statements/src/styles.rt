@@ -9,11 +9,10 @@ use crate::texts::{raw_text, statement_text};
 use std::alloc::Global;
 use sw_eval_questions::Stop;
 use sw_eval_state::{State, fails};
-use sw_eval_walk::{Below, Level, Walk, value_of};
+use sw_eval_walk::{Below, Level, Returned, Walk, value_of};
 use sw_scope::FrameKind;
 use sw_text::{FaultCode, Name, Span};
 use sw_tree::{Custom, Declaration, Expr, Properties, Rule, Statement, Text};
-use sw_values::Value;
 use sw_world::World;
 
 // The whole name of a property.
@@ -49,12 +48,13 @@ fn valued<W: World, B: Below<W>>(
 }
 
 // A declaration, which stands in a rule or an at-rule.
+#[inline(never)]
 pub(crate) fn declaration<W: World, B: Below<W>>(
     walk: &mut Walk,
     below: B,
     statement: &Declaration,
     world: &mut W,
-) -> Result<Option<Value>, Stop>
+) -> Result<Returned, Stop>
     requires { B.fits below }
     ensures { Goes_on W.gives (declaration (B.values below) statement.now) walk.old world.old result
         walk.new world.new }
@@ -68,12 +68,13 @@ pub(crate) fn declaration<W: World, B: Below<W>>(
 }
 
 // A custom property is its text.
+#[inline(never)]
 pub(crate) fn custom<W: World, B: Below<W>>(
     walk: &mut Walk,
     below: B,
     statement: &Custom,
     world: &mut W,
-) -> Result<Option<Value>, Stop>
+) -> Result<Returned, Stop>
     requires { B.fits below }
     ensures { Goes_on W.gives (custom (B.values below) statement.now) walk.old world.old result walk.new world.new }
 {
@@ -111,7 +112,7 @@ pub(crate) fn nested_block<W: World, B: Below<W>>(
     below: B,
     block: &[Statement],
     world: &mut W,
-) -> Result<Option<Value>, Stop>
+) -> Result<Returned, Stop>
     requires { B.fits below }
     ensures { Goes_on W.gives (nested_block (B.statements below) block.now) walk.old world.old result walk.new
         world.new }
@@ -139,12 +140,13 @@ fn open_rule(alloc: Global, state: &mut State, statement: &Rule, text: &Name) ->
 }
 
 // A rule, which doesn't stand among nested properties.
+#[inline(never)]
 pub(crate) fn rule<W: World, B: Below<W>>(
     walk: &mut Walk,
     below: B,
     statement: &Rule,
     world: &mut W,
-) -> Result<Option<Value>, Stop>
+) -> Result<Returned, Stop>
     requires { B.fits below }
     ensures { Goes_on W.gives (rule (B.values below) (B.statements below) statement.now) walk.old world.old result
         walk.new world.new }
@@ -158,12 +160,13 @@ pub(crate) fn rule<W: World, B: Below<W>>(
 }
 
 // Nested properties: the value, and then those in the block.
+#[inline(never)]
 pub(crate) fn properties<W: World, B: Below<W>>(
     walk: &mut Walk,
     below: B,
     statement: &Properties,
     world: &mut W,
-) -> Result<Option<Value>, Stop>
+) -> Result<Returned, Stop>
     requires { B.fits below }
     ensures { Goes_on W.gives (properties (B.values below) (B.statements below) statement.now) walk.old world.old
         result walk.new world.new }

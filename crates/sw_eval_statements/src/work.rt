@@ -14,19 +14,19 @@ use crate::styles::{custom, declaration, properties, rule};
 use crate::texts::statement_text;
 use sw_eval_questions::Stop;
 use sw_eval_state::{fails, is_function, misplaced};
-use sw_eval_walk::{Below, Level, Walk, plain_value};
-use sw_text::FaultCode;
+use sw_eval_walk::{Below, Level, Returned, Walk, plain_value};
+use sw_text::{FaultCode, Shared};
 use sw_tree::{Return, Statement, Text};
-use sw_values::Value;
 use sw_world::World;
 
 // A comment, with the values in it, but for one of a function.
+#[inline(never)]
 fn comment<W: World, B: Below<W>>(
     walk: &mut Walk,
     below: B,
     it: &Text,
     world: &mut W,
-) -> Result<Option<Value>, Stop>
+) -> Result<Returned, Stop>
     requires { B.fits below }
     ensures { Goes_on W.gives (comment (B.values below) it.now) walk.old world.old result walk.new world.new }
 {
@@ -39,18 +39,20 @@ fn comment<W: World, B: Below<W>>(
 }
 
 // What a function gives.
+#[inline(never)]
 fn returning<W: World, B: Below<W>>(
     walk: &mut Walk,
     below: B,
     statement: &Return,
     world: &mut W,
-) -> Result<Option<Value>, Stop>
+) -> Result<Returned, Stop>
     requires { B.fits below }
     ensures { Goes_on W.gives (returning (B.values below) statement.now) walk.old world.old result walk.new
         world.new }
 {
     let value = plain_value(walk, Level::outside(below), &statement.value, world)?;
-    Ok(Some(value))
+    let shared = Shared::new(walk.alloc, value)?;
+    Ok(Some(shared))
 }
 
 fn does_one<W: World, B: Below<W>>(
@@ -58,7 +60,7 @@ fn does_one<W: World, B: Below<W>>(
     below: B,
     statement: &Statement,
     world: &mut W,
-) -> Result<Option<Value>, Stop>
+) -> Result<Returned, Stop>
     requires { B.fits below }
     ensures { Goes_on W.gives (does_one (B.values below) (B.statements below) (B.bodies below) statement.now) walk.old
         world.old result walk.new world.new }
@@ -108,7 +110,7 @@ pub fn does_placed<W: World, B: Below<W>>(
     below: B,
     statement: &Statement,
     world: &mut W,
-) -> Result<Option<Value>, Stop>
+) -> Result<Returned, Stop>
     requires { B.fits below }
     ensures { Goes_on W.gives (does_placed (B.values below) (B.statements below) (B.bodies below) statement.now)
         walk.old world.old result walk.new world.new }

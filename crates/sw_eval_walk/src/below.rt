@@ -14,7 +14,7 @@ use crate::walk::Walk;
 use sw_eval_literals::Parens;
 use sw_eval_questions::Stop;
 use sw_eval_state::Entry;
-use sw_text::Span;
+use sw_text::{Shared, Span};
 use sw_tree::{Expr, Param, Statement};
 use sw_values::Value;
 use sw_world::World;
@@ -29,6 +29,10 @@ pub struct Body<'a> {
     /// Its statements.
     pub block: &'a [Statement],
 }
+
+/// What a statement or a body returns, where it returns something. The value lies behind a pointer: what is around a
+/// statement hands on what that returned, and each level of it would hold a value of its own on the stack.
+pub type Returned = Option<Shared<Value>>;
 
 /// What evaluates the level below: the expressions and statements that stand in one, and the bodies that it enters. So
 /// one level is evaluated without knowing what is below it, and no two functions of it call each other in a circle.
@@ -48,12 +52,7 @@ pub trait Below<W: World>: Copy {
         ensures { Goes_on W.gives (values self parens e.now) walk.old world.old result walk.new world.new };
 
     /// What a statement returns: where it returns something, what is around it ends.
-    fn does(
-        self,
-        walk: &mut Walk,
-        statement: &Statement,
-        world: &mut W,
-    ) -> Result<Option<Value>, Stop>
+    fn does(self, walk: &mut Walk, statement: &Statement, world: &mut W) -> Result<Returned, Stop>
         requires { fits self }
         ensures { Goes_on W.gives (statements self statement.now) walk.old world.old result walk.new world.new };
 
@@ -64,7 +63,7 @@ pub trait Below<W: World>: Copy {
         span: &Span,
         body: Body<'_>,
         world: &mut W,
-    ) -> Result<Option<Value>, Stop>
+    ) -> Result<Returned, Stop>
         requires { fits self }
         ensures { Goes_on W.gives (bodies self span.now body.entry.start.now body.entry.params.now
             body.entry.block.now) walk.old world.old result walk.new world.new };

@@ -14,7 +14,7 @@ mod texts;
 mod walk;
 
 pub use arguments::{argument_values, arguments_of};
-pub use below::{Below, Body};
+pub use below::{Below, Body, Returned};
 pub use level::{Level, value_of};
 pub use texts::{TextKind, mixed, pieces, plain_value, text};
 pub use walk::Walk;

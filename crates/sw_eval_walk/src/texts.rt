@@ -149,6 +149,7 @@ pub fn text<W: World, B: Below<W>>(
 }
 
 /// A value that keeps no sides.
+#[inline(never)]
 pub fn plain_value<W: World, B: Below<W>>(
     walk: &mut Walk,
     level: Level<B>,

@@ -1,6 +1,5 @@
 use Rattle.sw_eval_expressions.specs.Expressions.{value_one}
-use Rattle.sw_eval_questions.proofs.Steps.{did_value, did_err, did_then, did_plain, no_memory}
-use Rattle.sw_eval_questions.proofs.Refusals.{did_stopped}
+use Rattle.sw_eval_questions.proofs.Steps.{did_value, did_err, did_then, did_plain}
 use Rattle.sw_eval_expressions.proofs.Opens.{out_Prefixed, out_Chain, out_List, out_Paren, out_Map, out_Call}
 use Rattle.sw_tree.specs.declared.expr.ExprKind as E
 use Rattle.sw_eval_expressions.proofs.value.value_one.Goals as goal
@@ -8,7 +7,7 @@ use Rattle.sw_eval_expressions.proofs.value.value_one.Goals as goal
 pub returns-in-Number : goal.returns-in-Number
 unfolding value_one E.out-ExprKind denote.Hole.Carrier.out
 returns-in-Number g c =
-    rw c.in-Number.is (did_stopped _ _ _ c.args.walk.now.state _ _ c.number_value.ensures c.stopped.ensures)
+    rw c.in-Number.is (did_plain _ _ _ _ _ (c.of_number.ensures c.args.walk.now.state))
 
 pub returns-in-Quoted : goal.returns-in-Quoted
 unfolding value_one E.out-ExprKind denote.Hole.Carrier.out
@@ -23,7 +22,7 @@ returns-in-Word g c =
 pub returns-in-Hash : goal.returns-in-Hash
 unfolding value_one E.out-ExprKind denote.Hole.Carrier.out
 returns-in-Hash g c =
-    rw c.in-Hash.is (did_stopped _ _ _ c.args.walk.now.state _ _ c.hash_value.ensures c.stopped-in-Hash.ensures)
+    rw c.in-Hash.is (did_plain _ _ _ _ _ (c.of_hash.ensures c.args.walk.now.state))
 
 pub returns-in-Constant : goal.returns-in-Constant
 unfolding value_one E.out-ExprKind denote.Hole.Carrier.out
@@ -50,14 +49,10 @@ unfolding value_one E.out-ExprKind denote.Hole.Carrier.out
 returns-in-Parent g c =
     rw c.in-Parent.is (did_plain _ _ _ _ _ c.parent.ensures)
 
-pub returns-in_err-important_value-in-Important : goal.returns-in_err-important_value-in-Important
-returns-in_err-important_value-in-Important g c =
-    no_memory _ c.args.walk.now.state _ _ _ c.from_residual.ensures
-
-pub returns-in_ok-important_value-in-Important : goal.returns-in_ok-important_value-in-Important
+pub returns-in-Important : goal.returns-in-Important
 unfolding value_one E.out-ExprKind denote.Hole.Carrier.out
-returns-in_ok-important_value-in-Important g c =
-    rw (c.in-Important.is, c.in_ok-important_value-in-Important.ensures) (did_value _ c.args.walk.now.state _ _)
+returns-in-Important g c =
+    rw c.in-Important.is (did_plain _ _ _ _ _ (c.of_important.ensures c.args.walk.now.state))
 
 pub returns-in-Prefixed : goal.returns-in-Prefixed
 unfolding value_one
@@ -77,7 +72,7 @@ returns-in_err-values-in-List g c =
 pub returns-in_ok-values-in-List : goal.returns-in_ok-values-in-List
 unfolding value_one
 returns-in_ok-values-in-List g c =
-    rw (c.in-List.is, out_List) (did_then _ (rw (c.as_slice-in-List.ensures, c.item-place.ensures) at c.in_ok-values-in-List.ensures) (did_stopped _ _ _ c.items.new.walk.state _ _ c.list_value.ensures c.stopped-in-List.ensures))
+    rw (c.in-List.is, out_List) (did_then _ (rw (c.as_slice-in-List.ensures, c.item-place.ensures) at c.in_ok-values-in-List.ensures) (did_plain _ _ _ _ _ (c.of_items.ensures c.items.new.walk.state)))
 
 pub returns-in-Paren : goal.returns-in-Paren
 unfolding value_one

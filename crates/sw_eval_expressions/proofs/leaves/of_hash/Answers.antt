@@ -1,0 +1,5 @@
+use Rattle.sw_eval_expressions.proofs.Stopped.{plain_stopped}
+use Rattle.sw_eval_expressions.proofs.leaves.of_hash.Goals as goal
+
+pub returns : goal.returns
+returns c = λ s. plain_stopped _ _ _ s c.hash_value.ensures c.stopped.ensures
