@@ -85,6 +85,7 @@ impl Walk {
 
     /// What a call means: code of the body's own module finds its functions unasked, and a name with `#{}` is CSS.
     /// `Private` for a private name behind a namespace; other faults are by the answer, or `Turns`.
+    #[inline(never)]
     pub fn called<W: World>(
         &mut self,
         callee: &Callee,

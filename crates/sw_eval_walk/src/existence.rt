@@ -189,6 +189,7 @@ impl Walk {
     /// The value for arguments that have these values, without sides; a function that asks what exists gives a truth.
     /// What is wrong in the arguments is a fault at `span`, but what can't be written in CSS at its argument
     /// (docs/LANGUAGE.md, Functions).
+    #[inline(never)]
     pub fn built_in_called<W: World>(
         &mut self,
         function: BuiltIn,

@@ -99,6 +99,7 @@ impl Walk {
 
     /// The value of a variable without a namespace: the one that is seen, else the module's, which is asked for.
     /// `UnknownVariable` at `span` where there is none (docs/LANGUAGE.md, Modules).
+    #[inline(never)]
     pub fn variable<W: World>(
         &mut self,
         name: &Name,
@@ -115,6 +116,7 @@ impl Walk {
 
     /// The value of a variable behind a namespace. `Private` or `UnknownMember` at `span`, `UnknownNamespace` at the
     /// namespace (docs/LANGUAGE.md, Modules).
+    #[inline(never)]
     pub fn qualified<W: World>(
         &mut self,
         q: &Qualified,
