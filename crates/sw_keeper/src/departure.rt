@@ -60,6 +60,7 @@ fn with_room(alloc: Global, seen: &Pairs, place: usize) -> Result<GrowingPairs, 
 }
 
 /// The departure at a place of the pairs of one of these runs.
+#[inline(never)]
 pub(crate) fn departure_at<E: Engine>(
     alloc: Global,
     runs: &[Shared<Run<E>>],

@@ -210,6 +210,7 @@ fn load_turn<R: Reader, E: Engine, H: Hosts>(
 }
 
 /// Asks the questions of the marked runs again.
+#[inline(never)]
 #[cycle(evaluate)]
 fn replay_runs<R: Reader, E: Engine, H: Hosts>(
     within: &Within<'_, R, E>,
@@ -250,6 +251,7 @@ fn replay_runs<R: Reader, E: Engine, H: Hosts>(
 }
 
 /// Evaluates the text of a module of which no kept run is alike.
+#[inline(never)]
 #[cycle(evaluate)]
 fn evaluate_anew<R: Reader, E: Engine, H: Hosts>(
     within: &Within<'_, R, E>,

@@ -35,6 +35,7 @@ pub(crate) fn load_of<'k, E: Engine>(going: &Agreeing<'k, E>) -> &'k Question
 }
 
 /// What is left of the runs when the load is answered so.
+#[inline(never)]
 pub(crate) fn after_load<E: Engine>(
     alloc: Global,
     going: &Agreeing<'_, E>,

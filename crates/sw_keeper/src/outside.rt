@@ -47,6 +47,7 @@ fn go_asked<R: Reader, E: Engine, H: Hosts>(
 }
 
 /// A body goes on, over a state and a host that are lent for it.
+#[inline(never)]
 pub(crate) fn go_outside<R: Reader, E: Engine, H: Hosts>(
     alloc: Global,
     reader: &R,
@@ -104,6 +105,7 @@ fn replay_asked<R: Reader, E: Engine, H: Hosts>(
 }
 
 /// The questions of kept runs are asked again, of a state and a host that are lent for it.
+#[inline(never)]
 pub(crate) fn replay_outside<R: Reader, E: Engine, H: Hosts>(
     alloc: Global,
     reader: &R,

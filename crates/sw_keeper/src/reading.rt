@@ -34,6 +34,7 @@ fn is_alike_at<E: Engine>(runs: &[Shared<Run<E>>], place: usize, opening: &Openi
 }
 
 /// The sheet of a text, or the fault with which it doesn't read. A text that a kept run has isn't read again.
+#[inline(never)]
 pub(crate) fn read_sheet<R: Reader, E: Engine>(
     within: &Within<'_, R, E>,
     opening: &Opening,

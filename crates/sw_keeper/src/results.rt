@@ -14,6 +14,7 @@ use sw_tree::Sheet;
 use sw_world::{End, Engine, Pairs};
 
 /// The run of a body that ended.
+#[inline(never)]
 pub(crate) fn run_ended<E: Engine>(
     alloc: Global,
     opening: &Opening,
