@@ -21,4 +21,4 @@ returns-in_err-value g c =
 pub returns : goal.returns
 unfolding sheet_call
 returns g c =
-    did_then _ (rw c.deeper.ensures at c.in_ok-passed.ensures) (did_then _ (did_stopped _ _ _ c.arguments_of.new.walk.state _ _ c.function_entry.ensures c.in_ok-entry.ensures) (did_then _ (rw (c.as_slice.ensures, c.as_slice-2.ensures, c.get-callable.ensures) at c.in_ok-value.ensures) (did_plain _ c.enter.new.walk.state _ _ _ (c.returned.ensures c.enter.new.walk.state))))
+    did_then _ (rw c.deeper.ensures at c.in_ok-passed.ensures) (did_then _ (did_stopped _ _ _ c.arguments_of.new.walk.state _ _ c.function_entry.ensures c.in_ok-entry.ensures) (did_then _ (rw (c.as_slice.ensures, c.as_slice-2.ensures, c.get-callable.ensures) at c.in_ok-value.ensures) (did_plain _ c.enter.new.walk.state _ _ _ (c.given.ensures c.enter.new.walk.state))))

@@ -67,7 +67,7 @@ returns-in-Chain g c =
 pub returns-in_err-values-in-List : goal.returns-in_err-values-in-List
 unfolding value_one
 returns-in_err-values-in-List g c =
-    rw (c.in-List.is, out_List) (did_err _ (rw (c.as_slice-in-List.ensures, c.item-place.ensures) at c.in_err-values-in-List.ensures) c.from_residual-in_err-values-in-List.ensures)
+    rw (c.in-List.is, out_List) (did_err _ (rw (c.as_slice-in-List.ensures, c.item-place.ensures) at c.in_err-values-in-List.ensures) c.from_residual.ensures)
 
 pub returns-in_ok-values-in-List : goal.returns-in_ok-values-in-List
 unfolding value_one
