@@ -46,11 +46,36 @@ BOTH = (
     + nested("@at-root {", 60, "$x: map.deep-merge($l, $l); @include m;", "}")
     + " } a { @include m; }"
 )
-NAMES = (
-    '@use "sass:map"; $l: a; @for $i from 1 through 998 { $l: (k: $l); } @function f() { $x: map.deep-merge($l, $l); @return '
-    + nested("a#{", 60, "f()", "}()")
-    + "; } a { b: f(); }"
-)
+# What a call of a function may stand in, as often as the grammar allows it, and what is around it there.
+PLACES = {
+    "parentheses": ("(1 + ", ")", 60),
+    '"#{}"': ('"#{', '}"', 60),
+    "url()": ("url(a#{", "})", 60),
+    "names of functions": ("a#{", "}()", 60),
+    "arguments of functions of CSS": ("a(", ")", 60),
+    "calc()": ("calc(#{", "})", 60),
+    "max()": ("max(1, ", ")", 60),
+    "if()": ("if(true, ", ", 1)", 60),
+    "conditions of if()": ("if(", ", 1, 1)", 60),
+    "arguments": ("g(", ")", 60),
+    "signs": ("+(", ")", 60),
+    "built-in calls": ("quote(", ")", 60),
+    "lists and maps": ("[(a: ", ")]", 30),
+}
+G = "@function g($x) { @return $x; } "
+
+
+def functions(place, before=""):
+    """A function that calls itself in places of one kind, behind what each call does first."""
+    left, right, count = PLACES[place]
+    return G + "@function f() { " + before + "@return " + nested(left, count, "f()", right) + "; } a { b: f(); }"
+
+
+def merging(place):
+    """The same, where each call merges maps that nest 998 deep."""
+    maps = '@use "sass:map"; $l: a; @for $i from 1 through 998 { $l: (k: $l); } '
+    return maps + functions(place, "$x: map.deep-merge($l, $l); ")
+
 
 SHAPES = {
     "one rule": one("a { b: c; }"),
@@ -60,15 +85,7 @@ SHAPES = {
     "a mixin in mixins": one("@mixin m { @include m; } a { @include m; }"),
     "content blocks in each other": one("@mixin m { @content; } @mixin n { @include m { @include n; } } a { @include n; }"),
     "functions in each other": one("@function f($x) { @return f($x); } a { b: f(1); }"),
-    "functions in parentheses": one("@function f() { @return " + nested("(1 + ", 60, "f()", ")") + "; } a { b: f(); }"),
-    'functions in "#{}"': one("@function f() { @return " + nested('"#{', 60, "f()", '}"') + "; } a { b: f(); }"),
-    "functions in names of functions": one("@function f() { @return " + nested("a#{", 60, "f()", "}()") + "; } a { b: f(); }"),
-    "functions in calc()": one("@function f() { @return " + nested("calc(#{", 60, "f()", "})") + "; } a { b: f(); }"),
-    "functions in if()": one("@function f() { @return " + nested("if(true, ", 60, "f()", ", 1)") + "; } a { b: f(); }"),
-    "functions in arguments": one("@function g($x) { @return $x; } @function f() { @return " + nested("g(", 60, "f()", ")") + "; } a { b: f(); }"),
-    "functions in signs": one("@function f() { @return " + nested("+(", 60, "f()", ")") + "; } a { b: f(); }"),
-    "functions in built-in calls": one("@function f() { @return " + nested("quote(", 60, "f()", ")") + "; } a { b: f(); }"),
-    "functions in lists and maps": one("@function f() { @return " + nested("[(a: ", 30, "f()", ")]") + "; } a { b: f(); }"),
+    **{f"functions in {place}": one(functions(place)) for place in PLACES},
     "functions in @each": one("@function f() { " + nested("@each $x in 1 { ", 60, "@return f();", "}") + " } a { b: f(); }"),
     "functions in @if": one("@function f() { " + nested("@if true { ", 60, "@return f();", "}") + " } a { b: f(); }"),
     "parentheses, as they are read": one("$a: " + nested("(", 127, "1", ")") + ";"),
@@ -85,7 +102,7 @@ SHAPES = {
     "a deep list as CSS": one(DEEP_LIST + "a { b: $d; }"),
     "map.deep-merge under @at-root": one(BOTH),
     "map.deep-merge under @at-root in loads": chain(BOTH, 63),
-    "map.deep-merge under names of functions in loads": chain(NAMES, 63),
+    **{f"map.deep-merge under functions in {place} in loads": chain(merging(place), 63) for place in PLACES},
 }
 
 

@@ -57,8 +57,12 @@ module _ (value : Parens → Expr → Eval Plain) where
   unfoldable pub one_of : Parens → Bool → Choice → Span → Eval Plain
   one_of parens holds c span s = bind (value parens (one_by c holds) s) (λ v. answer (plain_at v.0 span) v.1)
 
+  -- whether the condition holds
+  unfoldable pub holds : Parens → Choice → Eval Bool
+  holds parens c s = bind (value parens c.0 s) (λ v. Gives (truth_of v.0, v.1))
+
   unfoldable pub chosen : Parens → Choice → Span → Eval Plain
-  chosen parens c span s = bind (value parens c.0 s) (λ v. one_of parens (truth_of v.0) c span v.1)
+  chosen parens c span s = bind (holds parens c s) (λ h. one_of parens h.0 c span h.1)
 
   abbrev pub chosen_by : Parens → Option Choice → Span → Eval Plain
   chosen_by parens (Some c) span s = chosen parens c span s

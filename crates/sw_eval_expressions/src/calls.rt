@@ -17,6 +17,7 @@ use sw_values::Value;
 use sw_world::World;
 
 // What the body of a function gives, whose call stands here.
+#[inline(never)]
 fn given(value: Returned, span: &Span) -> Result<Value, Stop>
     ensures { (s : State) → IsReturn result s (returned value span.now s) }
 {

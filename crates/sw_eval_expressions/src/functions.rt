@@ -1,7 +1,7 @@
 // Calls of functions of CSS, and `if()`.
 ghost use Rattle.std.specs.Prelude.{◌≡◌, IfOk};
 ghost use Rattle.sw_eval_walk.specs.Going.{Goes_on};
-ghost use Rattle.sw_eval_expressions.specs.Functions.{written_name, css_with, css_called, one_of, chosen, if_called};
+ghost use Rattle.sw_eval_expressions.specs.Functions.{written_name, css_with, css_called, one_of, holds, chosen, if_called};
 ghost use Rattle.sw_eval_expressions.specs.Choosing.{choice_of};
 
 use crate::choosing::{Chosen, choice, one_by};
@@ -17,6 +17,7 @@ use sw_values::Value;
 use sw_world::World;
 
 // The name of a function that is written out: as the sheet writes it, with its namespace.
+#[inline(never)]
 fn written_name(alloc: Global, space: &Option<Namespaced>, name: Name) -> Result<Name, Memory>
     ensures { IfOk result (λ whole. whole ≡ written_name space.now name) }
 {
@@ -90,6 +91,7 @@ pub(crate) fn css_called<W: World, B: Below<W>>(
 }
 
 // What a condition chooses, which keeps no sides.
+#[inline(never)]
 fn one_of<W: World, B: Below<W>>(
     walk: &mut Walk,
     level: Level<B>,
@@ -106,6 +108,22 @@ fn one_of<W: World, B: Below<W>>(
     stopped(into_plain_at(value, span))
 }
 
+// Whether the condition holds.
+#[inline(never)]
+fn holds<W: World, B: Below<W>>(
+    walk: &mut Walk,
+    level: Level<B>,
+    choice: &Chosen<'_>,
+    world: &mut W,
+) -> Result<bool, Stop>
+    requires { B.fits level.below }
+    ensures { Goes_on W.gives (holds (B.values level.below) level.parens (choice_of choice.now)) walk.old world.old
+        result walk.new world.new }
+{
+    let condition = value_of(walk, level, choice.condition, world)?;
+    Ok(condition.truth())
+}
+
 // The condition, and what it chooses.
 fn chosen<W: World, B: Below<W>>(
     walk: &mut Walk,
@@ -118,8 +136,8 @@ fn chosen<W: World, B: Below<W>>(
     ensures { Goes_on W.gives (chosen (B.values level.below) level.parens (choice_of choice.now) span.now) walk.old
         world.old result walk.new world.new }
 {
-    let condition = value_of(walk, level, choice.condition, world)?;
-    one_of(walk, level, condition.truth(), choice, span, world)
+    let holds = holds(walk, level, choice, world)?;
+    one_of(walk, level, holds, choice, span, world)
 }
 
 // `if()`, of whose arguments one is evaluated at most beside the condition.

@@ -67,6 +67,7 @@ fn piece_values<W: World, B: Below<W>>(
 }
 
 // `min` and `max` may be computed.
+#[inline(never)]
 fn extremum_called<W: World, B: Below<W>>(
     walk: &mut Walk,
     level: Level<B>,
@@ -83,6 +84,7 @@ fn extremum_called<W: World, B: Below<W>>(
     stopped(extremum_value(walk.alloc, function, all, values.as_slice(), span))
 }
 
+#[inline(never)]
 fn special_text<W: World, B: Below<W>>(
     walk: &mut Walk,
     level: Level<B>,

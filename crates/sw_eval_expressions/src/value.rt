@@ -103,6 +103,7 @@ fn linked<W: World, B: Below<W>>(
     stopped(left.join(walk.alloc, link.operator, &right, &link.operand, span))
 }
 
+#[inline(never)]
 fn links<W: World, B: Below<W>>(
     walk: &mut Walk,
     level: Level<B>,

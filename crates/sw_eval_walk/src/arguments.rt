@@ -16,6 +16,7 @@ use sw_values::Value;
 use sw_world::World;
 
 /// What arguments pass.
+#[inline(never)]
 pub fn arguments_of<W: World, B: Below<W>>(
     walk: &mut Walk,
     level: Level<B>,
@@ -35,6 +36,7 @@ pub fn arguments_of<W: World, B: Below<W>>(
 }
 
 /// The values of arguments, one for each.
+#[inline(never)]
 pub fn argument_values<W: World, B: Below<W>>(
     walk: &mut Walk,
     level: Level<B>,

@@ -25,6 +25,7 @@ pub enum TextKind {
 }
 
 // The text of a value that stands in a text.
+#[inline(never)]
 fn spelled(alloc: Global, kind: TextKind, value: &Value, span: &Span) -> Result<Name, Refused>
     ensures { Returns result (spelled kind value.now span.now) }
 {
@@ -50,6 +51,7 @@ fn spelled_value<W: World, B: Below<W>>(
 }
 
 // A value that stands without `#{}` in a text keeps its quotes.
+#[inline(never)]
 fn plain_spelled<W: World, B: Below<W>>(
     walk: &mut Walk,
     level: Level<B>,
@@ -103,6 +105,7 @@ pub fn pieces<W: World, B: Below<W>>(
 }
 
 // The pieces behind one another; a text of an expression is a value, which has a limit.
+#[inline(never)]
 fn assembled(alloc: Global, kind: TextKind, texts: &[Name], span: &Span) -> Result<Name, Refused>
     ensures { Returns result (assembled kind texts.now span.now) }
 {
