@@ -2,8 +2,9 @@
 ghost use Rattle.sw_eval_questions.specs.Did.{IsReturn};
 ghost use Rattle.sw_eval_state.specs.Entering.{returned};
 ghost use Rattle.sw_eval_state.specs.declared.state.State.{State};
+ghost use Rattle.sw_eval_walk.specs.Existence.{built_in_called};
 ghost use Rattle.sw_eval_walk.specs.Going.{Goes_on};
-ghost use Rattle.sw_eval_expressions.specs.Calls.{sheet_call, built_in_call, built_in_by, call_value};
+ghost use Rattle.sw_eval_expressions.specs.Calls.{sheet_call, built_in_call, built_in_by, call_by, call_value};
 
 use crate::choosing::has_spread;
 use crate::functions::{css_called, if_called};
@@ -11,7 +12,7 @@ use sw_builtins::BuiltIn;
 use sw_eval_questions::{Stop, stopped};
 use sw_eval_state::{Called, Found, function_entry, returned};
 use sw_eval_walk::{Below, Body, Level, Returned, Walk, argument_values, arguments_of};
-use sw_text::Span;
+use sw_text::{List, Span};
 use sw_tree::{Argument, Callee};
 use sw_values::Value;
 use sw_world::World;
@@ -56,6 +57,22 @@ fn sheet_call<W: World, B: Below<W>>(
     given(value, span)
 }
 
+// A built-in function with these values, which are given back here: what that takes on the stack isn't under them.
+#[inline(never)]
+fn with_values<W: World>(
+    walk: &mut Walk,
+    function: BuiltIn,
+    arguments: &[Argument],
+    values: List<Value>,
+    span: &Span,
+    world: &mut W,
+) -> Result<Value, Stop>
+    ensures { Goes_on W.gives (built_in_called function arguments.now values span.now) walk.old world.old result
+        walk.new world.new }
+{
+    walk.built_in_called(function, arguments, values.as_slice(), span, world)
+}
+
 // A built-in function, which is given its arguments.
 #[inline(never)]
 fn built_in_call<W: World, B: Below<W>>(
@@ -71,7 +88,7 @@ fn built_in_call<W: World, B: Below<W>>(
         arguments.now span.now) walk.old world.old result walk.new world.new }
 {
     let values = argument_values(walk, level.deeper(), arguments, world)?;
-    walk.built_in_called(function, arguments, values.as_slice(), span, world)
+    with_values(walk, function, arguments, values, span, world)
 }
 
 // Of the arguments of `if()` it is given one at most, unless a value is written with `...`.
@@ -98,6 +115,28 @@ fn built_in_by<W: World, B: Below<W>>(
     }
 }
 
+// What a call means gives this.
+#[inline(never)]
+fn given_by<W: World, B: Below<W>>(
+    walk: &mut Walk,
+    level: Level<B>,
+    called: &Called,
+    callee: &Callee,
+    arguments: &[Argument],
+    span: &Span,
+    world: &mut W,
+) -> Result<Value, Stop>
+    requires { B.fits level.below }
+    ensures { Goes_on W.gives (call_by (B.values level.below) (B.bodies level.below) level.parens callee.now
+        arguments.now span.now called.now) walk.old world.old result walk.new world.new }
+{
+    match called {
+        Called::Sheet(function) => sheet_call(walk, level, function, arguments, span, world),
+        Called::BuiltIn(function) => built_in_by(walk, level, *function, arguments, span, world),
+        Called::Css => css_called(walk, level, callee, arguments, span, world),
+    }
+}
+
 // A call, which stands here.
 #[inline(never)]
 pub(crate) fn call<W: World, B: Below<W>>(
@@ -113,9 +152,5 @@ pub(crate) fn call<W: World, B: Below<W>>(
         arguments.now span.now) walk.old world.old result walk.new world.new }
 {
     let called = walk.called(callee, span, world)?;
-    match &called {
-        Called::Sheet(function) => sheet_call(walk, level, function, arguments, span, world),
-        Called::BuiltIn(function) => built_in_by(walk, level, *function, arguments, span, world),
-        Called::Css => css_called(walk, level, callee, arguments, span, world),
-    }
+    given_by(walk, level, &called, callee, arguments, span, world)
 }

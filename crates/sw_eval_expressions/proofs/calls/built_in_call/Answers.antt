@@ -10,4 +10,4 @@ returns-in_err-values g c =
 pub returns : goal.returns
 unfolding built_in_call
 returns g c =
-    did_then _ (rw c.deeper.ensures at c.in_ok-values.ensures) (rw c.as_slice.ensures at c.built_in_called.ensures)
+    did_then _ (rw c.deeper.ensures at c.in_ok-values.ensures) c.with_values.ensures
