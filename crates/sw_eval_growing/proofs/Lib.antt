@@ -1,4 +1,5 @@
 pub mod Ends
 pub mod Keys
 pub mod Lists
+pub mod Merging
 pub mod Placed

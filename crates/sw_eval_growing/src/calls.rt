@@ -1,19 +1,20 @@
 // What a call gives whose first argument grows.
-ghost use Rattle.std.specs.Prelude.{◌≡◌, ◌∷◌, ◌++◌, [], true, Ok, IfOk, OnOk, IfSome};
+ghost use Rattle.std.specs.Prelude.{◌≡◌, ◌∷◌, ◌++◌, [], true, Some, IfOk, OnOk};
 ghost use Rattle.sw_values.specs.Growing.{is_map};
 ghost use Rattle.sw_fn_call.specs.Answers.{IsAnswer};
 ghost use Rattle.sw_fn_call.specs.Arguments.{rest as rest_of};
 ghost use Rattle.sw_fn_list.specs.Joining.{append};
-ghost use Rattle.sw_fn_map.specs.Changes.{set};
+ghost use Rattle.sw_fn_map.specs.Changes.{set, merge};
 ghost use Rattle.sw_builtins.specs.Calls.{answer};
-ghost use Rattle.sw_eval_growing.specs.Growth.{list_grows, map_grows, grows, append_to, set_in};
+ghost use Rattle.sw_eval_growing.specs.Growth.{list_grows, map_grows, grows, append_to, set_in, merge_in, two_of, pairs_given, has_pairs, HasDistinctKeys};
 
+use crate::given::{has_pairs, key_and_value, pair_given};
 use crate::growing::{appended, keyed};
 use crate::separators::separator_chosen;
 use crate::taking::{three_taken, two_taken};
 use std::alloc::Global;
 use sw_builtins::{BuiltIn, call};
-use sw_fn_call::{Argument, FnFault, rest};
+use sw_fn_call::{Argument, FnFault};
 use sw_text::{List, Memory, Name};
 use sw_values::Value;
 
@@ -31,6 +32,7 @@ fn map_grows(function: sw_fn_map::Function) -> bool
 {
     match function {
         sw_fn_map::Function::Set => true,
+        sw_fn_map::Function::Merge => true,
         _ => false,
     }
 }
@@ -129,20 +131,7 @@ fn set_anew(alloc: Global, given: &Value, others: &Value) -> Result<Value, FnFau
     call(alloc, function, all.as_slice())
 }
 
-// The two values that a parameter with `...` takes.
-fn key_and_value(others: &Value) -> Option<(&Value, &Value)>
-    ensures { IfSome result (λ pair. rest_of others.now ≡ Ok (pair.0.now ∷ pair.1.now ∷ [])) }
-{
-    match rest(others) {
-        Ok(items) => match items {
-            [key, value] => Some((key, value)),
-            _ => None,
-        },
-        Err(_) => None,
-    }
-}
-
-// The same with these values, in place.
+// The same with one key, in place.
 #[tactic(auto, using(crate::proofs::Keys::one_key))]
 fn set_one(
     alloc: Global,
@@ -152,7 +141,7 @@ fn set_one(
     value: &Value,
 ) -> Result<Value, FnFault>
     requires map { is_map given ≡ true }
-    requires key { rest_of others.now ≡ Ok (key.now ∷ value.now ∷ []) }
+    requires key { two_of (rest_of others.now) ≡ Some (key.now, value.now) }
     ensures { IsAnswer result (set_in given others.now) }
 {
     keyed(alloc, given, key, value)
@@ -177,12 +166,59 @@ fn set_call(alloc: Global, arguments: List<Argument>) -> Result<Value, FnFault>
     set_in(alloc, given, &others)
 }
 
+// ---- merge
+
+// What `map.merge` gives by a copy.
+#[tactic(auto, unfolding(sw_builtins::specs::Calls::answer, sw_fn_map::specs::Calls::answer, sw_fn_call::specs::Arguments::two))]
+fn merge_anew(alloc: Global, given: &Value, others: &Value) -> Result<Value, FnFault>
+    ensures { IsAnswer result (merge_in given.now others.now) }
+{
+    let all = two_arguments(alloc, given, others)?;
+    let function = BuiltIn::Map(sw_fn_map::Function::Merge);
+    call(alloc, function, all.as_slice())
+}
+
+// The same with a map of one pair, in place.
+#[tactic(auto, using(crate::proofs::Merging::has_map, crate::proofs::Merging::one_pair))]
+fn merge_one(
+    alloc: Global,
+    given: Value,
+    others: &Value,
+    pair: &(Value, Value),
+) -> Result<Value, FnFault>
+    requires pairs { has_pairs given ≡ true }
+    requires distinct { HasDistinctKeys given }
+    requires pair { pairs_given others.now ≡ Some pair.now }
+    ensures { IsAnswer result (merge_in given others.now) }
+{
+    keyed(alloc, given, &pair.0, &pair.1)
+}
+
+fn merge_in(alloc: Global, given: Value, others: &Value) -> Result<Value, FnFault>
+    ensures { IsAnswer result (merge_in given others.now) }
+{
+    if !has_pairs(&given) {
+        return merge_anew(alloc, &given, others);
+    }
+    match pair_given(others) {
+        Some(pair) => merge_one(alloc, given, others, pair),
+        None => merge_anew(alloc, &given, others),
+    }
+}
+
+fn merge_call(alloc: Global, arguments: List<Argument>) -> Result<Value, FnFault>
+    ensures { IsAnswer result (merge arguments) }
+{
+    let (given, others) = two_taken(arguments)?;
+    merge_in(alloc, given, &others)
+}
+
 // ---- all
 
 /// What a function gives for the values of its parameters, which are given up: a list that `append` makes longer, or a
-/// map in which `map.set` sets one key, isn't copied where nobody else holds it.
+/// map that gets one pair by `map.set` or by `map.merge`, isn't copied where nobody else holds it.
 #[tactic(auto, unfolding(sw_builtins::specs::Calls::answer, sw_fn_list::specs::Calls::answer, sw_fn_map::specs::Calls::answer))]
-pub fn call_grown(
+pub(crate) fn call_grown(
     alloc: Global,
     function: BuiltIn,
     arguments: List<Argument>,
@@ -192,6 +228,7 @@ pub fn call_grown(
     match function {
         BuiltIn::List(sw_fn_list::Function::Append) => append_call(alloc, arguments),
         BuiltIn::Map(sw_fn_map::Function::Set) => set_call(alloc, arguments),
+        BuiltIn::Map(sw_fn_map::Function::Merge) => merge_call(alloc, arguments),
         _ => call(alloc, function, arguments.as_slice()),
     }
 }
