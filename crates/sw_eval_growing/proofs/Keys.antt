@@ -28,16 +28,16 @@ sets : (map others key value : Plain) → is_map map ≡ true → rest others �
 unfolding pairs_of
 sets map others key value h e = rw e (set_by_node (node_of map) key value h)
 
-both_are : (given : Result (List Plain) FnFault) (key value : Plain) → two_of given ≡ Some (key, value)
-    → given ≡ Ok (key ∷ value ∷ [])
-both_are (Ok []) key value e = cc
-both_are (Ok (_ ∷ [])) key value e = cc
-both_are (Ok (first ∷ second ∷ [])) key value e = cc
-both_are (Ok (_ ∷ _ ∷ _ ∷ _)) key value e = cc
-both_are (Err fault) key value e = cc
+both_are : (given : Result (List Plain) FnFault) (both : Plain × Plain) → two_of given ≡ Some both
+    → given ≡ Ok (both.0 ∷ both.1 ∷ [])
+both_are (Ok []) both e = cc
+both_are (Ok (_ ∷ [])) both e = cc
+both_are (Ok (first ∷ second ∷ [])) both e = cc
+both_are (Ok (_ ∷ _ ∷ _ ∷ _)) both e = cc
+both_are (Err fault) both e = cc
 
 pub one_key : (map others key value : Plain) (result : Answer) → is_map map ≡ true
     → two_of (rest others) ≡ Some (key, value)
     → IsAnswer result (within (map_with (map_pairs (node_of map)) key value)) → IsAnswer result (set_in map others)
 one_key map others key value result h e is =
-    subst (λ (a : Answer). IsAnswer result a) (sets map others key value h (both_are (rest others) key value e)) is
+    subst (λ (a : Answer). IsAnswer result a) (sets map others key value h (both_are (rest others) (key, value) e)) is

@@ -1,4 +1,5 @@
 -- No fault of these functions is moved to an argument.
+use Rattle.std.specs.Prelude.{codes, bytes_eq}
 use Rattle.std.proofs.Common.{◌≡◌, refl, ℕ, Bool, true, false, not, List, [], ◌∷◌, Option, Some, None, Result, Ok, Err, if◌then◌else◌, sym, ap, subst, ◌∙◌}
 use Rattle.sw_text.specs.declared.place.Span.{Span}
 use Rattle.sw_tree.specs.declared.expr.Argument.{Argument as Given}
@@ -11,6 +12,7 @@ use Rattle.sw_ops.specs.Sides.{number_in, is_zero, plain_by, plain_number, held,
 use Rattle.sw_values.specs.declared.plain.Plain.{Plain}
 use Rattle.sw_values.specs.declared.plain.Plain.TheVariants as P
 use Rattle.sw_values.specs.declared.plain.Separator.{Separator}
+use Rattle.sw_values.specs.declared.plain.Separator.TheVariants as S
 use Rattle.sw_values.specs.declared.value.Node.{Node}
 use Rattle.sw_values.specs.declared.value.Node.TheVariants as N
 use Rattle.sw_values.specs.Maps.{with_value}
@@ -28,7 +30,7 @@ use Rattle.sw_fn_list.specs.Separators.{separator_named, separator_chosen}
 use Rattle.sw_fn_map.specs.declared.function.Function.TheVariants as M
 use Rattle.sw_fn_map.specs.Calls.{answer as map_answer}
 use Rattle.sw_fn_map.specs.Pairs.{Pair, no_items, pairs_by, pairs_of, map_value}
-use Rattle.sw_fn_map.specs.Changes.{Parted, rebuilt, steps_of, parted, set_at, set_by, set}
+use Rattle.sw_fn_map.specs.Changes.{Parted, rebuilt, steps_of, parted, set_at, set_by, set, innermost, merged, merged_at, merge_by, merge}
 use Rattle.sw_builtins.specs.declared.built_in.BuiltIn.{BuiltIn}
 use Rattle.sw_builtins.specs.declared.built_in.BuiltIn.TheVariants as B
 use Rattle.sw_builtins.specs.Calls.{answer}
@@ -71,55 +73,25 @@ three_placed (a ∷ b ∷ []) = refl
 three_placed (a ∷ b ∷ c ∷ []) = refl
 three_placed (a ∷ b ∷ c ∷ d ∷ args) = refl
 
-unnamed_placed : (items : List Plain) (named : List Argument) → is_placed (unnamed items named) ≡ true
-unnamed_placed items [] = refl
-unnamed_placed items (n ∷ named) = refl
+unabbrev named_by : Bool → Bool → Bool → Bool → Result (Option Separator) FnFault
+named_by auto space comma slash =
+    if auto then Ok None
+    else if space then Ok (Some S.Space)
+    else if comma then Ok (Some S.Comma)
+    else if slash then Ok (Some S.Slash)
+    else Err F.ArgumentFault
 
-rest_by_placed : (node : Node) → is_placed (rest_by node) ≡ true
-rest_by_placed (N.Number _) = refl
-rest_by_placed (N.Text _ _) = refl
-rest_by_placed (N.Colour _) = refl
-rest_by_placed (N.List _ _ _) = refl
-rest_by_placed (N.Map _) = refl
-rest_by_placed (N.Bool _) = refl
-rest_by_placed N.Null = refl
-rest_by_placed (N.Args items named) = unnamed_placed items named
-
-rest_placed : (value : Plain) → is_placed (rest value) ≡ true
-unfolding rest
-rest_placed value = rest_by_placed (node_of value)
-
-none_placed : (items : List Plain) → is_placed (no_items items) ≡ true
-none_placed [] = refl
-none_placed (item ∷ items) = refl
-
-pairs_by_placed : (node : Node) → is_placed (pairs_by node) ≡ true
-pairs_by_placed (N.Number _) = refl
-pairs_by_placed (N.Text _ _) = refl
-pairs_by_placed (N.Colour _) = refl
-pairs_by_placed (N.List items _ _) = none_placed items
-pairs_by_placed (N.Map _) = refl
-pairs_by_placed (N.Bool _) = refl
-pairs_by_placed N.Null = refl
-pairs_by_placed (N.Args items _) = none_placed items
-
-pairs_placed : (value : Plain) → is_placed (pairs_of value) ≡ true
-unfolding pairs_of
-pairs_placed value = pairs_by_placed (node_of value)
-
-chosen_placed : {A : Type 0} (test : Bool) (one other : Result A FnFault) → is_placed one ≡ true → is_placed other ≡ true
-    → is_placed (if test then one else other) ≡ true
-chosen_placed true one other h k = h
-chosen_placed false one other h k = k
-
-within_placed : (value : Plain) → is_placed (within value) ≡ true
-within_placed value = chosen_placed (is_within value) _ _ refl refl
-
--- ---- append
+by_placed : (auto space comma slash : Bool) → is_placed (named_by auto space comma slash) ≡ true
+by_placed true space comma slash = refl
+by_placed false true comma slash = refl
+by_placed false false true slash = refl
+by_placed false false false true = refl
+by_placed false false false false = refl
 
 named_placed : (name : List ℕ) → is_placed (separator_named name) ≡ true
 named_placed name =
-    chosen_placed _ _ _ refl (chosen_placed _ _ _ refl (chosen_placed _ _ _ refl (chosen_placed _ _ _ refl refl)))
+    by_placed (bytes_eq name (codes "auto")) (bytes_eq name (codes "space")) (bytes_eq name (codes "comma"))
+    (bytes_eq name (codes "slash"))
 
 text_by_placed : (node : Node) → is_placed (text_by node) ≡ true
 text_by_placed (N.Number _) = refl
@@ -167,6 +139,27 @@ set_placed args =
     (λ given. with_placed (pairs_of values.0) (λ pairs. set_by pairs (parted given)) (pairs_placed values.0)
     (λ pairs. set_by_placed pairs (parted given))))
 
+-- ---- merge
+
+merged_at_placed : (pairs : List Pair) (keys : List Plain) (other : List Pair)
+    → is_placed (merged_at pairs keys other) ≡ true
+merged_at_placed pairs keys other =
+    with_placed (map_value (merged (innermost pairs keys) other)) (rebuilt (steps_of pairs keys)) (within_placed _)
+    (λ inner. rebuilt_placed (steps_of pairs keys) inner)
+
+merge_by_placed : (pairs : List Pair) (parts : Option Parted) → is_placed (merge_by pairs parts) ≡ true
+merge_by_placed pairs None = refl
+merge_by_placed pairs (Some parts) =
+    with_placed (pairs_of parts.last) (merged_at pairs parts.before) (pairs_placed parts.last)
+    (merged_at_placed pairs parts.before)
+
+merge_placed : (args : List Argument) → is_placed (merge args) ≡ true
+merge_placed args =
+    with_placed (two args) _ (two_placed args)
+    (λ values. with_placed (rest values.1) _ (rest_placed values.1)
+    (λ given. with_placed (pairs_of values.0) (λ pairs. merge_by pairs (parted given)) (pairs_placed values.0)
+    (λ pairs. merge_by_placed pairs (parted given))))
+
 -- ---- calls
 
 answer_placed : (function : BuiltIn) (args : List Argument) → grows function ≡ true → is_placed (answer function args) ≡ true
@@ -186,7 +179,7 @@ answer_placed (B.Map M.Get) args h = cc
 answer_placed (B.Map M.HasKey) args h = cc
 answer_placed (B.Map M.Keys) args h = cc
 answer_placed (B.Map M.Values) args h = cc
-answer_placed (B.Map M.Merge) args h = cc
+answer_placed (B.Map M.Merge) args h = merge_placed args
 answer_placed (B.Map M.Remove) args h = cc
 answer_placed (B.Map M.DeepMerge) args h = cc
 answer_placed (B.Map M.DeepRemove) args h = cc
@@ -263,7 +256,7 @@ pub refused_there : (function : BuiltIn) (passed : Passed) (span : Span) (e : Re
 unfolding built_in_value
 refused_there function passed span e h =
     refused_then (built_in_arguments function passed span)
-    (λ vs. with (of_fn span (answer function vs)) (λ v. plain_at v span)) e (Err e) h (tt, refl)
+    (λ vs. with (of_fn span (answer function vs)) (λ v. plain_at v span)) e (Err e) h (refl, refl)
 
 pub grown_answer : (function : BuiltIn) (args : List Given) (values : List Plain) (filled : List Argument) (span : Span)
     (result : Result Plain Refused) → grows function ≡ true

@@ -48,18 +48,24 @@ merge_in map others = with (rest others) (λ args. with (pairs_of map) (λ pairs
 -- ---- what is given to a parameter with `...`
 
 -- the only one of some things
+abbrev pub one_in : {T : Type 0} → List T → Option T
+one_in [] = None
+one_in (one ∷ []) = Some one
+one_in (_ ∷ _ ∷ _) = None
+
 abbrev pub one_of : {T : Type 0} → Result (List T) FnFault → Option T
-one_of (Ok []) = None
-one_of (Ok (one ∷ [])) = Some one
-one_of (Ok (_ ∷ _ ∷ _)) = None
+one_of (Ok all) = one_in all
 one_of (Err _) = None
 
--- both where there are two
+-- both of two things
+abbrev pub two_in : {T : Type 0} → List T → Option (T × T)
+two_in [] = None
+two_in (_ ∷ []) = None
+two_in (first ∷ second ∷ []) = Some (first, second)
+two_in (_ ∷ _ ∷ _ ∷ _) = None
+
 abbrev pub two_of : {T : Type 0} → Result (List T) FnFault → Option (T × T)
-two_of (Ok []) = None
-two_of (Ok (_ ∷ [])) = None
-two_of (Ok (first ∷ second ∷ [])) = Some (first, second)
-two_of (Ok (_ ∷ _ ∷ _ ∷ _)) = None
+two_of (Ok all) = two_in all
 two_of (Err _) = None
 
 abbrev pub pairs_by : Option Plain → Option Pair

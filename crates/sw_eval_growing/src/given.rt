@@ -1,11 +1,10 @@
 // What is given to a parameter with `...`, and to what map.
-ghost use Rattle.std.specs.Prelude.{◌≡◌, ◌∷◌, [], Ok, Err, Some, None, MatchOption, nat_lt, length, true};
+ghost use Rattle.std.specs.Prelude.{◌≡◌, Some, None, MatchOption, nat_lt, length};
 ghost use Rattle.std.specs.Option.{option_copied};
 ghost use Rattle.sw_values.specs.Maps.{AreDistinct};
-ghost use Rattle.sw_fn_call.specs.declared.fault.FnFault.{FnFault};
 ghost use Rattle.sw_fn_call.specs.Arguments.{rest as rest_of};
 ghost use Rattle.sw_fn_map.specs.Pairs.{pairs_of};
-ghost use Rattle.sw_eval_growing.specs.Growth.{one_of, two_of, pairs_given as given_pair, has_pairs as has_pairs_in, HasDistinctKeys};
+ghost use Rattle.sw_eval_growing.specs.Growth.{one_in, one_of, two_in, two_of, pairs_given as given_pair, has_pairs as has_pairs_in, HasDistinctKeys};
 
 use sw_fn_call::rest;
 use sw_values::{Node, Pairs, Value};
@@ -14,8 +13,7 @@ type Pair = (Value, Value);
 
 // Both items where there are two.
 fn two_items(items: &[Value]) -> Option<(&Value, &Value)>
-    ensures { MatchOption result (two_of (Ok {E = FnFault} items.now) ≡ None)
-        (λ pair. two_of (Ok {E = FnFault} items.now) ≡ Some (pair.0.now, pair.1.now)) }
+    ensures { MatchOption result (two_in items.now ≡ None) (λ pair. two_in items.now ≡ Some (pair.0.now, pair.1.now)) }
 {
     match items {
         [key, value] => Some((key, value)),
@@ -36,7 +34,7 @@ pub(crate) fn key_and_value(others: &Value) -> Option<(&Value, &Value)>
 
 // The only item.
 fn one_item(items: &[Value]) -> Option<&Value>
-    ensures { option_copied result ≡ one_of (Ok {E = FnFault} items.now) }
+    ensures { option_copied result ≡ one_in items.now }
 {
     match items {
         [value] => Some(value),
@@ -55,7 +53,7 @@ fn one_value(others: &Value) -> Option<&Value>
 }
 
 fn only_pair(pairs: &[Pair]) -> Option<&Pair>
-    ensures { option_copied result ≡ one_of (Ok {E = FnFault} pairs.now) }
+    ensures { option_copied result ≡ one_in pairs.now }
 {
     match pairs {
         [pair] => Some(pair),
