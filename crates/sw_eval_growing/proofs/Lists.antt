@@ -1,5 +1,5 @@
 -- A list with one more item.
-use Rattle.std.proofs.Common.{◌≡◌, refl, Bool, true, false, List, [], ◌∷◌, ◌++◌, if◌then◌else◌, Some, None, is_some}
+use Rattle.std.proofs.Common.{◌≡◌, refl, Bool, true, false, [], ◌∷◌, ◌++◌, if◌then◌else◌, Some, None, is_some}
 use Rattle.sw_values.specs.declared.plain.Plain.{Plain}
 use Rattle.sw_values.specs.declared.plain.Plain.TheVariants as P
 use Rattle.sw_values.specs.declared.plain.Separator.{Separator}
@@ -8,7 +8,7 @@ use Rattle.sw_values.specs.declared.value.Node.{Node}
 use Rattle.sw_values.specs.declared.value.Node.TheVariants as N
 use Rattle.sw_values.specs.Growing.{list_parts, list_with, is_list}
 use Rattle.sw_values.specs.Shape.{node_of}
-use Rattle.sw_fn_list.specs.Items.{items_by, items_of, brackets_by, brackets_of, decided_by}
+use Rattle.sw_fn_list.specs.Items.{items_by, items_of, brackets_by, brackets_of}
 use Rattle.sw_fn_list.specs.Separators.{or_else}
 
 grows_by : (value : Plain) (node : Node) (separator : Separator) (item : Plain) → is_some (list_parts node) ≡ true

@@ -1,10 +1,9 @@
 -- A map that is merged with a map of one pair.
-use Rattle.std.specs.Prelude.{position, slice_get, nat_lt}
+use Rattle.std.specs.Prelude.{position, nat_lt}
 use Rattle.std.specs.List.{IsDistinct, AllByRecursion, position_or_len}
 use Rattle.std.specs.Cmp.Lexicographic.{nat_list_eq_equiv}
-use Rattle.std.proofs.Common.{◌≡◌, refl, ℕ, ◌+◌, zero, suc, Bool, true, false, not, cond, List, [], ◌∷◌, ◌++◌, length, map, filter, Option, Some, None, is_some, unwrap_or, bytes_eq, Result, Ok, Err, sym, ap, subst, ◌∙◌, arith, tests, append-nil}
+use Rattle.std.proofs.Common.{◌≡◌, refl, ℕ, ◌+◌, suc, Bool, true, false, not, cond, List, [], ◌∷◌, ◌++◌, length, map, Option, Some, None, is_some, unwrap_or, bytes_eq, Result, Ok, Err, sym, ap, subst, ◌∙◌, arith, tests, append-nil}
 use Rattle.sw_values.specs.declared.plain.Plain.{Plain}
-use Rattle.sw_values.specs.declared.plain.Plain.TheVariants as P
 use Rattle.sw_values.specs.declared.value.Node.{Node}
 use Rattle.sw_values.specs.declared.value.Node.TheVariants as N
 use Rattle.sw_values.specs.Canon.{canon, key_canon}

@@ -1,16 +1,14 @@
 -- No fault of these functions is moved to an argument.
 use Rattle.std.specs.Prelude.{codes, bytes_eq}
-use Rattle.std.proofs.Common.{◌≡◌, refl, ℕ, Bool, true, false, not, List, [], ◌∷◌, Option, Some, None, Result, Ok, Err, if◌then◌else◌, sym, ap, subst, ◌∙◌}
+use Rattle.std.proofs.Common.{◌≡◌, refl, ℕ, Bool, true, false, not, List, [], ◌∷◌, Option, Some, None, Result, Ok, Err, if◌then◌else◌, subst}
 use Rattle.sw_text.specs.declared.place.Span.{Span}
 use Rattle.sw_tree.specs.declared.expr.Argument.{Argument as Given}
 use Rattle.sw_units.specs.declared.number.Number.{Number}
 use Rattle.sw_units.specs.declared.number.Slash.{Slash, out-Slash}
 use Rattle.sw_units.specs.declared.number.Slash.TheOpen.{Slash-F}
-use Rattle.sw_ops.specs.declared.fault.OpFault.{OpFault}
 use Rattle.sw_ops.specs.declared.fault.OpFault.TheVariants as O
-use Rattle.sw_ops.specs.Sides.{number_in, is_zero, plain_by, plain_number, held, plain_in, plain}
+use Rattle.sw_ops.specs.Sides.{number_in, is_zero, plain_by, plain_number, held, plain_in}
 use Rattle.sw_values.specs.declared.plain.Plain.{Plain}
-use Rattle.sw_values.specs.declared.plain.Plain.TheVariants as P
 use Rattle.sw_values.specs.declared.plain.Separator.{Separator}
 use Rattle.sw_values.specs.declared.plain.Separator.TheVariants as S
 use Rattle.sw_values.specs.declared.value.Node.{Node}
@@ -73,7 +71,53 @@ three_placed (a ∷ b ∷ []) = refl
 three_placed (a ∷ b ∷ c ∷ []) = refl
 three_placed (a ∷ b ∷ c ∷ d ∷ args) = refl
 
-unabbrev named_by : Bool → Bool → Bool → Bool → Result (Option Separator) FnFault
+unnamed_placed : (items : List Plain) (named : List Argument) → is_placed (unnamed items named) ≡ true
+unnamed_placed items [] = refl
+unnamed_placed items (n ∷ named) = refl
+
+rest_by_placed : (node : Node) → is_placed (rest_by node) ≡ true
+rest_by_placed (N.Number _) = refl
+rest_by_placed (N.Text _ _) = refl
+rest_by_placed (N.Colour _) = refl
+rest_by_placed (N.List _ _ _) = refl
+rest_by_placed (N.Map _) = refl
+rest_by_placed (N.Bool _) = refl
+rest_by_placed N.Null = refl
+rest_by_placed (N.Args items named) = unnamed_placed items named
+
+rest_placed : (value : Plain) → is_placed (rest value) ≡ true
+unfolding rest
+rest_placed value = rest_by_placed (node_of value)
+
+none_placed : (items : List Plain) → is_placed (no_items items) ≡ true
+none_placed [] = refl
+none_placed (item ∷ items) = refl
+
+pairs_by_placed : (node : Node) → is_placed (pairs_by node) ≡ true
+pairs_by_placed (N.Number _) = refl
+pairs_by_placed (N.Text _ _) = refl
+pairs_by_placed (N.Colour _) = refl
+pairs_by_placed (N.List items _ _) = none_placed items
+pairs_by_placed (N.Map _) = refl
+pairs_by_placed (N.Bool _) = refl
+pairs_by_placed N.Null = refl
+pairs_by_placed (N.Args items _) = none_placed items
+
+pairs_placed : (value : Plain) → is_placed (pairs_of value) ≡ true
+unfolding pairs_of
+pairs_placed value = pairs_by_placed (node_of value)
+
+chosen_placed : {A : Type 0} (test : Bool) (one other : Result A FnFault) → is_placed one ≡ true → is_placed other ≡ true
+    → is_placed (if test then one else other) ≡ true
+chosen_placed true one other h k = h
+chosen_placed false one other h k = k
+
+within_placed : (value : Plain) → is_placed (within value) ≡ true
+within_placed value = chosen_placed (is_within value) _ _ refl refl
+
+-- ---- append
+
+abbrev named_by : Bool → Bool → Bool → Bool → Result (Option Separator) FnFault
 named_by auto space comma slash =
     if auto then Ok None
     else if space then Ok (Some S.Space)

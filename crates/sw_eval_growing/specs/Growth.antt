@@ -1,5 +1,5 @@
 -- Built-in functions that make their first argument grow (Sass reference documentation, "sass:list" and "sass:map").
-use Rattle.std.specs.Prelude.{ℕ, Bool, true, false, List, [], ◌∷◌, length, nat_lt, Option, Some, None, Result, Ok, Err}
+use Rattle.std.specs.Prelude.{Bool, true, false, List, [], ◌∷◌, length, nat_lt, Option, Some, None, Result, Ok, Err}
 use Rattle.sw_values.specs.declared.plain.Plain.{Plain}
 use Rattle.sw_values.specs.Growing.{map_pairs}
 use Rattle.sw_values.specs.Maps.{AreDistinct}
