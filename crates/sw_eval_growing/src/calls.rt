@@ -88,12 +88,7 @@ fn append_anew(
     call(alloc, function, all.as_slice())
 }
 
-fn append_to(
-    alloc: Global,
-    given: Value,
-    item: Value,
-    separator: &Value,
-) -> Result<Value, FnFault>
+fn append_to(alloc: Global, given: Value, item: Value, separator: &Value) -> Result<Value, FnFault>
     ensures { IsAnswer result (append_to given item separator.now) }
 {
     if !given.is_list() {
