@@ -3,6 +3,7 @@
 #![tactic(auto)]
 
 mod engine;
+mod growing;
 mod history;
 mod knot;
 mod laws;

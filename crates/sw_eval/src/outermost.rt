@@ -1,5 +1,6 @@
 // What stands at the top of a sheet.
 
+use crate::growing::ValuePlace;
 use crate::knot::{does_at, enter_at, value_at};
 use sw_eval_literals::Parens;
 use sw_eval_questions::Stop;
@@ -37,7 +38,7 @@ impl<W: World> Below<W> for Outermost {
         e: &Expr,
         world: &mut W,
     ) -> Result<Value, Stop> {
-        value_at(walk, LOAD_DEPTH, parens, e, world)
+        value_at(walk, LOAD_DEPTH, ValuePlace::Within(parens), e, world)
     }
 
     fn does(self, walk: &mut Walk, statement: &Statement, world: &mut W) -> Result<Returned, Stop> {

@@ -2,4 +2,4 @@ pub mod Opens
 pub mod IfCalls
 pub mod Chosen
 pub mod Changed
-pub mod Stopped
+pub mod GivenUp

@@ -3,3 +3,4 @@ pub mod Functions
 pub mod Special
 pub mod Calls
 pub mod Expressions
+pub mod Growing

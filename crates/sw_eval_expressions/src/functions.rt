@@ -4,6 +4,7 @@ ghost use Rattle.sw_eval_walk.specs.Going.{Goes_on};
 ghost use Rattle.sw_eval_expressions.specs.Functions.{written_name, css_with, css_called, one_of, chosen, if_called};
 ghost use Rattle.sw_eval_expressions.specs.Choosing.{choice_of};
 
+use crate::calls::CallExpression;
 use crate::choosing::{Chosen, choice, one_by};
 use std::alloc::Global;
 use sw_eval_calls::{all_passed, css_call, names_any};
@@ -12,7 +13,7 @@ use sw_eval_questions::{Stop, stopped};
 use sw_eval_state::fails;
 use sw_eval_walk::{Below, Level, TextKind, Walk, argument_values, text, value_of};
 use sw_text::{FaultCode, Memory, Name, Span};
-use sw_tree::{Argument, Callee, Namespaced};
+use sw_tree::{Argument, Namespaced};
 use sw_values::Value;
 use sw_world::World;
 
@@ -33,25 +34,23 @@ fn written_name(alloc: Global, space: &Option<Namespaced>, name: Name) -> Result
 #[inline(never)]
 fn css_with<W: World>(
     walk: &mut Walk,
-    callee: &Callee,
+    one: CallExpression<'_>,
     name: Name,
-    arguments: &[Argument],
     values: &[Value],
-    span: &Span,
     world: &mut W,
 ) -> Result<Value, Stop>
-    ensures { Goes_on W.gives (css_with callee.now name arguments.now values.now span.now) walk.old world.old result
-        walk.new world.new }
+    ensures { Goes_on W.gives (css_with one.entry.callee.now name one.entry.arguments.now values.now
+        one.entry.span.now) walk.old world.old result walk.new world.new }
 {
-    let passed = all_passed(walk.alloc, arguments, values)?;
+    let passed = all_passed(walk.alloc, one.arguments, values)?;
     if names_any(&passed) {
-        return fails(FaultCode::ArgumentFault, span);
+        return fails(FaultCode::ArgumentFault, one.span);
     }
-    if let Some(value) = walk.hosted_value(callee, &name, passed.items, span, world)? {
+    if let Some(value) = walk.hosted_value(one.callee, &name, passed.items, one.span, world)? {
         return Ok(value);
     }
-    let whole = written_name(walk.alloc, &callee.namespace, name)?;
-    stopped(css_call(walk.alloc, whole, arguments, values, span))
+    let whole = written_name(walk.alloc, &one.callee.namespace, name)?;
+    stopped(css_call(walk.alloc, whole, one.arguments, values, one.span))
 }
 
 // The call of a function of CSS, which takes no arguments by name.
@@ -59,16 +58,14 @@ fn css_with<W: World>(
 pub(crate) fn css_called<W: World, B: Below<W>>(
     walk: &mut Walk,
     level: Level<B>,
-    callee: &Callee,
-    arguments: &[Argument],
-    span: &Span,
+    one: CallExpression<'_>,
     world: &mut W,
 ) -> Result<Value, Stop>
     requires { B.fits level.below }
-    ensures { Goes_on W.gives (css_called (B.values level.below) level.parens callee.now arguments.now span.now)
-        walk.old world.old result walk.new world.new }
+    ensures { Goes_on W.gives (css_called (B.values level.below) level.parens one.entry.callee.now
+        one.entry.arguments.now one.entry.span.now) walk.old world.old result walk.new world.new }
 {
-    let written = &callee.name;
+    let written = &one.callee.name;
     let name = text(
         walk,
         level,
@@ -77,16 +74,8 @@ pub(crate) fn css_called<W: World, B: Below<W>>(
         &written.span,
         world,
     )?;
-    let values = argument_values(walk, level.deeper(), arguments, world)?;
-    css_with(
-        walk,
-        callee,
-        name,
-        arguments,
-        values.as_slice(),
-        span,
-        world,
-    )
+    let values = argument_values(walk, level.deeper(), one.arguments, world)?;
+    css_with(walk, one, name, values.as_slice(), world)
 }
 
 // What a condition chooses, which keeps no sides.

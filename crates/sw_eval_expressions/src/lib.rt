@@ -5,8 +5,10 @@
 mod calls;
 mod choosing;
 mod functions;
+mod growing;
 mod leaves;
 mod special;
 mod value;
 
+pub use growing::value_given_up;
 pub use value::value_one;

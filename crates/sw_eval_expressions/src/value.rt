@@ -4,7 +4,7 @@ ghost use Rattle.sw_eval_literals.specs.Answers.{changed};
 ghost use Rattle.sw_eval_walk.specs.Going.{Goes_on};
 ghost use Rattle.sw_eval_expressions.specs.Expressions.{string, word, signed, linked, links, chain, items, pairs, map, value_one};
 
-use crate::calls::call;
+use crate::calls::{CallExpression, call};
 use crate::leaves::{of_hash, of_important, of_items, of_number};
 use crate::special::special;
 use sw_eval_literals::{
@@ -247,14 +247,12 @@ pub fn value_one<W: World, B: Below<W>>(
         }
         ExprKind::Map(pairs) => map(walk, level.below, pairs.as_slice(), &e.span, world),
         ExprKind::Call { callee, arguments } => {
-            call(
-                walk,
-                level,
-                callee.get(),
-                arguments.as_slice(),
-                &e.span,
-                world,
-            )
+            let one = CallExpression {
+                callee: callee.get(),
+                arguments: arguments.as_slice(),
+                span: &e.span,
+            };
+            call(walk, level, one, world)
         }
         ExprKind::Special(parts) => special(walk, level, parts, &e.span, world),
     }

@@ -36,3 +36,6 @@ decreases-does_at-closure+2 g l = 2 * l.lower + 1
 
 abbrev pub decreases-does_at-closure+3 : goal.decreases-does_at-closure+3
 decreases-does_at-closure+3 g l = 2 * l.lower + 1
+
+abbrev pub decreases-set_at : goal.decreases-set_at
+decreases-set_at g l = 2 * l.depth + 1

@@ -5,7 +5,7 @@ use Rattle.sw_eval_expressions.proofs.calls.built_in_by.Goals as goal
 
 pub returns-in_default : goal.returns-in_default
 returns-in_default g c =
-    rw (← no_if (g.B.Below.values c.args.level.below) (g.B.Below.bodies c.args.level.below) c.args.level.parens c.args.function c.args.arguments.now c.args.span.now c.args.walk.now.state c.in_default.not-If) c.built_in_call-in_default.ensures
+    rw (← no_if (g.B.Below.values c.args.level.below) (g.B.Below.bodies c.args.level.below) c.args.level.parens c.args.function c.args.one.arguments.now c.args.one.span.now c.args.walk.now.state c.in_default.not-If) c.built_in_call-in_default.ensures
 
 pub returns-then-has_spread : goal.returns-then-has_spread
 returns-then-has_spread g c =

@@ -7,17 +7,7 @@ unfolding call_value
 returns-in_err-called g c =
     did_err _ c.in_err-called.ensures c.from_residual.ensures
 
-pub returns-in-Sheet : goal.returns-in-Sheet
-unfolding call_value
-returns-in-Sheet g c =
-    did_then _ (rw c.in-Sheet.is at c.in_ok-called.ensures) c.sheet_call.ensures
-
-pub returns-in-BuiltIn : goal.returns-in-BuiltIn
-unfolding call_value
-returns-in-BuiltIn g c =
-    did_then _ (rw c.in-BuiltIn.is at c.in_ok-called.ensures) c.built_in_by.ensures
-
 pub returns : goal.returns
 unfolding call_value
 returns g c =
-    did_then _ (rw c.in-Css.is at c.in_ok-called.ensures) c.css_called.ensures
+    did_then _ c.in_ok-called.ensures c.call_by.ensures

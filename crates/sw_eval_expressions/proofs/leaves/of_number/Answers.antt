@@ -1,4 +1,4 @@
-use Rattle.sw_eval_expressions.proofs.Stopped.{plain_stopped}
+use Rattle.sw_eval_state.proofs.Answering.{plain_stopped}
 use Rattle.sw_eval_expressions.proofs.leaves.of_number.Goals as goal
 
 pub returns : goal.returns
