@@ -16,7 +16,7 @@ use Rattle.sw_modules.specs.declared.module.Opened.{Opened}
 use Rattle.sw_modules.specs.declared.uses.Uses.{Uses}
 use Rattle.sw_modules.specs.declared.members.Entry.{Entry}
 use Rattle.sw_modules.specs.declared.uses.UsesCounts.{UsesCounts}
-use Rattle.sw_modules.specs.Uses.{no_uses, is_taken, with_one, uses_counts, first_uses, first_members}
+use Rattle.sw_modules.specs.Uses.{no_uses, is_taken, with_one, uses_counts, first_uses}
 use Rattle.sw_modules.proofs.PassedOn.{joined_back, nothing_back}
 use Rattle.sw_modules.specs.State.{State, below, changed_at, changed_below, loaded_now, module_of, path_in, uses_in, with_uses, with_use, used_by}
 

@@ -1,5 +1,5 @@
 -- Variables that are named and valued as they were.
-use Rattle.std.proofs.Common.{◌≡◌, ℕ, suc, ◌+◌, ◌<◌, ◌≤◌, Bool, true, false, List, [], ◌∷◌, ◌++◌, take, length, get_or, bytes_eq, Option, None, Some, refl, sym, ◌∙◌, ap, subst, inl, inr, arith, slice_get, if◌then◌else◌}
+use Rattle.std.proofs.Common.{◌≡◌, ℕ, suc, ◌+◌, ◌<◌, ◌≤◌, true, false, List, [], ◌∷◌, take, length, get_or, bytes_eq, Option, None, Some, sym, ◌∙◌, ap, subst, inl, inr, arith, slice_get, if◌then◌else◌}
 use Rattle.std.specs.List.{All}
 use Rattle.std.specs.Map.{lookup}
 use Rattle.std.specs.Option.{option_map_or}
@@ -20,11 +20,10 @@ use Rattle.sw_world.specs.declared.variables.NamedVariables.{NamedVariables}
 use Rattle.sw_world.specs.Named.{IsOfVariable, IsOfOne, IsNamed}
 use Rattle.sw_modules.specs.declared.module.Module.{Module}
 use Rattle.sw_modules.specs.declared.members.Origin.{Origin}
-use Rattle.sw_modules.specs.declared.uses.Uses.{Uses}
 use Rattle.sw_modules.specs.BuiltIns.{is_sass}
 use Rattle.sw_modules.specs.State.{State, path_in, uses_in}
 use Rattle.sw_modules.specs.Names.{found, public_of, public_origin, member_of, member_from, built_in_member, loaded_own, loaded_member, used_member, public_member, variable_of, is_member, forwarded_origin, value_of, no_value}
-use Rattle.sw_modules.specs.Outside.{IsAnswer, IsPublic, Functions, Outside, plain}
+use Rattle.sw_modules.specs.Outside.{IsAnswer, IsPublic, Functions, plain}
 
 -- ---- the module behind a namespace
 

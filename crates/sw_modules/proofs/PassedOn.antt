@@ -1,5 +1,5 @@
 -- Members that are passed on one by one, and members that are taken back.
-use Rattle.std.proofs.Common.{◌≡◌, ℕ, ◌+◌, ◌<◌, ◌≤◌, le_refl, Bool, true, false, not, cond, List, [], ◌∷◌, ◌++◌, map, length, take, bytes_eq, Option, None, Some, is_some, slice_get, refl, sym, ◌∙◌, ap, append_assoc, append-nil, arith}
+use Rattle.std.proofs.Common.{◌≡◌, ℕ, ◌+◌, ◌<◌, ◌≤◌, Bool, true, false, not, cond, List, [], ◌∷◌, ◌++◌, map, length, take, bytes_eq, Option, None, Some, is_some, slice_get, refl, sym, ◌∙◌, ap, append_assoc, append-nil}
 use Rattle.std.specs.List.{filter}
 use Rattle.std.specs.Map.{lookup, keys_of}
 use Rattle.std.proofs.lemmas.List.{map-append, take_all, take_more}

@@ -1,7 +1,6 @@
 -- The rows of built-in modules one by one.
-use Rattle.std.proofs.Common.{◌≡◌, ℕ, zero, suc, ◌+◌, ◌<◌, ◌≤◌, Bool, true, false, cond, List, [], ◌∷◌, ◌++◌, length, take, get_or, bytes_eq, codes, Option, None, Some, slice_get, refl, sym, ◌∙◌, ap, arith}
+use Rattle.std.proofs.Common.{◌≡◌, ℕ, zero, suc, ◌+◌, ◌≤◌, Bool, true, false, cond, List, [], ◌∷◌, ◌++◌, length, take, bytes_eq, codes, Option, None, Some, slice_get, refl, sym, ◌∙◌, ap, arith}
 use Rattle.std.specs.Option.{option_map}
-use Rattle.std.proofs.lemmas.Option.{slice_get-get_or}
 use Rattle.sw_tree.specs.declared.callable.Kind.{Kind}
 use Rattle.sw_builtins.specs.Tables.{Row, kind_and_name, math, string, list, maps, color, meta, rows_of}
 use Rattle.sw_world.specs.declared.question.Filter.{Filter}

@@ -1,5 +1,5 @@
 -- What uses make of interfaces, and what there is where nothing is used.
-use Rattle.std.proofs.Common.{◌≡◌, ℕ, List, [], ◌∷◌, false, not, filter, bytes_eq, Option, None, Some, Result, IfOk, refl, sym, ap, subst, ◌∙◌}
+use Rattle.std.proofs.Common.{◌≡◌, ℕ, List, [], ◌∷◌, false, not, filter, bytes_eq, None, Some, Result, IfOk, refl, sym, ap, subst, ◌∙◌}
 use Rattle.std.specs.Map.{lookup, set_value}
 use Rattle.std.specs.Option.{option_map_or}
 use Rattle.sw_tree.specs.declared.callable.Kind.{Kind}
@@ -15,7 +15,7 @@ use Rattle.sw_modules.specs.declared.module.Opened.{Opened}
 use Rattle.sw_modules.specs.declared.uses.Uses.{Uses}
 use Rattle.sw_modules.specs.Interfaces.{has_own, no_members, origin_in, same_origin, is_other, conflicts, entries_of, interface, interface_of, brought}
 use Rattle.sw_modules.specs.Loads.{interface_at_end}
-use Rattle.sw_modules.specs.State.{State, last_open, path_in, uses_in, used_by, module_of}
+use Rattle.sw_modules.specs.State.{State, last_open, path_in, used_by, module_of}
 use Rattle.sw_modules.specs.Uses.{no_uses, is_taken}
 
 -- Nothing is taken where nothing is used

@@ -1,8 +1,7 @@
 -- Small cases of forwards, computed.
-use Rattle.std.proofs.Common.{◌≡◌, ℕ, List, [], ◌∷◌, codes, Bool, true, false, refl}
+use Rattle.std.proofs.Common.{◌≡◌, [], ◌∷◌, codes, true, false, refl}
 use Rattle.sw_tree.specs.declared.callable.Kind.TheVariants.{Variable, Function}
 use Rattle.sw_world.specs.declared.question.Filter.TheVariants.{All, Hide}
-use Rattle.sw_modules.specs.declared.members.Entry.{Entry}
 use Rattle.sw_modules.specs.Interfaces.{no_members, own_entry, passed, joined, conflicts}
 
 -- `as x-* hide $x-a` drops the variable and keeps the function of the same name

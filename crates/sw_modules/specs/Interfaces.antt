@@ -1,7 +1,7 @@
 -- The interface of a module (the Sass specification's modules, "Forwarding"): its public own members, and those that its
 -- forwards bring where it has none of the kind and name. Each stands with its origin. A forward puts its prefix before
 -- each name, and lets through what its `show` names or its `hide` doesn't.
-use Rattle.std.specs.Prelude.{ℕ, List, [], ◌∷◌, ◌++◌, ◌&&◌, not, map, filter, fold, take, length, bytes_eq, Bool, true, false, Option, is_some, if◌then◌else◌}
+use Rattle.std.specs.Prelude.{ℕ, List, [], ◌++◌, ◌&&◌, not, map, filter, fold, bytes_eq, Bool, true, false, Option, is_some, if◌then◌else◌}
 use Rattle.std.specs.List.{list_any}
 use Rattle.std.specs.Option.{option_map_or}
 use Rattle.std.specs.Map.{lookup, keys_of}

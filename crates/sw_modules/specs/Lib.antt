@@ -2,6 +2,7 @@ pub mod Interfaces
 pub mod Uses
 pub mod Callables
 pub mod State
+pub mod Resolving
 pub mod BuiltIns
 pub mod Names
 pub mod Noted

@@ -23,7 +23,9 @@ mod outputs;
 mod parked;
 mod rare;
 mod reader;
+mod resolver;
 mod setting;
+mod spaces;
 mod uses;
 mod variables;
 
@@ -39,6 +41,8 @@ pub use nothing::Nothing;
 pub use parked::Parked;
 pub use rare::RareTable;
 pub use reader::Reader;
+pub use resolver::{Resolution, Resolver};
 pub use setting::HasSetting;
+pub use spaces::Spaces;
 pub use uses::{Used, Uses, UsesCounts};
 pub use variables::Variables;

@@ -5,8 +5,10 @@ ghost use Rattle.std.specs.Option.{option_copied};
 ghost use Rattle.sw_world.specs.Questions.{IsLoad, Fits};
 ghost use Rattle.std.specs.FinMap.{get};
 ghost use Rattle.sw_folder.specs.Files.{most_bytes};
+ghost use Rattle.sw_folder.specs.Resolution.{resolved, IsResolution};
 ghost use Rattle.sw_world.specs.declared.question.How.{How};
 ghost use Rattle.sw_modules.specs.Loads.{config_of, entry_fault, is_explicit, refused, first_untaken};
+ghost use Rattle.sw_modules.specs.Resolving.{AreRight};
 ghost use Rattle.sw_modules.specs.declared.live.Begin.TheVariants.{Answered};
 
 use crate::built_ins::is_sass;
@@ -14,7 +16,7 @@ use crate::interfaces::brought_of;
 use crate::loads::{add_use, config_of, is_explicit, is_open, refused, share_names, takes};
 use crate::outputs::Outputs;
 use crate::uses::Source;
-use crate::{Loaded, Nothing, Opened, Uses};
+use crate::{Loaded, Nothing, Opened, Resolver, Uses};
 use std::alloc::Global;
 use std::marker::Model;
 use sw_folder::{Folder, ResolveFault, has_extension, is_path};
@@ -57,7 +59,7 @@ pub(crate) struct Recent {
 pub struct Live<'a> {
     pub(crate) alloc: Global,
     pub(crate) folder: &'a Folder,
-    pub(crate) paths: Shared<List<Name>>,
+    pub(crate) resolver: Resolver,
     pub(crate) nothing: Nothing,
     pub(crate) loaded: Loaded,
     pub(crate) opened: Vec<Opened>,
@@ -80,12 +82,16 @@ impl<'a> Model for Live<'a> {
 
     ghost view = { λ live. record {
       folder = live.folder.now;
-      paths = live.paths;
+      paths = live.resolver.paths;
       loaded = live.loaded;
       opened = live.opened.items;
       says = live.says;
       outputs = live.outputs;
     } };
+
+    ghost use Rattle.sw_modules.specs.Resolving.{AreRight};
+
+    ghost invariant = { λ live. AreRight live.folder.now live.resolver };
 }
 
 impl<'a> Live<'a> {
@@ -102,13 +108,27 @@ impl<'a> Live<'a> {
     ) -> Result<Live<'a>, Memory>
         ensures { IfOk result (λ live. live ≡ nothing_loaded folder.now paths.now) }
     {
+        let resolver = Resolver::new(alloc, paths)?;
+        Live::over(alloc, folder, resolver, nothing, modules)
+    }
+
+    /// The same, where of some URLs it is known which files of the folder they mean.
+    pub fn over(
+        alloc: Global,
+        folder: &'a Folder,
+        resolver: Resolver,
+        nothing: &Nothing,
+        modules: usize,
+    ) -> Result<Live<'a>, Memory>
+        requires { AreRight folder.now resolver }
+        ensures { IfOk result (λ live. live ≡ nothing_loaded folder.now resolver.paths) }
+    {
         let loaded = Loaded::with_room(alloc, modules)?;
-        let paths = share_names(alloc, paths)?;
         let nothing = nothing.share()?;
         Ok(Live {
             alloc,
             folder,
-            paths,
+            resolver,
             nothing,
             loaded,
             opened: Vec::new(alloc),
@@ -126,10 +146,20 @@ impl<'a> Live<'a> {
     pub fn finish(self) -> List<Saying>
         ensures { result ≡ self.entry.says }
     {
+        let (says, _resolver) = self.into_messages();
+        says
+    }
+
+    /// The messages, and which files the URLs of the compile mean. Takes no memory.
+    pub fn into_messages(self) -> (List<Saying>, Resolver)
+        ensures says { result.0 ≡ self.entry.says }
+        ensures paths { result.1.paths ≡ self.entry.paths }
+        ensures right { AreRight self.entry.folder result.1 }
+    {
         let Live {
             alloc: _,
             folder: _,
-            paths: _,
+            resolver,
             nothing: _,
             loaded: _,
             opened: _,
@@ -137,7 +167,7 @@ impl<'a> Live<'a> {
             outputs: _,
             recent: _,
         } = self;
-        says
+        (says, resolver)
     }
 
     /// What the bodies left behind that ended well, in the order in which they ended: their outputs are those of the
@@ -206,15 +236,20 @@ impl<'a> Live<'a> {
         if is_sass(url.as_str()) {
             return self.begin_built_in(url, span, how, config);
         }
-        match self
-            .folder
-            .resolve(site.as_str(), url.as_str(), self.paths.get().as_slice())
-        {
+        match self.resolve(site, url) {
             Ok(path) => self.begin_path(path, span, how, config),
             Err(ResolveFault::NotFound) => begin_refused(FaultCode::NotFound, span),
             Err(ResolveFault::Ambiguous) => begin_refused(FaultCode::Ambiguous, span),
             Err(ResolveFault::Memory) => Err(Memory),
         }
+    }
+
+    /// The path of the file that a URL means in a sheet.
+    fn resolve(&mut self, site: &Name, url: &Name) -> Result<Name, ResolveFault>
+        ensures found { IsResolution result (resolved self.old.folder site.now url.now self.old.paths) }
+        ensures same { self.new ≡ self.old }
+    {
+        self.resolver.resolve(self.folder, site, url)
     }
 
     #[inline(never)]

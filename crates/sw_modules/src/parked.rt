@@ -4,7 +4,7 @@ ghost use Rattle.std.specs.FinMap as files;
 
 use crate::live::Recent;
 use crate::outputs::Outputs;
-use crate::{Live, Loaded, Nothing, Opened};
+use crate::{Live, Loaded, Nothing, Opened, Resolver};
 use std::alloc::Global;
 use std::marker::Model;
 use sw_folder::Folder;
@@ -56,7 +56,7 @@ impl<'a> Live<'a> {
         let Live {
             alloc,
             folder: _,
-            paths,
+            resolver,
             nothing,
             loaded,
             opened,
@@ -66,7 +66,7 @@ impl<'a> Live<'a> {
         } = self;
         Parked {
             alloc,
-            paths,
+            paths: resolver.into_paths(),
             nothing,
             loaded,
             opened,
@@ -93,7 +93,7 @@ impl<'a> Live<'a> {
         Live {
             alloc,
             folder,
-            paths,
+            resolver: Resolver::over(alloc, paths),
             nothing,
             loaded,
             opened,

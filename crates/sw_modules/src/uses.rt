@@ -1,8 +1,8 @@
 // Which modules a module uses, and how.
-ghost use Rattle.std.specs.Prelude.{◌≡◌, OnOk, OnErr};
+ghost use Rattle.std.specs.Prelude.{◌≡◌, IfOk, OnOk, OnErr};
 ghost use Rattle.sw_modules.specs.Uses.{no_uses, is_taken, with_one, uses_counts, first_uses};
 
-use crate::{Counts, Entry, Members, RareTable};
+use crate::{Counts, Entry, Members, Spaces};
 use std::alloc::Global;
 use std::marker::Model;
 use sw_text::{List, Memory, Name};
@@ -41,6 +41,16 @@ impl Used {
     {
         &self.path
     }
+
+    /// The same, with one more owner of the path.
+    pub(crate) fn share(&self) -> Result<Used, Memory>
+        ensures { IfOk result (λ used. used ≡ self.now) }
+    {
+        Ok(Used {
+            path: self.path.share()?,
+            near: self.near,
+        })
+    }
 }
 
 /// A module that a use is about to name: its path, or the URL of a built-in one, a guess of its place among the loaded
@@ -55,7 +65,7 @@ pub(crate) struct Source {
 /// What a module uses, in the order of its loads: the modules behind a namespace by its name, those whose members are
 /// written as its own, and the members that its forwards brought.
 pub struct Uses {
-    pub named: RareTable<Used>,
+    pub named: Spaces,
     pub stars: List<Name>,
     pub forwarded: Members,
 }
@@ -84,7 +94,7 @@ impl Uses {
         ensures { result ≡ no_uses }
     {
         Uses {
-            named: RareTable::new(alloc),
+            named: Spaces::new(alloc),
             stars: List::new(alloc),
             forwarded: Members::new(alloc),
         }
