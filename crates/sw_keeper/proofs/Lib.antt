@@ -12,3 +12,4 @@ pub mod Tables
 pub mod Outputs
 pub mod Whole
 pub mod Cuts
+mod Knowing

@@ -1,5 +1,6 @@
 -- The turns of a replay.
-use Rattle.std.proofs.Common.{◌≡◌, ℕ, suc, ◌+◌, ◌≤◌, Bool, List, [], ◌∷◌, ◌++◌, length, take, drop, refl, sym, ◌∙◌, ap, subst, append_assoc, length-append, arith, Some, slice_get}
+use Rattle.std.proofs.Common.{◌≡◌, ◌↔◌, ℕ, suc, ◌+◌, ◌≤◌, Bool, true, false, IsTrue, List, [], ◌∷◌, ◌++◌, length, take, drop, refl, sym, ◌∙◌, ap, subst, append_assoc, length-append, arith, Some, slice_get}
+use Rattle.std.specs.Bool.{OnTrue}
 use Rattle.std.proofs.lemmas.List.{take_at, length_push}
 use Rattle.sw_world.specs.declared.question.Question.{Question}
 use Rattle.sw_world.specs.declared.answer.Answer.{Answer}
@@ -14,7 +15,7 @@ use Rattle.sw_record.specs.Ran.{IsCauseBy}
 use Rattle.sw_record.specs.Replay.{LoadAt}
 use Rattle.sw_record.specs.Together.{IsMarked, HasMark, BeginsAt, AreTogether, AreLeft, AreNarrowed, NoneBegins, DepartsAt, AreAtLoads}
 use Rattle.sw_record.proofs.Going.{same_question}
-use Rattle.sw_record.proofs.Together.{one_at, get_behind, prefix_of, same_begins, left_on, none_on, none_left, narrowed, asks_at, departs_at, total, within_total}
+use Rattle.sw_record.proofs.Together.{one_at, get_behind, prefix_of, same_begins, left_on, none_on, none_left, narrowed, asks_at, at_loads, departs_at, total, within_total}
 use Rattle.sw_keeper.specs.Keeping.{Table}
 use Rattle.sw_keeper.specs.declared.departure.Departure.{Departure}
 use Rattle.sw_keeper.specs.declared.loading.Came.{Came}
@@ -315,3 +316,10 @@ load_of runs marks at near k p loads m here pair =
     let same : found.0 ≡ k = one_at runs near found.0 k found.1 here in
     let load : LoadAt k.run.seen at = subst (λ (x : Kept). LoadAt x.run.seen at) same found.2 in
     subst (λ (q : Pair). IsLoad q.0) (one_at k.run.seen at load.pair p load.here pair) load.load
+
+-- one of them that is at a load tells it of all
+pub at_load : (body : BodyOf) (runs : List Kept) (marks : List Bool) (at near : ℕ) (k : Kept) (p : Pair) (b : Bool) → AreTogether body runs marks at → IsMarked marks near → slice_get runs near ≡ Some k → slice_get k.run.seen at ≡ Some p
+    → (IsTrue b ↔ IsLoad p.0) → OnTrue b (AreAtLoads runs marks at)
+at_load body runs marks at near k p true on m here there is =
+    at_loads body runs marks at on near k m here (record { pair = p; here = there; load = is.0 refl })
+at_load body runs marks at near k p false on m here there is = tt

@@ -11,7 +11,7 @@ ghost use Rattle.sw_keeper.specs.Replays.{DidTurn, DidReplay};
 
 use crate::context::{Agreeing, Moment, Opening, Start, Within};
 use crate::departure::{Departure, departure_at};
-use crate::loading::{Came, after_load, load_of};
+use crate::loading::{Came, after_load, are_at_load, load_of};
 use crate::outside::{go_outside, replay_outside};
 use crate::reading::{alike_of, cause_anew, read_sheet};
 use crate::results::run_ended;
@@ -181,6 +181,35 @@ fn replay_turn<R: Reader, E: Engine, H: Hosts>(
     }
 }
 
+/// One turn of a replay: a load at which it is, or what comes up to the next one.
+#[cycle(evaluate)]
+fn next_turn<R: Reader, E: Engine, H: Hosts>(
+    within: &Within<'_, R, E>,
+    moment: &mut Moment<'_, R, E>,
+    hosts: &mut H,
+    engine: &mut E,
+    going: &Agreeing<'_, E>,
+) -> Result<Came, Memory>
+    requires { AreTogether E.body going.now.runs.now going.now.alive going.now.at }
+    ensures did { IfOk result (λ came. (on : AreTogether E.body going.now.runs.now going.now.alive going.now.at)
+        → DidTurn ⟦<(R, E, H) as HasSetting>⟧.setting within.now.kept.now on.job going.now.runs.now
+        going.now.alive on.first came
+        (moment_of moment.old.live (H.state hosts.old) moment.old.results (E.ran engine.old))
+        (moment_of moment.new.live (H.state hosts.new) moment.new.results (E.ran engine.new))) }
+    ensures depth { IfOk result (λ _. length moment.new.live.opened ≡ length moment.old.live.opened) }
+    ensures cut { OnErr result ((on : AreTogether E.body going.now.runs.now going.now.alive going.now.at)
+        → BodyCut ⟦<(R, E, H) as HasSetting>⟧.setting on.job on.first
+        (moment_of moment.old.live (H.state hosts.old) moment.old.results (E.ran engine.old))
+        (moment_of moment.new.live (H.state hosts.new) moment.new.results (E.ran engine.new))) }
+{
+    if are_at_load(going) {
+        let came = load_turn(within, moment, hosts, engine, going)?;
+        return Ok(came);
+    }
+    let came = replay_turn(within, moment, hosts, engine, going)?;
+    Ok(came)
+}
+
 /// Answers the load at which the runs are that agree so far.
 #[cycle(evaluate)]
 fn load_turn<R: Reader, E: Engine, H: Hosts>(
@@ -239,7 +268,7 @@ fn replay_runs<R: Reader, E: Engine, H: Hosts>(
             alive: left,
             at: to,
         };
-        match replay_turn(within, moment, hosts, engine, &agreeing)? {
+        match next_turn(within, moment, hosts, engine, &agreeing)? {
             Came::Whole(place) => return Ok(Ending::Agrees(place)),
             Came::Next { alive, at } => {
                 left = alive;

@@ -1,7 +1,9 @@
 // The folder and the kept runs, and what a compile gives.
-ghost use Rattle.std.specs.Prelude.{◌≡◌, ◌++◌, ◌≤◌, [], Ok, Err, IsTrue, length, IfOk, IfErr, OnOk, OnErr};
+ghost use Rattle.std.specs.Prelude.{◌≡◌, ◌++◌, ◌≤◌, ℕ, List, [], Ok, Err, IsTrue, length, IfOk, IfErr, IfSome, OnOk, OnErr};
 ghost use Rattle.std.specs.FinMap as files;
+ghost use Rattle.sw_folder.specs.Files.{Files};
 ghost use Rattle.sw_folder.specs.Edits.{after_put, after_removal, IsFaultOf};
+ghost use Rattle.sw_modules.specs.Resolving.{AreRight};
 ghost use Rattle.sw_keeper.specs.Compile.{compiled, CompilesTo, BreaksOff};
 ghost use Rattle.sw_record.specs.Ran.{Ran};
 ghost use Rattle.sw_keeper.specs.Keeping.{kept_in, AreKept};
@@ -15,7 +17,7 @@ use crate::results::Results;
 use std::alloc::Global;
 use std::marker::Model;
 use sw_folder::{EditFault, Folder};
-use sw_modules::{Enter, HasSetting, Live, Nothing, Reader};
+use sw_modules::{Enter, HasSetting, Live, Nothing, Reader, Resolver};
 use sw_record::{Cause, Outcome, Reply};
 use sw_text::{List, Memory, Name};
 use sw_world::{Engine, Hosts};
@@ -25,6 +27,8 @@ use sw_world::{Engine, Hosts};
 pub struct Keeper<R: Reader, E: Engine> {
     folder: Folder,
     kept: KeptRuns<R, E>,
+    /// Which files the URLs of the latest compile mean, while no file comes or goes.
+    resolver: Option<Resolver>,
     alloc: Global,
 }
 
@@ -41,6 +45,11 @@ impl<R: Reader, E: Engine> Model for Keeper<R, E> {
     ghost coded = { Prim.hlevel (codes, files_code, expr.the_row.coded, statement.the_row.coded, plain.the_row.coded) };
 
     ghost view = { λ keeper. record { folder = keeper.folder; kept = keeper.kept } };
+
+    ghost use Rattle.std.specs.Prelude.{IfSome};
+    ghost use Rattle.sw_modules.specs.Resolving.{AreRight};
+
+    ghost invariant = { λ keeper. IfSome keeper.resolver (AreRight keeper.folder) };
 }
 
 impl<R: Reader, E: Engine> Keeper<R, E> {
@@ -51,6 +60,7 @@ impl<R: Reader, E: Engine> Keeper<R, E> {
         Keeper {
             folder: Folder::new(alloc),
             kept: KeptRuns::new(alloc),
+            resolver: None,
             alloc,
         }
     }
@@ -62,6 +72,7 @@ impl<R: Reader, E: Engine> Keeper<R, E> {
         ensures unchanged { OnErr result (self.new ≡ self.old) }
         ensures kept { self.new.kept ≡ self.old.kept }
     {
+        self.resolver = known_beside(&self.folder, self.resolver.take(), path);
         self.folder.put(path, bytes)
     }
 
@@ -72,6 +83,7 @@ impl<R: Reader, E: Engine> Keeper<R, E> {
         ensures unchanged { OnErr result (self.new ≡ self.old) }
         ensures kept { self.new.kept ≡ self.old.kept }
     {
+        self.resolver = None;
         self.folder.remove(path)
     }
 
@@ -105,17 +117,22 @@ impl<R: Reader, E: Engine> Keeper<R, E> {
         ensures unchanged { OnErr result (self.new ≡ self.old) }
     {
         let nothing = Nothing::new(self.alloc)?;
+        let resolver = resolver_over(self.alloc, self.resolver.take(), paths)?;
         let within = Within {
             alloc: self.alloc,
             reader,
             kept: &self.kept,
             nothing: &nothing,
         };
-        let Compiled { reply, runs } = compile_folder(
+        let Compiled {
+            reply,
+            runs,
+            resolver,
+        } = compile_folder(
             &within,
             &self.folder,
             entry,
-            paths,
+            resolver,
             engine,
             hosts,
         )?;
@@ -125,7 +142,42 @@ impl<R: Reader, E: Engine> Keeper<R, E> {
             runs.as_slice(),
             reply.ran.as_slice(),
         )?;
+        self.resolver = Some(resolver);
         Ok(reply)
+    }
+}
+
+/// What is known of URLs still once a file is put at a path: all, where there is one already.
+fn known_beside(folder: &Folder, known: Option<Resolver>, path: &str) -> Option<Resolver>
+    ensures put { IfSome known (AreRight folder.now) → (bytes : List ℕ) (files : Files)
+        → after_put path.now bytes folder.now ≡ Ok files → IfSome result (AreRight files) }
+    ensures same { IfSome known (AreRight folder.now) → IfSome result (AreRight folder.now) }
+{
+    match folder.text(path) {
+        Some(_) => known,
+        None => None,
+    }
+}
+
+/// What is known of URLs over these load paths.
+fn resolver_over(
+    alloc: Global,
+    known: Option<Resolver>,
+    paths: &[Name],
+) -> Result<Resolver, Memory>
+    ensures paths { IfOk result (λ resolver. resolver.paths ≡ paths.now) }
+    ensures right { IfOk result (λ resolver. (files : Files) → IfSome known (AreRight files)
+        → AreRight files resolver) }
+{
+    match known {
+        None => Resolver::new(alloc, paths),
+        Some(resolver) => {
+            if resolver.is_of(paths) {
+                Ok(resolver.again())
+            } else {
+                Resolver::new(alloc, paths)
+            }
+        }
     }
 }
 
@@ -149,38 +201,45 @@ fn keep_runs<R: Reader, E: Engine>(
     Ok(())
 }
 
-/// What a compile replies, and the runs that ended in it.
+/// What a compile replies, the runs that ended in it, and which files its URLs mean.
 #[derive(Drop)]
 struct Compiled<R: Reader, E: Engine> {
     reply: Reply,
     runs: List<KeptRun<R, E>>,
+    resolver: Resolver,
 }
 
 fn compile_folder<R: Reader, E: Engine, H: Hosts>(
     within: &Within<'_, R, E>,
     folder: &Folder,
     entry: &Name,
-    paths: &[Name],
+    resolver: Resolver,
     engine: &mut E,
     hosts: &mut H,
 ) -> Result<Compiled<R, E>, Memory>
+    requires { AreRight folder.now resolver }
     ensures did { IfOk result (λ given. IsCompiled
-        (compiled ⟦<(R, E, H) as HasSetting>⟧.setting folder.now paths.now entry.now (H.state hosts.old))
+        (compiled ⟦<(R, E, H) as HasSetting>⟧.setting folder.now resolver.paths entry.now (H.state hosts.old))
         within.now.kept.now given.reply given.runs (H.state hosts.new) (E.ran engine.old) (E.ran engine.new)) }
-    ensures cut { OnErr result (CompileCut ⟦<(R, E, H) as HasSetting>⟧.setting folder.now paths.now entry.now
+    ensures cut { OnErr result (CompileCut ⟦<(R, E, H) as HasSetting>⟧.setting folder.now resolver.paths entry.now
         (H.state hosts.old) (H.state hosts.new) (E.ran engine.old) (E.ran engine.new)) }
+    ensures right { IfOk result (λ given. AreRight folder.now given.resolver) }
 {
     let alloc = within.alloc;
-    let mut live = Live::new(alloc, folder, paths, within.nothing, within.kept.len())?;
+    let mut live = Live::over(alloc, folder, resolver, within.nothing, within.kept.len())?;
     match live.enter(entry)? {
-        Enter::Refused(fault) => Ok(Compiled {
-            reply: Reply {
-                says: List::new(alloc),
-                ran: List::new(alloc),
-                outcome: Outcome::Error(fault),
-            },
-            runs: List::new(alloc),
-        }),
+        Enter::Refused(fault) => {
+            let (_says, resolver) = live.into_messages();
+            Ok(Compiled {
+                reply: Reply {
+                    says: List::new(alloc),
+                    ran: List::new(alloc),
+                    outcome: Outcome::Error(fault),
+                },
+                runs: List::new(alloc),
+                resolver,
+            })
+        }
         Enter::Open { path, text } => {
             let config = within.nothing.config()?;
             let opening = Opening { path, text, config };
@@ -189,12 +248,13 @@ fn compile_folder<R: Reader, E: Engine, H: Hosts>(
             let end = evaluate(within, &mut moment, hosts, engine, &opening)?;
             let Moment { mut live, results } = moment;
             live.leave(&end)?;
-            let says = live.finish();
+            let (says, resolver) = live.into_messages();
             let (runs, ran) = results.into_parts();
             let outcome = outcome_of(alloc, end, runs.as_slice())?;
             Ok(Compiled {
                 reply: Reply { says, ran, outcome },
                 runs,
+                resolver,
             })
         }
     }

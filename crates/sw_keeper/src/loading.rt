@@ -1,5 +1,6 @@
 // The load at which the kept runs are that agree so far.
 ghost use Rattle.std.specs.Prelude.{◌≡◌, IfOk};
+ghost use Rattle.std.specs.Bool.{OnTrue};
 ghost use Rattle.sw_record.specs.Together.{AreTogether, AreAtLoads, HasMark};
 ghost use Rattle.sw_keeper.specs.Loading.{IsLoadOf, AllFit, IsAnswered};
 
@@ -19,6 +20,21 @@ pub enum Came {
     Next { alive: [bool; 8], at: usize },
     /// To a question that is answered as in none of the runs that had agreed.
     Upto(Departure),
+}
+
+/// Whether the question at which the runs are that agree so far is a load: all of them ask the same one.
+pub(crate) fn are_at_load<E: Engine>(going: &Agreeing<'_, E>) -> bool
+    requires { AreTogether E.body going.now.runs.now going.now.alive going.now.at }
+    ensures { OnTrue result (AreAtLoads going.now.runs.now going.now.alive going.now.at) }
+{
+    let Some(near) = first_marked(&going.alive) else {
+        unreachable!()
+    };
+    let run = run_at(going.runs, near).get();
+    match run.seen().get(going.at) {
+        None => false,
+        Some((op, _)) => op.is_load(),
+    }
 }
 
 /// The load itself.

@@ -224,8 +224,8 @@ pub replay_runs-turns-init : goal.replay_runs-turns-init
 replay_runs-turns-init g t c =
     λ on. gone_none (setting_of g.H.Hosts.answer g.H.Hosts.after g.R.Reader.reads g.E.Engine.body) c.args.within.now.kept.now c.args.going.now.runs.now c.args.going.now.alive c.args.going.now.at on (moment_of c.args.moment.now.live (g.H.Hosts.state c.args.hosts.now) c.args.moment.now.results (g.E.Engine.ran c.args.engine.now))
 
-pub replay_runs-replay_turn-requires : goal.replay_runs-replay_turn-requires
-replay_runs-replay_turn-requires g t c κs within =
+pub replay_runs-next_turn-requires : goal.replay_runs-next_turn-requires
+replay_runs-next_turn-requires g t c κs within =
     let on = c.requires in
     let gone = c.turns.invariant on in
     let together : AreTogether g.E.Engine.body c.args.going.now.runs.now c.turns.left c.turns.to = together_left g.E.Engine.body c.args.going.now.runs.now c.args.going.now.alive c.turns.left c.args.going.now.at c.turns.to gone.pairs on gone.are_left gone.some gone.count in
@@ -235,27 +235,27 @@ pub replay_runs-returns-in-Whole-clause-did : goal.replay_runs-returns-in-Whole-
 replay_runs-returns-in-Whole-clause-did g t c =
     λ on.
     let gone = c.turns.invariant on in
-    subst (λ (x : Came). DidTurn (setting_of g.H.Hosts.answer g.H.Hosts.after g.R.Reader.reads g.E.Engine.body) c.args.within.now.kept.now on.job c.args.going.now.runs.now c.args.going.now.alive on.first x (moment_of c.args.moment.now.live (g.H.Hosts.state c.args.hosts.now) c.args.moment.now.results (g.E.Engine.ran c.args.engine.now)) (moment_of c.replay_turn.new.moment.live (g.H.Hosts.state c.replay_turn.new.hosts) c.replay_turn.new.moment.results (g.E.Engine.ran c.replay_turn.new.engine))) c.in-Whole.is (turn_join (setting_of g.H.Hosts.answer g.H.Hosts.after g.R.Reader.reads g.E.Engine.body) c.args.within.now.kept.now on.job c.args.going.now.runs.now c.args.going.now.alive c.turns.left on.first c.turns.to (moment_of c.args.moment.now.live (g.H.Hosts.state c.args.hosts.now) c.args.moment.now.results (g.E.Engine.ran c.args.engine.now)) (moment_of c.turns.moment.live (g.H.Hosts.state c.turns.hosts) c.turns.moment.results (g.E.Engine.ran c.turns.engine)) (moment_of c.replay_turn.new.moment.live (g.H.Hosts.state c.replay_turn.new.hosts) c.replay_turn.new.moment.results (g.E.Engine.ran c.replay_turn.new.engine)) gone c.in_ok-place.field-0 (c.in_ok-place.ensures.did (together_left g.E.Engine.body c.args.going.now.runs.now c.args.going.now.alive c.turns.left c.args.going.now.at c.turns.to gone.pairs on gone.are_left gone.some gone.count)))
+    subst (λ (x : Came). DidTurn (setting_of g.H.Hosts.answer g.H.Hosts.after g.R.Reader.reads g.E.Engine.body) c.args.within.now.kept.now on.job c.args.going.now.runs.now c.args.going.now.alive on.first x (moment_of c.args.moment.now.live (g.H.Hosts.state c.args.hosts.now) c.args.moment.now.results (g.E.Engine.ran c.args.engine.now)) (moment_of c.next_turn.new.moment.live (g.H.Hosts.state c.next_turn.new.hosts) c.next_turn.new.moment.results (g.E.Engine.ran c.next_turn.new.engine))) c.in-Whole.is (turn_join (setting_of g.H.Hosts.answer g.H.Hosts.after g.R.Reader.reads g.E.Engine.body) c.args.within.now.kept.now on.job c.args.going.now.runs.now c.args.going.now.alive c.turns.left on.first c.turns.to (moment_of c.args.moment.now.live (g.H.Hosts.state c.args.hosts.now) c.args.moment.now.results (g.E.Engine.ran c.args.engine.now)) (moment_of c.turns.moment.live (g.H.Hosts.state c.turns.hosts) c.turns.moment.results (g.E.Engine.ran c.turns.engine)) (moment_of c.next_turn.new.moment.live (g.H.Hosts.state c.next_turn.new.hosts) c.next_turn.new.moment.results (g.E.Engine.ran c.next_turn.new.engine)) gone c.in_ok-place.field-0 (c.in_ok-place.ensures.did (together_left g.E.Engine.body c.args.going.now.runs.now c.args.going.now.alive c.turns.left c.args.going.now.at c.turns.to gone.pairs on gone.are_left gone.some gone.count)))
 
 pub replay_runs-returns-in-Upto-clause-did : goal.replay_runs-returns-in-Upto-clause-did
 replay_runs-returns-in-Upto-clause-did g t c =
     λ on.
     let gone = c.turns.invariant on in
-    subst (λ (x : Came). DidTurn (setting_of g.H.Hosts.answer g.H.Hosts.after g.R.Reader.reads g.E.Engine.body) c.args.within.now.kept.now on.job c.args.going.now.runs.now c.args.going.now.alive on.first x (moment_of c.args.moment.now.live (g.H.Hosts.state c.args.hosts.now) c.args.moment.now.results (g.E.Engine.ran c.args.engine.now)) (moment_of c.replay_turn.new.moment.live (g.H.Hosts.state c.replay_turn.new.hosts) c.replay_turn.new.moment.results (g.E.Engine.ran c.replay_turn.new.engine))) c.in-Upto.is (turn_join (setting_of g.H.Hosts.answer g.H.Hosts.after g.R.Reader.reads g.E.Engine.body) c.args.within.now.kept.now on.job c.args.going.now.runs.now c.args.going.now.alive c.turns.left on.first c.turns.to (moment_of c.args.moment.now.live (g.H.Hosts.state c.args.hosts.now) c.args.moment.now.results (g.E.Engine.ran c.args.engine.now)) (moment_of c.turns.moment.live (g.H.Hosts.state c.turns.hosts) c.turns.moment.results (g.E.Engine.ran c.turns.engine)) (moment_of c.replay_turn.new.moment.live (g.H.Hosts.state c.replay_turn.new.hosts) c.replay_turn.new.moment.results (g.E.Engine.ran c.replay_turn.new.engine)) gone c.in_ok-place.field-0 (c.in_ok-place.ensures.did (together_left g.E.Engine.body c.args.going.now.runs.now c.args.going.now.alive c.turns.left c.args.going.now.at c.turns.to gone.pairs on gone.are_left gone.some gone.count)))
+    subst (λ (x : Came). DidTurn (setting_of g.H.Hosts.answer g.H.Hosts.after g.R.Reader.reads g.E.Engine.body) c.args.within.now.kept.now on.job c.args.going.now.runs.now c.args.going.now.alive on.first x (moment_of c.args.moment.now.live (g.H.Hosts.state c.args.hosts.now) c.args.moment.now.results (g.E.Engine.ran c.args.engine.now)) (moment_of c.next_turn.new.moment.live (g.H.Hosts.state c.next_turn.new.hosts) c.next_turn.new.moment.results (g.E.Engine.ran c.next_turn.new.engine))) c.in-Upto.is (turn_join (setting_of g.H.Hosts.answer g.H.Hosts.after g.R.Reader.reads g.E.Engine.body) c.args.within.now.kept.now on.job c.args.going.now.runs.now c.args.going.now.alive c.turns.left on.first c.turns.to (moment_of c.args.moment.now.live (g.H.Hosts.state c.args.hosts.now) c.args.moment.now.results (g.E.Engine.ran c.args.engine.now)) (moment_of c.turns.moment.live (g.H.Hosts.state c.turns.hosts) c.turns.moment.results (g.E.Engine.ran c.turns.engine)) (moment_of c.next_turn.new.moment.live (g.H.Hosts.state c.next_turn.new.hosts) c.next_turn.new.moment.results (g.E.Engine.ran c.next_turn.new.engine)) gone c.in_ok-place.field-0 (c.in_ok-place.ensures.did (together_left g.E.Engine.body c.args.going.now.runs.now c.args.going.now.alive c.turns.left c.args.going.now.at c.turns.to gone.pairs on gone.are_left gone.some gone.count)))
 
 pub replay_runs-turns-preserved : goal.replay_runs-turns-preserved
 replay_runs-turns-preserved g t c =
     λ on.
     let gone = c.turns.invariant on in
-    let next = subst (λ (x : Came). DidTurn (setting_of g.H.Hosts.answer g.H.Hosts.after g.R.Reader.reads g.E.Engine.body) c.args.within.now.kept.now on.job c.args.going.now.runs.now c.args.going.now.alive on.first x (moment_of c.args.moment.now.live (g.H.Hosts.state c.args.hosts.now) c.args.moment.now.results (g.E.Engine.ran c.args.engine.now)) (moment_of c.replay_turn.new.moment.live (g.H.Hosts.state c.replay_turn.new.hosts) c.replay_turn.new.moment.results (g.E.Engine.ran c.replay_turn.new.engine))) c.in-Next.is (turn_join (setting_of g.H.Hosts.answer g.H.Hosts.after g.R.Reader.reads g.E.Engine.body) c.args.within.now.kept.now on.job c.args.going.now.runs.now c.args.going.now.alive c.turns.left on.first c.turns.to (moment_of c.args.moment.now.live (g.H.Hosts.state c.args.hosts.now) c.args.moment.now.results (g.E.Engine.ran c.args.engine.now)) (moment_of c.turns.moment.live (g.H.Hosts.state c.turns.hosts) c.turns.moment.results (g.E.Engine.ran c.turns.engine)) (moment_of c.replay_turn.new.moment.live (g.H.Hosts.state c.replay_turn.new.hosts) c.replay_turn.new.moment.results (g.E.Engine.ran c.replay_turn.new.engine)) gone c.in_ok-place.field-0 (c.in_ok-place.ensures.did (together_left g.E.Engine.body c.args.going.now.runs.now c.args.going.now.alive c.turns.left c.args.going.now.at c.turns.to gone.pairs on gone.are_left gone.some gone.count))) in next.0
+    let next = subst (λ (x : Came). DidTurn (setting_of g.H.Hosts.answer g.H.Hosts.after g.R.Reader.reads g.E.Engine.body) c.args.within.now.kept.now on.job c.args.going.now.runs.now c.args.going.now.alive on.first x (moment_of c.args.moment.now.live (g.H.Hosts.state c.args.hosts.now) c.args.moment.now.results (g.E.Engine.ran c.args.engine.now)) (moment_of c.next_turn.new.moment.live (g.H.Hosts.state c.next_turn.new.hosts) c.next_turn.new.moment.results (g.E.Engine.ran c.next_turn.new.engine))) c.in-Next.is (turn_join (setting_of g.H.Hosts.answer g.H.Hosts.after g.R.Reader.reads g.E.Engine.body) c.args.within.now.kept.now on.job c.args.going.now.runs.now c.args.going.now.alive c.turns.left on.first c.turns.to (moment_of c.args.moment.now.live (g.H.Hosts.state c.args.hosts.now) c.args.moment.now.results (g.E.Engine.ran c.args.engine.now)) (moment_of c.turns.moment.live (g.H.Hosts.state c.turns.hosts) c.turns.moment.results (g.E.Engine.ran c.turns.engine)) (moment_of c.next_turn.new.moment.live (g.H.Hosts.state c.next_turn.new.hosts) c.next_turn.new.moment.results (g.E.Engine.ran c.next_turn.new.engine)) gone c.in_ok-place.field-0 (c.in_ok-place.ensures.did (together_left g.E.Engine.body c.args.going.now.runs.now c.args.going.now.alive c.turns.left c.args.going.now.at c.turns.to gone.pairs on gone.are_left gone.some gone.count))) in next.0
 
 pub replay_runs-turns-smaller : goal.replay_runs-turns-smaller
 replay_runs-turns-smaller g t c =
     let on = c.requires in
     let gone = c.turns.invariant on in
-    let this = subst (λ (x : Came). DidTurn (setting_of g.H.Hosts.answer g.H.Hosts.after g.R.Reader.reads g.E.Engine.body) c.args.within.now.kept.now on.job c.args.going.now.runs.now c.turns.left gone.pairs x (moment_of c.turns.moment.live (g.H.Hosts.state c.turns.hosts) c.turns.moment.results (g.E.Engine.ran c.turns.engine)) (moment_of c.replay_turn.new.moment.live (g.H.Hosts.state c.replay_turn.new.hosts) c.replay_turn.new.moment.results (g.E.Engine.ran c.replay_turn.new.engine))) c.in-Next.is (c.in_ok-place.ensures.did (together_left g.E.Engine.body c.args.going.now.runs.now c.args.going.now.alive c.turns.left c.args.going.now.at c.turns.to gone.pairs on gone.are_left gone.some gone.count)) in
-    let whole = subst (λ (x : Came). DidTurn (setting_of g.H.Hosts.answer g.H.Hosts.after g.R.Reader.reads g.E.Engine.body) c.args.within.now.kept.now on.job c.args.going.now.runs.now c.args.going.now.alive on.first x (moment_of c.args.moment.now.live (g.H.Hosts.state c.args.hosts.now) c.args.moment.now.results (g.E.Engine.ran c.args.engine.now)) (moment_of c.replay_turn.new.moment.live (g.H.Hosts.state c.replay_turn.new.hosts) c.replay_turn.new.moment.results (g.E.Engine.ran c.replay_turn.new.engine))) c.in-Next.is (turn_join (setting_of g.H.Hosts.answer g.H.Hosts.after g.R.Reader.reads g.E.Engine.body) c.args.within.now.kept.now on.job c.args.going.now.runs.now c.args.going.now.alive c.turns.left on.first c.turns.to (moment_of c.args.moment.now.live (g.H.Hosts.state c.args.hosts.now) c.args.moment.now.results (g.E.Engine.ran c.args.engine.now)) (moment_of c.turns.moment.live (g.H.Hosts.state c.turns.hosts) c.turns.moment.results (g.E.Engine.ran c.turns.engine)) (moment_of c.replay_turn.new.moment.live (g.H.Hosts.state c.replay_turn.new.hosts) c.replay_turn.new.moment.results (g.E.Engine.ran c.replay_turn.new.engine)) gone c.in_ok-place.field-0 (c.in_ok-place.ensures.did (together_left g.E.Engine.body c.args.going.now.runs.now c.args.going.now.alive c.turns.left c.args.going.now.at c.turns.to gone.pairs on gone.are_left gone.some gone.count))) in
-    let le = gone_within (setting_of g.H.Hosts.answer g.H.Hosts.after g.R.Reader.reads g.E.Engine.body) c.args.within.now.kept.now on.job c.args.going.now.runs.now c.args.going.now.alive c.in-Next.alive on.first c.in-Next.at (moment_of c.args.moment.now.live (g.H.Hosts.state c.args.hosts.now) c.args.moment.now.results (g.E.Engine.ran c.args.engine.now)) (moment_of c.replay_turn.new.moment.live (g.H.Hosts.state c.replay_turn.new.hosts) c.replay_turn.new.moment.results (g.E.Engine.ran c.replay_turn.new.engine)) (moment_of c.replay_turn.new.moment.live (g.H.Hosts.state c.replay_turn.new.hosts) c.replay_turn.new.moment.results (g.E.Engine.ran c.replay_turn.new.engine)) whole.0 in
+    let this = subst (λ (x : Came). DidTurn (setting_of g.H.Hosts.answer g.H.Hosts.after g.R.Reader.reads g.E.Engine.body) c.args.within.now.kept.now on.job c.args.going.now.runs.now c.turns.left gone.pairs x (moment_of c.turns.moment.live (g.H.Hosts.state c.turns.hosts) c.turns.moment.results (g.E.Engine.ran c.turns.engine)) (moment_of c.next_turn.new.moment.live (g.H.Hosts.state c.next_turn.new.hosts) c.next_turn.new.moment.results (g.E.Engine.ran c.next_turn.new.engine))) c.in-Next.is (c.in_ok-place.ensures.did (together_left g.E.Engine.body c.args.going.now.runs.now c.args.going.now.alive c.turns.left c.args.going.now.at c.turns.to gone.pairs on gone.are_left gone.some gone.count)) in
+    let whole = subst (λ (x : Came). DidTurn (setting_of g.H.Hosts.answer g.H.Hosts.after g.R.Reader.reads g.E.Engine.body) c.args.within.now.kept.now on.job c.args.going.now.runs.now c.args.going.now.alive on.first x (moment_of c.args.moment.now.live (g.H.Hosts.state c.args.hosts.now) c.args.moment.now.results (g.E.Engine.ran c.args.engine.now)) (moment_of c.next_turn.new.moment.live (g.H.Hosts.state c.next_turn.new.hosts) c.next_turn.new.moment.results (g.E.Engine.ran c.next_turn.new.engine))) c.in-Next.is (turn_join (setting_of g.H.Hosts.answer g.H.Hosts.after g.R.Reader.reads g.E.Engine.body) c.args.within.now.kept.now on.job c.args.going.now.runs.now c.args.going.now.alive c.turns.left on.first c.turns.to (moment_of c.args.moment.now.live (g.H.Hosts.state c.args.hosts.now) c.args.moment.now.results (g.E.Engine.ran c.args.engine.now)) (moment_of c.turns.moment.live (g.H.Hosts.state c.turns.hosts) c.turns.moment.results (g.E.Engine.ran c.turns.engine)) (moment_of c.next_turn.new.moment.live (g.H.Hosts.state c.next_turn.new.hosts) c.next_turn.new.moment.results (g.E.Engine.ran c.next_turn.new.engine)) gone c.in_ok-place.field-0 (c.in_ok-place.ensures.did (together_left g.E.Engine.body c.args.going.now.runs.now c.args.going.now.alive c.turns.left c.args.going.now.at c.turns.to gone.pairs on gone.are_left gone.some gone.count))) in
+    let le = gone_within (setting_of g.H.Hosts.answer g.H.Hosts.after g.R.Reader.reads g.E.Engine.body) c.args.within.now.kept.now on.job c.args.going.now.runs.now c.args.going.now.alive c.in-Next.alive on.first c.in-Next.at (moment_of c.args.moment.now.live (g.H.Hosts.state c.args.hosts.now) c.args.moment.now.results (g.E.Engine.ran c.args.engine.now)) (moment_of c.next_turn.new.moment.live (g.H.Hosts.state c.next_turn.new.hosts) c.next_turn.new.moment.results (g.E.Engine.ran c.next_turn.new.engine)) (moment_of c.next_turn.new.moment.live (g.H.Hosts.state c.next_turn.new.hosts) c.next_turn.new.moment.results (g.E.Engine.ran c.next_turn.new.engine)) whole.0 in
     omega (arith, le, this.1, gone.count)
 
 pub evaluate_anew-run_body-requires : goal.evaluate_anew-run_body-requires
@@ -344,9 +344,9 @@ replay_turn-returns-in_err-place-clause-cut g t c =
 
 pub replay_runs-returns-in_err-place-clause-cut : goal.replay_runs-returns-in_err-place-clause-cut
 replay_runs-returns-in_err-place-clause-cut g t c =
-    let cut : (on : AreTogether g.E.Engine.body c.args.going.now.runs.now c.args.going.now.alive c.args.going.now.at) → BodyCut (setting_of g.H.Hosts.answer g.H.Hosts.after g.R.Reader.reads g.E.Engine.body) on.job on.first (moment_of c.args.moment.now.live (g.H.Hosts.state c.args.hosts.now) c.args.moment.now.results (g.E.Engine.ran c.args.engine.now)) (moment_of c.replay_turn.new.moment.live (g.H.Hosts.state c.replay_turn.new.hosts) c.replay_turn.new.moment.results (g.E.Engine.ran c.replay_turn.new.engine)) = λ on.
+    let cut : (on : AreTogether g.E.Engine.body c.args.going.now.runs.now c.args.going.now.alive c.args.going.now.at) → BodyCut (setting_of g.H.Hosts.answer g.H.Hosts.after g.R.Reader.reads g.E.Engine.body) on.job on.first (moment_of c.args.moment.now.live (g.H.Hosts.state c.args.hosts.now) c.args.moment.now.results (g.E.Engine.ran c.args.engine.now)) (moment_of c.next_turn.new.moment.live (g.H.Hosts.state c.next_turn.new.hosts) c.next_turn.new.moment.results (g.E.Engine.ran c.next_turn.new.engine)) = λ on.
     let gone = c.turns.invariant on in
-    gone_cut (setting_of g.H.Hosts.answer g.H.Hosts.after g.R.Reader.reads g.E.Engine.body) c.args.within.now.kept.now on.job c.args.going.now.runs.now c.args.going.now.alive on.first c.turns.left c.turns.to (moment_of c.args.moment.now.live (g.H.Hosts.state c.args.hosts.now) c.args.moment.now.results (g.E.Engine.ran c.args.engine.now)) (moment_of c.turns.moment.live (g.H.Hosts.state c.turns.hosts) c.turns.moment.results (g.E.Engine.ran c.turns.engine)) gone (g.H.Hosts.state c.replay_turn.new.hosts) (g.E.Engine.ran c.replay_turn.new.engine) (c.in_err-place.ensures.cut (together_left g.E.Engine.body c.args.going.now.runs.now c.args.going.now.alive c.turns.left c.args.going.now.at c.turns.to gone.pairs on gone.are_left gone.some gone.count)) in
+    gone_cut (setting_of g.H.Hosts.answer g.H.Hosts.after g.R.Reader.reads g.E.Engine.body) c.args.within.now.kept.now on.job c.args.going.now.runs.now c.args.going.now.alive on.first c.turns.left c.turns.to (moment_of c.args.moment.now.live (g.H.Hosts.state c.args.hosts.now) c.args.moment.now.results (g.E.Engine.ran c.args.engine.now)) (moment_of c.turns.moment.live (g.H.Hosts.state c.turns.hosts) c.turns.moment.results (g.E.Engine.ran c.turns.engine)) gone (g.H.Hosts.state c.next_turn.new.hosts) (g.E.Engine.ran c.next_turn.new.engine) (c.in_err-place.ensures.cut (together_left g.E.Engine.body c.args.going.now.runs.now c.args.going.now.alive c.turns.left c.args.going.now.at c.turns.to gone.pairs on gone.are_left gone.some gone.count)) in
     search (rules, cut)
 
 pub evaluate_anew-returns-in_err-sheet-clause-cut : goal.evaluate_anew-returns-in_err-sheet-clause-cut

@@ -8,28 +8,31 @@ use Rattle.sw_keeper.specs.Replays.{GoneTo}
 use Rattle.sw_keeper.proofs.evaluate.+evaluate.Given as goal
 
 abbrev pub decreases-evaluate : goal.decreases-evaluate
-decreases-evaluate g l = 5 * room l.moment.now.live + 4
+decreases-evaluate g l = 6 * room l.moment.now.live + 5
 
 abbrev pub decreases-evaluate_anew : goal.decreases-evaluate_anew
-decreases-evaluate_anew g l = 5 * room l.moment.now.live + 3
+decreases-evaluate_anew g l = 6 * room l.moment.now.live + 4
 
 abbrev pub decreases-load : goal.decreases-load
-decreases-load g l = 5 * room l.moment.now.live
+decreases-load g l = 6 * room l.moment.now.live
 
 abbrev pub decreases-replay_runs : goal.decreases-replay_runs
-decreases-replay_runs g l = 5 * room l.moment.now.live + 3
+decreases-replay_runs g l = 6 * room l.moment.now.live + 4
+
+abbrev pub decreases-next_turn : goal.decreases-next_turn
+decreases-next_turn g l = 6 * room l.moment.now.live + 3
 
 abbrev pub decreases-replay_turn : goal.decreases-replay_turn
-decreases-replay_turn g l = 5 * room l.moment.now.live + 2
+decreases-replay_turn g l = 6 * room l.moment.now.live + 2
 
 abbrev pub decreases-load_turn : goal.decreases-load_turn
-decreases-load_turn g l = 5 * room l.moment.now.live + 1
+decreases-load_turn g l = 6 * room l.moment.now.live + 1
 
 abbrev pub decreases-run_body : goal.decreases-run_body
-decreases-run_body g l = 5 * room l.moment.now.live + 2
+decreases-run_body g l = 6 * room l.moment.now.live + 2
 
 abbrev pub decreases-body_turn : goal.decreases-body_turn
-decreases-body_turn g l = 5 * room l.moment.now.live + 1
+decreases-body_turn g l = 6 * room l.moment.now.live + 1
 
 abbrev pub invariant-replay_runs-turns : goal.invariant-replay_runs-turns
 invariant-replay_runs-turns g l =
