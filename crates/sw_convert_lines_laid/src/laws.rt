@@ -4,8 +4,9 @@ ghost use Rattle.sw_convert_again.specs.Tokens.{Tok};
 ghost use Rattle.sw_convert_lines_laid.specs.Fronts.{FrontsAreLines, RulesAreLines};
 ghost use Rattle.sw_parse_lexemes.specs.declared.state.Mode.{Mode};
 
-/// A law: what is written of a statement up to its end or its block is a line, where a test of its tokens tells so, no
-/// escape is open at its end, and no `url(` stands in it but in a url without `#{}`; so is what is written of a rule.
+/// A law: what is written of a statement up to its end or its block is a line, where lines can hold its tokens one by one,
+/// no escape is open at its end, and no `url(` stands in it but in a url without `#{}`; so is what is written of a rule,
+/// unless it begins with `=` or `+`.
 pub fn fronts_are_lines()
     ensures fronts { (mode : Mode) (else_first : Bool) (text : List ℕ) (tokens : List Tok)
         → FrontsAreLines mode else_first text tokens }

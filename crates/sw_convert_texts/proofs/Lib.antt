@@ -1,6 +1,6 @@
 mod TerminalChoices
 mod Terminals
-mod TokenPairs
+pub mod TokenPairs
 mod TokenGaps
 mod LexemePairs
 mod TextPieces
