@@ -1,5 +1,5 @@
 -- Special functions, and their text.
-use Rattle.std.proofs.Common.{◌≡◌, ℕ, ◌+◌, Bool, true, false, not, ◌&&◌, ◌||◌, List, [], ◌∷◌, refl, ◌∙◌, ap, arith}
+use Rattle.std.proofs.Common.{◌≡◌, ℕ, ◌+◌, Bool, true, false, not, ◌&&◌, ◌||◌, inl, List, [], ◌∷◌, refl, ◌∙◌, ap, arith}
 use Rattle.sw_parse_terminals.specs.declared.terminal.Terminal.{Terminal}
 use Rattle.sw_parse_terminals.specs.declared.terminal.Terminal.TheVariants as terminals
 use Rattle.sw_parse_lexemes.specs.declared.sort.Sort.{Sort}
@@ -19,7 +19,7 @@ use Rattle.sw_parse_lexemes.specs.Steps.{begins_statement, in_word, passes, afte
 use Rattle.sw_convert_passing.specs.Written.{Written, written, direct, IsThere, Among, Stand, Within}
 use Rattle.sw_convert_passing.specs.Places.{Told}
 use Rattle.sw_convert_passing.specs.Kinds.{is_raw, is_raw_sign, is_dot, is_dollar, is_paren, is_sign, is_plus_or_minus}
-use Rattle.sw_convert_passing.specs.Values.{ahead, owns, is_raw_name, seam}
+use Rattle.sw_convert_passing.specs.Values.{ahead, owns, is_raw_name, dollar_among, seam}
 use Rattle.sw_convert_passing.proofs.Facts.{no_and, and_no, both, and_left, and_right, name_code, number_code}
 use Rattle.sw_convert_passing.proofs.Steps.{Reads, join, step, stay_at, seam_step, seam_next, next}
 use Rattle.sw_convert_passing.proofs.Tokens.{number_here, variable_name_here}
@@ -294,9 +294,9 @@ module _ (inner ended spaced : Bool) (rest : List Written) where
       one_of) (reads t))
       t.within
 
-  pub text_variable_told : (name : Sort) → is_name name ≡ true → IsSpecial inner true rest
-      → IsSpecial inner ended (written sorts.Dollar spaced terminals.Dollar ∷ direct name terminals.VariableName ∷ rest)
-  text_variable_told name n more plains frames state at to within inside before (there, (second, stand)) shut =
+  pub text_variable_told : (others : List Terminal) (name : Sort) → is_name name ≡ true → IsSpecial inner true rest
+      → IsSpecial inner ended (dollar_among spaced others ∷ direct name terminals.VariableName ∷ rest)
+  text_variable_told others name n more plains frames state at to within inside before (there, (second, stand)) shut =
       let told = dollar_in_text state within plains at there.sort (loose_in before).owned
       (both _ _ (ap not second.spaced) (ap is_name second.sort ∙ n)) in
       let m = next state within refl terminals.Dollar refl refl in
@@ -309,8 +309,7 @@ module _ (inner ended spaced : Bool) (rest : List Written) where
       (never s1 plains (at + 1) m.word)
       (ap behind_dollar m.before) second.spaced) one_of more in
       told_by t.end
-      (join (step plains state at (written sorts.Dollar spaced terminals.Dollar) terminals.Dollar within there refl
-      told one_of) (reads t))
+      (join (step plains state at (dollar_among spaced others) terminals.Dollar within there refl told (inl refl)) (reads t))
       t.within
 
   pub text_seam_told : IsSpecial inner ended rest → IsSpecial inner ended (seam ∷ rest)

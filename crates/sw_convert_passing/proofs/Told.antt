@@ -151,8 +151,8 @@ mutual
       text_number_told inner ended spaced rest sort n (text_told more)
   text_told (text_signed {inner = inner} {ended = ended} {spaced = spaced} {rest = rest} sort digits n s more) =
       text_signed_told inner ended spaced rest sort digits n s (text_told more)
-  text_told (text_variable {inner = inner} {ended = ended} {spaced = spaced} {rest = rest} name n more) =
-      text_variable_told inner ended spaced rest name n (text_told more)
+  text_told (text_variable {inner = inner} {ended = ended} {spaced = spaced} {others = others} {rest = rest} name n more) =
+      text_variable_told inner ended spaced rest others name n (text_told more)
   text_told (text_owned_variable {inner = inner} {ended = ended} {spaced = spaced} {rest = rest} owner name o n more)
       = text_owned_variable_told inner ended spaced rest owner name o n (text_told more)
   text_told (text_call {inner = inner} {ended = ended} {spaced = spaced} {call = called} {rest = rest} name n s

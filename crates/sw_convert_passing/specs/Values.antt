@@ -35,9 +35,12 @@ is_raw_name sort tokens = not (owns tokens) && not (ahead is_paren 0 tokens && n
 abbrev pub seam : Written
 seam = record { sort = sorts.Comment; spaced = false; may_be = [] }
 
+-- the `$` of a variable, which may be others too
+abbrev pub dollar_among : Bool → List Terminal → Written
+dollar_among spaced others = record { sort = sorts.Dollar; spaced = spaced; may_be = terminals.Dollar ∷ others }
+
 abbrev pub dollar : Bool → Written
-dollar spaced =
-    record { sort = sorts.Dollar; spaced = spaced; may_be = terminals.Dollar ∷ terminals.DollarNamed ∷ [] }
+dollar spaced = dollar_among spaced (terminals.DollarNamed ∷ [])
 
 abbrev pub opened_paren : Bool → Written
 opened_paren spaced =
@@ -219,9 +222,9 @@ mutual
     text_signed : {inner ended spaced : Bool} {rest : List Written} → (sort number : Sort) → is_number number ≡ true
         → is_sign sort spaced ended ≡ true → Special inner true rest
         → Special inner ended (written sort spaced terminals.Sign ∷ direct number terminals.Number ∷ rest)
-    text_variable : {inner ended spaced : Bool} {rest : List Written} → (name : Sort) → is_name name ≡ true
-        → Special inner true rest
-        → Special inner ended (written sorts.Dollar spaced terminals.Dollar ∷ direct name terminals.VariableName ∷ rest)
+    text_variable : {inner ended spaced : Bool} {others : List Terminal} {rest : List Written} → (name : Sort)
+        → is_name name ≡ true → Special inner true rest
+        → Special inner ended (dollar_among spaced others ∷ direct name terminals.VariableName ∷ rest)
     text_owned_variable : {inner ended spaced : Bool} {rest : List Written} → (owner name : Sort) → is_name owner ≡ true
         → is_name name ≡ true → Special inner true rest
         → Special inner ended

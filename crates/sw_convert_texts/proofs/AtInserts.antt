@@ -1,5 +1,5 @@
 -- Names of at-rules whose `#{}` stands directly behind the `@`, or behind a `-` there, are written as their tokens.
-use Rattle.std.proofs.Common.{◌≡◌, ◌<◌, ℕ, suc, ◌+◌, ◌-◌, Bool, true, false, not, inr, List, [], ◌∷◌, ◌++◌, length, refl, sym, ◌∙◌, ap, subst, arith, lit<}
+use Rattle.std.proofs.Common.{◌≡◌, ◌<◌, ℕ, suc, ◌+◌, ◌-◌, Bool, true, false, inr, List, [], ◌∷◌, ◌++◌, length, refl, sym, ◌∙◌, ap, subst, arith, lit<}
 use Rattle.std.specs.Prelude.{slice_range, codes}
 use Rattle.sw_text_scan.specs.Bytes.{sign, byte, is_white}
 use Rattle.sw_text_scan.specs.Runs.{begins_name, escape_end}
@@ -18,7 +18,7 @@ use Rattle.sw_parse_terminals.specs.Numbers.{just}
 use Rattle.sw_parse_lexemes.specs.declared.sort.Sort.TheVariants as sorts
 use Rattle.sw_parse_table.specs.declared.source.Source.{Source}
 use Rattle.sw_parse_table.specs.Parts.{Part, Inserts}
-use Rattle.sw_parse_table.specs.Sources.{Texts, bytes, from_at, to_at, bytes_at, is_commented, texts, texts_from, text_pieces, pieces_from, parts_between, stretch_between}
+use Rattle.sw_parse_table.specs.Sources.{Texts, bytes, from_at, to_at, bytes_at, texts, texts_from, text_pieces, pieces_from, parts_between, stretch_between}
 use Rattle.sw_convert_spelling.specs.Neighbours.{may_stand_behind}
 use Rattle.sw_convert_spelling.specs.Spelt.{behind_gap, innermost, is_sheet_code}
 use Rattle.sw_convert_spelling.proofs.MovedRuns.{first_byte}

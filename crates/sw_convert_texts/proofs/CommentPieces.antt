@@ -1,11 +1,10 @@
 -- What a text has at a place, outside plain CSS: a loud comment without values runs to its `*/`, and nothing opens plain CSS.
-use Rattle.std.proofs.Common.{◌≡◌, ℕ, ◌+◌, Bool, true, false, not, ◌&&◌, if◌then◌else◌, nat_lt, List, Option, Some, None, refl, sym, ◌∙◌}
+use Rattle.std.proofs.Common.{◌≡◌, ℕ, ◌+◌, Bool, true, false, ◌&&◌, if◌then◌else◌, List, Option, Some, None, refl, sym, ◌∙◌}
 use Rattle.std.specs.Prelude.{◌==◌}
 use Rattle.sw_text_scan.specs.declared.runs.Class.{Class}
 use Rattle.sw_text_scan.specs.declared.runs.Class.TheVariants as classes
 use Rattle.sw_text_scan.specs.Bytes.{sign, byte, is_quote, is_white, is_letter, opens_at, begins_silent, begins_loud, ends_loud}
 use Rattle.sw_text_scan.specs.Runs.{run_end, begins_name}
-use Rattle.sw_text_scan.specs.Words.{begins_number, begins_range, begins_url, url_close}
 use Rattle.sw_tokens.specs.declared.pieces.Before.{Before}
 use Rattle.sw_tokens.specs.declared.pieces.Change.{Change}
 use Rattle.sw_tokens.specs.declared.pieces.Change.TheVariants as changes
@@ -14,7 +13,7 @@ use Rattle.sw_tokens.specs.declared.skips.Inside.{Inside}
 use Rattle.sw_tokens.specs.declared.skips.Inside.TheVariants as insides
 use Rattle.sw_tokens.specs.declared.token.TokenKind.{TokenKind}
 use Rattle.sw_tokens.specs.declared.token.TokenKind.TheVariants as kinds
-use Rattle.sw_tokens.specs.Pieces.{made, made_white, piece, sign_of, sign_piece, letter_kind, dash_kind, name_piece, is_hex_form, number_piece, url_class, url_inside, opens_url, url_piece, after_dollar, after_hash, word_piece, comment_piece, loud_piece, in_interpolation, code_piece, text_piece, quote_piece}
+use Rattle.sw_tokens.specs.Pieces.{made, made_white, piece, sign_of, sign_piece, letter_kind, dash_kind, name_piece, number_piece, url_inside, url_piece, word_piece, comment_piece, loud_piece, in_interpolation, code_piece, text_piece, quote_piece}
 
 abbrev pub is_css : Inside → Bool
 is_css insides.Css = true

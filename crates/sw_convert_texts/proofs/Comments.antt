@@ -25,7 +25,7 @@ use Rattle.sw_convert_heads_passing.specs.Comments.{whole, with_values}
 use Rattle.sw_convert_again.specs.Tokens.{Said, Plain, Worded, Says, Tok, tok, saying}
 use Rattle.sw_convert_again.specs.Tokens as again
 use Rattle.sw_convert_again.specs.Spells.{SpellsRow, from_start}
-use Rattle.sw_convert_again.specs.Comments.{SpellsComment, whole_comment, comment_template, whole_lines, lines_template}
+use Rattle.sw_convert_again.specs.Comments.{whole_comment, comment_template, whole_lines, lines_template}
 use Rattle.sw_convert_tokens.specs.Joints.{Seen, Token, text}
 use Rattle.sw_convert_tokens.proofs.Words.{bytes_sit, parts_are}
 use Rattle.sw_convert_texts.specs.Comments.{comment_row, has_inserts, CommentWritten, CommentsAreWritten}

@@ -68,5 +68,12 @@ mod RawJoined
 pub mod RawWritten
 mod RuleHeads
 pub mod RuleWritten
+mod JoinedPieces
+pub mod SpecialOlds
+mod TextValues
 mod Specials
+mod SpecialTokens
+mod SpecialValues
+mod SpecialBrackets
+mod SpecialTexts
 pub mod SpecialWritten

@@ -52,7 +52,7 @@ row_raw mode xs ys one more around rest told =
     (sym (ap (λ (t : List Written). t ++ rest) (writtens_append xs ys) ∙ append_assoc (writtens xs) (writtens ys) rest))
     (one around (writtens ys ++ rest) (more around rest told))
 
-row_placed : (xs ys : List Joint) (count others : ℕ) (extents further : List Extent) (cut then : Texts → Texts)
+pub row_placed : (xs ys : List Joint) (count others : ℕ) (extents further : List Extent) (cut then : Texts → Texts)
     → length (toks xs) ≡ count → ends_apart false xs ≡ false → Placed xs count extents cut → Placed ys others further then
     → Placed (xs ++ ys) (count + others) (extents ++ shifted count further) (λ cuts. cut (then cuts))
 row_placed xs ys count others extents further cut then counted ended one more new at front after to end list cuts here sit rest =

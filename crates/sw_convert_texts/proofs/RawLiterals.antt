@@ -52,11 +52,11 @@ text_as text own e = sym ((bytes_eq-Decides text own).0 e)
 
 -- ---- strings
 
-quote_first : (b : ℕ) → is_quote b ≡ true → (is_white b ≡ false) × (is_u b ≡ false) × ((b == sign "}") ≡ false)
+pub quote_first : (b : ℕ) → is_quote b ≡ true → (is_white b ≡ false) × (is_u b ≡ false) × ((b == sign "}") ≡ false)
 quote_first b e = (grind (arith, nat_tests), grind (arith, nat_tests), grind (arith, nat_tests))
 
 -- a string by itself
-string_alone : (text : List ℕ) → is_string text ≡ true
+pub string_alone : (text : List ℕ) → is_string text ≡ true
     → piece (text ++ []) insides.Sheet befores.White 0
     ≡ made (kinds.Quoted (decoded (slice_range text 1 (string_end text)))) (length text) changes.Keep
 unfolding code_piece quote_piece
@@ -74,7 +74,7 @@ string_alone text e =
     equal a b e = grind (arith, nat_tests)
 
 -- it has both quotes
-string_long : (text : List ℕ) → is_string text ≡ true → 1 < length text
+pub string_long : (text : List ℕ) → is_string text ≡ true → 1 < length text
 string_long text e =
     let forward = run_forward text (classes.SheetText (byte text 0)) 1 in
     let ends = equal (string_end text + 1) (length text)
@@ -84,7 +84,7 @@ string_long text e =
     equal : (a b : ℕ) → (a == b) ≡ true → a ≡ b
     equal a b e = grind (arith, nat_tests)
 
-pick_raw : (t : Bool) → is_raw (if t then sorts.Quoted else sorts.Unnamed) ≡ true
+pub pick_raw : (t : Bool) → is_raw (if t then sorts.Quoted else sorts.Unnamed) ≡ true
 pick_raw true = refl
 pick_raw false = refl
 
@@ -112,7 +112,7 @@ quoted_digits text q = left_no (is_digit (byte text 0)) _ (go (byte text 0) q)
     go : (b : ℕ) → is_quote b ≡ true → is_digit b ≡ false
     go b e = grind (arith, nat_tests)
 
-pick_seen : (t : Bool) → is_comment (if t then sorts.Quoted else sorts.Unnamed) ≡ false
+pub pick_seen : (t : Bool) → is_comment (if t then sorts.Quoted else sorts.Unnamed) ≡ false
 pick_seen true = refl
 pick_seen false = refl
 

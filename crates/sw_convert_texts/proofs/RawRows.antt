@@ -174,26 +174,26 @@ module _ (source : Source) (was : WasRead source) (mode : Mode) where
   module _ {i c : ℕ} {value : Expr} {tokens : List Tok} (opens : Old source i (just terminals.Insert))
       (value_is : Spells source (suc i) c value tokens) (close : Old source c (just terminals.InsertEnd))
       (inner : Inner (expr_text value) tokens) (before : Before) (gap : List ℕ) (said : Said) where
-    abbrev list : List Joint
+    abbrev pub list : List Joint
     list = inner.segment.joints
 
-    abbrev opened : Seen
+    abbrev pub opened : Seen
     opened = opening_behind before gap terminals.Insert said
 
-    abbrev closed : Joint
+    abbrev pub closed : Joint
     closed = Token (closing Nothing)
 
-    abbrev insert_joints : List Joint
+    abbrev pub insert_joints : List Joint
     insert_joints = Token opened ∷ (list ++ closed ∷ [])
 
-    abbrev insert_tokens : List Tok
+    abbrev pub insert_tokens : List Tok
     insert_tokens = within (again.sign terminals.Insert) tokens terminals.InsertEnd
 
-    insert_long : length insert_tokens ≡ 2 + length tokens
+    pub insert_long : length insert_tokens ≡ 2 + length tokens
     insert_long =
         let long = length-append tokens (again.sign terminals.InsertEnd ∷ []) in omega (arith, long)
 
-    insert_spelling : (rest : List ℕ)
+    pub insert_spelling : (rest : List ℕ)
         → text insert_joints ++ rest ≡ gap ++ (codes "#{" ++ (expr_text value ++ (codes "}" ++ rest)))
     insert_spelling rest =
         ap (λ (t : List ℕ). (gap ++ (codes "#{" ++ t)) ++ rest)
@@ -201,13 +201,13 @@ module _ (source : Source) (was : WasRead source) (mode : Mode) where
         ∙ append_assoc gap (codes "#{" ++ (expr_text value ++ codes "}")) rest
         ∙ ap (λ (t : List ℕ). gap ++ (codes "#{" ++ t)) (append_assoc (expr_text value) (codes "}") rest)
 
-    insert_seen : toks insert_joints ≡ saying said insert_tokens
+    pub insert_seen : toks insert_joints ≡ saying said insert_tokens
     insert_seen =
         ap (λ (t : List Tok). tok terminals.Insert said ∷ t)
         (toks_append list (closed ∷ [])
         ∙ ap (λ (t : List Tok). t ++ again.sign terminals.InsertEnd ∷ []) inner.segment.seen)
 
-    insert_tail : (rest : List Written)
+    pub insert_tail : (rest : List Written)
         → writtens (list ++ closed ∷ []) ++ rest ≡ inner.passed ++ direct sorts.CloseInsert terminals.InsertEnd ∷ rest
     insert_tail rest =
         ap (λ (t : List Written). t ++ rest)
@@ -227,7 +227,7 @@ module _ (source : Source) (was : WasRead source) (mode : Mode) where
           (tell_append list (closed ∷ []) inner.segment.tells (λ new commented at front after sit. tt, tt)) more,
     )
 
-    insert_placed : Placed insert_joints (length insert_tokens) (extent 0 (2 + length tokens) ∷ [])
+    pub insert_placed : Placed insert_joints (length insert_tokens) (extent 0 (2 + length tokens) ∷ [])
         (λ cuts. begun gap (cut_before cuts))
     insert_placed new at front after to end more cuts here sit rest =
         let long = insert_long in

@@ -77,7 +77,7 @@ module _ (source : Source) (mode : Mode) (i j : ℕ) (parts : List Part) (cuts :
 -- ---- what the first token says
 
 -- a text that is cut as the one that was read
-said_so : (source new : Source) (i j at count : ℕ) (parts : List Part) (extents : List Extent) (cuts : Texts)
+pub said_so : (source new : Source) (i j at count : ℕ) (parts : List Part) (extents : List Extent) (cuts : Texts)
     → around_texts source (stretch_between source i j) (extents_of parts) ≡ lones cuts
     → around_texts new (stretch_between new at (at + count)) (shifted at extents) ≡ lones cuts
     → Says new at (text_said source i j parts extents count)

@@ -17,7 +17,7 @@ use Rattle.sw_convert_texts.proofs.AroundTexts.{Step, Beside, longer}
 abbrev pub seamed : List Piece → List ℕ
 seamed list = pieces_text manners.Seamed (map piece_written list)
 
-abbrev is_loose : List Written → Bool
+abbrev pub is_loose : List Written → Bool
 is_loose [] = true
 is_loose (Said text ∷ list) = true
 is_loose (Inserted value ∷ list) = true

@@ -1,5 +1,5 @@
--- Special functions in which names and commas stand, and parentheses around them, are written as their tokens.
-use Rattle.std.proofs.Common.{◌≡◌, ◌<◌, ℕ, suc, ◌+◌, ◌-◌, Bool, true, false, ◌&&◌, List, [], ◌∷◌, ◌++◌, length, refl, sym, ◌∙◌, ap, subst, arith, append_assoc}
+-- Special functions are written as their tokens.
+use Rattle.std.proofs.Common.{◌≡◌, ℕ, suc, ◌+◌, ◌-◌, Bool, true, false, ◌&&◌, List, [], ◌∷◌, ◌++◌, length, refl, sym, ◌∙◌, ap, subst, arith, append_assoc, append-nil}
 use Rattle.std.specs.Prelude.{bytes_eq, codes}
 use Rattle.sw_text.specs.declared.place.Span.{Span}
 use Rattle.sw_text_scan.specs.Bytes.{sign, byte}
@@ -15,17 +15,16 @@ use Rattle.sw_parse_terminals.specs.declared.terminal.Terminal.TheVariants as te
 use Rattle.sw_parse_terminals.specs.Numbers.{just}
 use Rattle.sw_parse_lexemes.specs.declared.sort.Sort.{Sort}
 use Rattle.sw_parse_lexemes.specs.declared.sort.Sort.TheVariants as sorts
+use Rattle.sw_parse_lexemes.specs.declared.state.Mode.TheVariants as modes
 use Rattle.sw_parse_lexemes.specs.Classes.{is_name}
 use Rattle.sw_parse_lexemes.specs.Names.{is_special_name}
 use Rattle.sw_parse_table.specs.declared.source.Source.{Source}
 use Rattle.sw_parse_table.specs.Parts.{Part}
-use Rattle.sw_parse_table.specs.Sources.{Texts, to_at, bytes_at, texts, plain_parts, parts_between, stretch_between}
+use Rattle.sw_parse_table.specs.Sources.{Texts, begun, to_at, bytes_at, parts_between, stretch_between}
 use Rattle.sw_parse_table.specs.Values.{expression}
 use Rattle.sw_convert_spelling.specs.Spelt.{behind_gap, innermost, is_sheet_code}
 use Rattle.sw_convert_spelling.proofs.MovedRuns.{first_byte}
-use Rattle.sw_convert_written.specs.declared.manner.Manner.TheVariants as manners
-use Rattle.sw_convert_written.specs.Pieces.{pieces_text}
-use Rattle.sw_convert_written.specs.Expressions.{expr_text, parts_written}
+use Rattle.sw_convert_written.specs.Expressions.{expr_text}
 use Rattle.sw_convert_written.proofs.Unrolled as unrolled
 use Rattle.sw_convert_passing.specs.Written.{Written, written, direct}
 use Rattle.sw_convert_passing.specs.Values.{Value, special}
@@ -38,29 +37,21 @@ use Rattle.sw_convert_tokens.specs.Values.{WasRead}
 use Rattle.sw_convert_tokens.specs.Written.{is_calm, gap_of, AsValue, WrittenAs}
 use Rattle.sw_convert_tokens.proofs.Joins.{text_append, toks_append, writtens_append, behind_append, tell_append, stand_append, sit_left}
 use Rattle.sw_convert_tokens.proofs.Signs.{gap_is}
-use Rattle.sw_convert_texts.specs.RawKinds.{gap_before, sort_there, is_some}
-use Rattle.sw_convert_texts.specs.Specials.{is_calmly_beside, special_text, name_ends, text_known, special_known, SpecialsAreWritten}
+use Rattle.sw_convert_texts.specs.RawKinds.{gap_before, sort_there}
+use Rattle.sw_convert_texts.specs.Inserted.{TextHasValues}
+use Rattle.sw_convert_texts.specs.Specials.{is_calmly_beside, special_text, text_front, name_ends, text_known, special_known, SpecialsAreWritten}
 use Rattle.sw_convert_texts.proofs.JoinedTexts.{lone}
-use Rattle.sw_convert_texts.proofs.AroundTexts.{lones, CutFrom, cut_token, cut_end, first_token}
-use Rattle.sw_convert_texts.proofs.RawOlds.{lies}
-use Rattle.sw_convert_texts.proofs.RawSits.{at_next, own_sits, step_sits, sit_right, sit_end}
-use Rattle.sw_convert_texts.proofs.Specials.{front_same, bytes_same, mild_settled, seen_as, NameThere, name_there, old_token, white_there, TextIs, open_closed, shut_closed, text_written}
+use Rattle.sw_convert_texts.proofs.AroundTexts.{lones, around_texts, CutFrom, cut_token, cut_end, first_token}
+use Rattle.sw_convert_texts.proofs.JoinedPieces.{joined_end}
+use Rattle.sw_convert_texts.proofs.RawWritten.{written_is, said_so}
+use Rattle.sw_convert_texts.proofs.RawSits.{shifted_twice, at_next, own_sits, step_sits, sit_right, sit_end}
+use Rattle.sw_convert_texts.proofs.SpecialOlds.{special_cut, calm_told, bytes_same, some_bytes, NameThere, name_there, From, token_from, old_text, Whole, old_whole}
+use Rattle.sw_convert_texts.proofs.Specials.{front_same, mild_settled, seen_as, lone_stand, open_paren, close_paren, TextIs}
+use Rattle.sw_convert_texts.proofs.SpecialTexts.{text_is_written}
 
 special_name : (sort : Sort) → is_special_name sort ≡ true → (is_name sort ≡ true) × (sort ≡ sorts.Special)
 special_name sorts.Special e = (refl, refl)
 special_name _ e = absurd (cc)
-
-some_bytes : (xs : List ℕ) → 0 < length xs → is_some xs ≡ true
-some_bytes [] l = absurd (omega (arith, l))
-some_bytes (x ∷ xs) l = refl
-
--- one text, of which another is
-one_text : (x : Texts) (t : List ℕ) → x ∷ [] ≡ lones (lone t) → x ≡ lone t
-one_text x t e = ap first e
-  where
-    first : List Texts → Texts
-    first [] = x
-    first (y ∷ ys) = y
 
 -- what is told of the function
 pub record IsTold (source : Source) {i k : ℕ} {parts : List Part} {tokens : List Tok} {extents : List Extent}
@@ -74,9 +65,9 @@ pub record IsTold (source : Source) {i k : ℕ} {parts : List Part} {tokens : Li
   pub opening : bytes_at source (suc i) ≡ codes "("
   pub last : is_calmly_beside source k ≡ true
   pub closing : bytes_at source k ≡ codes ")"
-  pub known : text_known source inner (gap_before source k ++ codes ")") ≡ true
+  pub known : text_known source inner false (bytes_at source i ++ codes "(") (gap_before source k ++ codes ")") ≡ true
 
-told_of : (source : Source) {i k : ℕ} {parts : List Part} {tokens : List Tok} {extents : List Extent}
+pub told_of : (source : Source) {i k : ℕ} {parts : List Part} {tokens : List Tok} {extents : List Extent}
     (name : Old source i (just terminals.Special)) (inner : SpellsText source (suc (suc i)) k parts tokens extents)
     → special_known source name inner ≡ true → IsTold source name inner
 told_of source {i} {k} name inner e =
@@ -104,7 +95,7 @@ told_of source {i} {k} name inner e =
 
 module _ (source : Source) (was : WasRead source) {i k : ℕ} {parts : List Part} {tokens : List Tok} {extents : List Extent}
     (name : Old source i (just terminals.Special)) (inner : SpellsText source (suc (suc i)) k parts tokens extents)
-    (told : IsTold source name inner) where
+    (told : IsTold source name inner) (has : TextHasValues inner) where
   abbrev end_gap : List ℕ
   end_gap = gap_before source k
 
@@ -117,8 +108,12 @@ module _ (source : Source) (was : WasRead source) {i k : ℕ} {parts : List Part
   abbrev whole : List ℕ
   whole = own ++ (codes "(" ++ inside)
 
-  it : TextIs source was inner (end_gap ++ codes ")")
-  it = text_written source was inner (end_gap ++ codes ")") told.known
+  -- the texts around the values in it, from the parenthesis on
+  abbrev cuts : Texts
+  cuts = begun (codes "(") (special_cut source inner (begun end_gap (begun (codes ")") (lone []))))
+
+  it : TextIs source was inner false (end_gap ++ codes ")")
+  it = text_is_written source was inner false (own ++ codes "(") (end_gap ++ codes ")") told.known has
 
   one : NameThere source was i name.lexeme
   one = name_there source was i name.lexeme name.there told.is_name
@@ -130,34 +125,46 @@ module _ (source : Source) (was : WasRead source) {i k : ℕ} {parts : List Part
   opener = Token (seen_as [] kinds.OpenParen (codes "(") terminals.RawParen)
 
   abbrev list : List Joint
-  list = it.list ++ tail
+  list = it.joints ++ tail
 
-  -- the old text
-  old_texts : texts source (stretch_between source i (suc k)) ≡ lone whole
-  old_texts =
-      let to = to_at source (suc k - 1) in
-      let end = suc k - 1 in
-      let closed = old_token source was k (codes ")") told.last told.closing refl (to_at source (suc k - 1)) (suc k - 1) []
-      (cut_end source to end (suc k - 1) refl refl) in
-      let opened = old_token source was (suc i) (codes "(") told.beside told.opening refl (to_at source (suc k - 1)) (suc k - 1) inside
-      (it.old (to_at source (suc k - 1)) (suc k - 1) (end_gap ++ codes ")") closed) in
-      let cut : CutFrom source (to_at source (suc k - 1)) (suc k - 1) i [] (lone (codes "(" ++ inside)) =
-      subst (λ (g : List ℕ). CutFrom source (to_at source (suc k - 1)) (suc k - 1) i [] (lone (g ++ (codes "(" ++ inside)))) told.gap
-      (subst (λ (m : ℕ). CutFrom source (to_at source (suc k - 1)) (suc k - 1) m [] (lone (gap_before source (suc i) ++ (codes "(" ++ inside))))
-      (let z : suc i - 1 ≡ i = omega arith in z) opened) in
-      one_text (texts source (stretch_between source i (suc k))) whole
-      (first_token source (to_at source (suc k - 1)) (suc k - 1) i [] (lone (codes "(" ++ inside))
-      (lies source i (some_bytes own one.part.some)) cut)
+  -- ---- the old text
 
-  own_parts : (ps : List Part) → ps ≡ [] → parts_between source i (suc k) ps ≡ plain_parts (lone whole)
-  own_parts ps e =
-      ap (parts_between source i (suc k)) e ∙ ap plain_parts old_texts
+  abbrev to : ℕ
+  to = to_at source (suc k - 1)
+
+  abbrev end : ℕ
+  end = suc k - 1
+
+  abbrev FromThere : ℕ → List ℕ → List Part → Texts → List ℕ → Type 0
+  FromThere = From source was to end
+
+  from_name : FromThere (suc i - 1) own parts cuts (codes "(" ++ inside)
+  from_name =
+      let last : FromThere (suc k - 1) ((text_front source inner (own ++ codes "(") ++ end_gap) ++ codes ")") [] (lone []) [] = record {
+        cut = cut_end source to end (suc k - 1) refl refl;
+        joined = joined_end source to end (suc k - 1) ((text_front source inner (own ++ codes "(") ++ end_gap) ++ codes ")") refl refl;
+      } in
+      let closed = token_from source was to end k (suc k - 1) (codes ")") (text_front source inner (own ++ codes "(")) [] (lone []) []
+      told.last told.closing refl (let z : suc k - 1 ≡ k = omega arith in z) last in
+      let text = subst (λ (list : List Part). FromThere (suc (suc i) - 1) (own ++ codes "(") list (special_cut source inner (begun end_gap (begun (codes ")") (lone [])))) inside)
+      (append-nil parts)
+      (old_text source was to end inner false (own ++ codes "(") (end_gap ++ codes ")") told.known [] (begun end_gap (begun (codes ")") (lone []))) closed) in
+      let opened = token_from source was to end (suc i) (suc (suc i) - 1) (codes "(") own parts (special_cut source inner (begun end_gap (begun (codes ")") (lone []))))
+      inside told.beside told.opening refl (let z : suc (suc i) - 1 ≡ suc i = omega arith in z)
+      (subst (λ (t : List ℕ). FromThere (suc (suc i) - 1) (t ++ codes "(") parts (special_cut source inner (begun end_gap (begun (codes ")") (lone [])))) inside)
+      (sym (ap (λ (g : List ℕ). own ++ g) told.gap ∙ append-nil own)) text) in
+      subst (λ (g : List ℕ). FromThere (suc i - 1) own parts (begun g cuts) (g ++ (codes "(" ++ inside))) told.gap opened
+
+  old_whole_is : Whole source was to end i parts (begun own cuts) whole
+  old_whole_is =
+      old_whole source was to end i parts cuts (codes "(" ++ inside) (some_bytes own one.part.some)
+      (subst (λ (m : ℕ). FromThere m own parts cuts (codes "(" ++ inside)) (let z : suc i - 1 ≡ i = omega arith in z) from_name)
 
   pub text_is : (span : Span) → expr_text (expression (exprs.Special (parts_between source i (suc k) parts)) span) ≡ whole
   text_is span =
       unrolled.special_is (parts_between source i (suc k) parts)
-      ∙ ap (λ p. pieces_text manners.Seamed (parts_written p)) (own_parts parts it.plain)
-      ∙ ap (pieces_text manners.Seamed) (unrolled.plain_is whole)
+      ∙ written_is source modes.Raw i (suc k) parts (begun own cuts) whole
+      (record { cut = old_whole_is.cut; seamed = record { is = old_whole_is.joined.is; loose = old_whole_is.joined.loose } })
 
   abbrev said : Said
   said = text_said source i (suc k) parts (shifted 2 extents) (3 + length tokens)
@@ -178,46 +185,41 @@ module _ (source : Source) (was : WasRead source) {i k : ℕ} {parts : List Part
       → Sit new commented at front (Token (name_seen before spaced) ∷ opener ∷ list) after → Says new at said
   says before spaced new commented at front after (first, (second, sit)) =
       let n = length tokens in
-      let to = to_at new ((at + (3 + length tokens)) - 1) in
-      let end = (at + (3 + length tokens)) - 1 in
+      let to_new = to_at new ((at + (3 + length tokens)) - 1) in
+      let end_new = (at + (3 + length tokens)) - 1 in
       let open_seen = seen_as [] kinds.OpenParen (codes "(") terminals.RawParen in
       let shut_seen = seen_as end_gap kinds.CloseParen (codes ")") terminals.RawParenEnd in
       let front_name = (front ++ gap_of spaced) ++ own in
       let front_open = (front_name ++ []) ++ codes "(" in
       let here = at_next new at (front ++ gap_of spaced) (name_seen before spaced) (joints.text (opener ∷ list) ++ after) commented first in
       let opened = at_next new (suc at) (front_name ++ []) open_seen (joints.text list ++ after) false second in
-      let counted : length (toks it.list) ≡ n = ap length it.seen in
-      let left = sit_left new false (suc (suc at)) front_open it.list tail after sit in
-      let right = sit_right new false (suc (suc at)) front_open it.list tail after sit in
-      let place : to_at new (suc at + n) ≡ length (front_open ++ joints.text it.list) =
+      let counted : length (toks it.joints) ≡ n = ap length it.seen in
+      let left = sit_left new false (suc (suc at)) front_open it.joints tail after sit in
+      let right = sit_right new false (suc (suc at)) front_open it.joints tail after sit in
+      let place : to_at new (suc at + n) ≡ length (front_open ++ joints.text it.joints) =
       ap (λ (m : ℕ). to_at new (suc at + m)) (sym counted)
-      ∙ sit_end new false (suc at) front_open it.list (joints.text tail ++ after) (λ f. opened) left it.ended in
-      let last : Sit new false (suc (suc at + n)) (front_open ++ joints.text it.list) tail after =
-      subst (λ (m : ℕ). Sit new false m (front_open ++ joints.text it.list) tail after)
-      (let z : suc (suc at) + length (toks it.list) ≡ suc (suc at + n) = omega (arith, counted) in z)
-      (subst (λ (x : Bool). Sit new x (suc (suc at) + length (toks it.list)) (front_open ++ joints.text it.list) tail after)
-      it.ended right) in
+      ∙ sit_end new false (suc at) front_open it.joints (joints.text tail ++ after) (λ f. opened) left it.ended_is in
+      let last : Sit new false (suc (suc at + n)) (front_open ++ joints.text it.joints) tail after =
+      subst (λ (m : ℕ). Sit new false m (front_open ++ joints.text it.joints) tail after)
+      (let z : suc (suc at) + length (toks it.joints) ≡ suc (suc at + n) = omega (arith, counted) in z)
+      (subst (λ (x : Bool). Sit new x (suc (suc at) + length (toks it.joints)) (front_open ++ joints.text it.joints) tail after)
+      it.ended_is right) in
       let stop : (at + (3 + length tokens)) - 1 ≡ suc (suc at + n) = omega arith in
       let own_text = own_sits new at (front ++ gap_of spaced) (name_seen before spaced) (joints.text (opener ∷ list) ++ after) commented first in
-      let cut : CutFrom new to end at [] (lone (codes "(" ++ inside)) =
-      cut_token new to end at [] (codes "(") [] (lone inside)
+      let cut : CutFrom new to_new end_new at (shifted (suc (suc at)) extents ++ []) cuts =
+      cut_token new to_new end_new at [] (codes "(") (shifted (suc (suc at)) extents ++ [])
+      (special_cut source inner (begun end_gap (begun (codes ")") (lone []))))
       (step_sits new at front_name open_seen (joints.text list ++ after) here second)
-      (it.new new (suc at) front_open (joints.text tail ++ after) to end (end_gap ++ codes ")") opened left
-      (cut_token new to end (suc at + n) end_gap (codes ")") [] (lone [])
-      (step_sits new (suc at + n) (front_open ++ joints.text it.list) shut_seen after place last.0)
-      (cut_end new to end (suc (suc at + n)) (ap (to_at new) stop) stop))) in
-      let there : texts new (stretch_between new at (at + (3 + length tokens))) ≡ lone whole =
-      one_text (texts new (stretch_between new at (at + (3 + length tokens)))) whole
-      (first_token new to end at [] (lone (codes "(" ++ inside)) own_text.high cut
-      ∙ ap (λ (t : List ℕ). lones (lone (t ++ (codes "(" ++ inside)))) own_text.text_is) in
-      by parts (shifted 2 extents) it.plain (ap (λ (e : List Extent). shifted 2 e) it.bare) there
-    where
-      by : (ps : List Part) (es : List Extent) → ps ≡ [] → es ≡ []
-          → texts new (stretch_between new at (at + (3 + length tokens))) ≡ lone whole
-          → Says new at (text_said source i (suc k) ps es (3 + length tokens))
-      by ps es p e there =
-          subst (λ (x : List Extent). Says new at (text_said source i (suc k) ps x (3 + length tokens))) (sym e)
-          (ap plain_parts there ∙ sym (own_parts [] refl))
+      (it.placed new (suc at) front_open (joints.text tail ++ after) to_new end_new [] (begun end_gap (begun (codes ")") (lone []))) opened left
+      (cut_token new to_new end_new (suc at + n) end_gap (codes ")") [] (lone [])
+      (step_sits new (suc at + n) (front_open ++ joints.text it.joints) shut_seen after place last.0)
+      (cut_end new to_new end_new (suc (suc at + n)) (ap (to_at new) stop) stop))) in
+      said_so source new i (suc k) at (3 + length tokens) parts (shifted 2 extents) (begun own cuts) old_whole_is.cut
+      (ap (around_texts new (stretch_between new at (at + (3 + length tokens))))
+      (shifted_twice at 2 (suc (suc at)) extents (let z : at + 2 ≡ suc (suc at) = omega arith in z)
+      ∙ sym (append-nil (shifted (suc (suc at)) extents)))
+      ∙ first_token new to_new end_new at (shifted (suc (suc at)) extents ++ []) cuts own_text.high cut
+      ∙ ap (λ (t : List ℕ). lones (begun t cuts)) own_text.text_is)
 
   abbrev passed : Before → Bool → List Written
   passed before spaced = writtens (Token (name_seen before spaced) ∷ opener ∷ list)
@@ -231,7 +233,7 @@ module _ (source : Source) (was : WasRead source) {i k : ℕ} {parts : List Part
       (sym (one.sort_is ∙ told.sort_is))
       (subst
       (λ (l : List Written). Value mode white false (written sorts.Special white terminals.Special ∷ direct sorts.OpenParen terminals.RawParen ∷ l))
-      (sym (writtens_append it.list tail)) (special blank (it.special false false)))
+      (sym (writtens_append it.joints tail)) (special blank (it.special false)))
 
   stands : (before : Before) (spaced : Bool) → is_calm (behind_gap before (gap_of spaced)) ≡ true → (stack : List Inside)
       (after : List ℕ) → is_sheet_code (innermost stack) ≡ true
@@ -246,13 +248,13 @@ module _ (source : Source) (was : WasRead source) {i k : ℕ} {parts : List Part
             (mild_settled own (joints.text (opener ∷ list) ++ after) (ap (name_ends own) (first_byte (sign "(") _) ∙ told.ends))
             (innermost stack) code (behind_gap before (gap_of spaced)) calm,
         subst (λ (x : Before). Stand stack x (opener ∷ list) stack after) (sym part.other)
-            (open_closed source was [] terminals.RawParen stack list after code refl
-            (stand_append stack stack stack befores.Other it.list tail after
+            (lone_stand (sign "(") open_paren [] terminals.RawParen stack list after code refl
+            (stand_append stack stack stack befores.Other it.joints tail after
             (it.stand stack (joints.text tail ++ after) code
             (ap (λ (xs : List ℕ). byte xs 0) (append_assoc end_gap (codes ")") after)
             ∙ front_same end_gap _ _ (first_byte (sign ")") _ ∙ sym (first_byte (sign ")") _))))
             (subst (λ (x : Before). Stand stack x tail stack after) (sym it.last)
-            (shut_closed source was end_gap terminals.RawParenEnd stack [] after code (white_there source was k told.last) refl)))),
+            (lone_stand (sign ")") close_paren end_gap terminals.RawParenEnd stack [] after code (calm_told source k told.last).white refl)))),
       )
 
   pub function_written : (span : Span)
@@ -262,18 +264,18 @@ module _ (source : Source) (was : WasRead source) {i k : ℕ} {parts : List Part
     passed = passed before spaced;
     segment = record {
       joints = Token (name_seen before spaced) ∷ opener ∷ list;
-      spelling = ap (λ (t : List ℕ). gap_of spaced ++ (own ++ (codes "(" ++ t))) (text_append it.list tail ∙ it.spelling (end_gap ++ codes ")"))
+      spelling = ap (λ (t : List ℕ). gap_of spaced ++ (own ++ (codes "(" ++ t))) (text_append it.joints tail ∙ it.spelling (end_gap ++ codes ")"))
           ∙ ap (λ (t : List ℕ). gap_of spaced ++ t) (sym (text_is span));
       seen = ap (λ (l : List Tok). tok terminals.Special said ∷ again.sign terminals.RawParen ∷ l)
-          (toks_append it.list tail ∙ ap (λ (l : List Tok). l ++ again.sign terminals.RawParenEnd ∷ []) it.seen);
+          (toks_append it.joints tail ∙ ap (λ (l : List Tok). l ++ again.sign terminals.RawParenEnd ∷ []) it.seen);
       written = refl;
       last = ap (λ (x : Before). joints.behind x (opener ∷ list)) one.part.other
-          ∙ behind_append befores.Other it.list tail ∙ ap (λ (x : Before). joints.behind x tail) it.last;
+          ∙ behind_append befores.Other it.joints tail ∙ ap (λ (x : Before). joints.behind x tail) it.last;
       tells = (
         λ new commented at front after sit. says before spaced new commented at front after sit,
         (
           λ new commented at front after sit. tt,
-          tell_append it.list tail it.tells (λ new commented at front after sit. tt, tt),
+          tell_append it.joints tail it.tells (λ new commented at front after sit. tt, tt),
         ),
       );
       stand = λ stack after code f. stands before spaced calm stack after code;
@@ -282,5 +284,5 @@ module _ (source : Source) (was : WasRead source) {i k : ℕ} {parts : List Part
   }
 
 pub specials_written : SpecialsAreWritten
-specials_written source i k span parts tokens extents was name inner known =
-    function_written source was name inner (told_of source name inner known) span
+specials_written source i k span parts tokens extents was name inner known has =
+    function_written source was name inner (told_of source name inner known) has span

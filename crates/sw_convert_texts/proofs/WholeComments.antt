@@ -1,11 +1,11 @@
 -- A loud comment without values that was read: its text stands between `/*` and `*/`, and neither ends it nor begins a value.
-use Rattle.std.proofs.Common.{◌≡◌, ◌≤◌, ◌<◌, ℕ, zero, suc, ◌+◌, ◌-◌, Bool, true, false, not, ◌&&◌, ◌||◌, if◌then◌else◌, nat_lt, List, [], ◌∷◌, ◌++◌, length, take, drop, Option, Some, None, Result, Ok, Err, refl, sym, ◌∙◌, ap, subst, arith, length-append, take-add, append_assoc}
-use Rattle.std.specs.Prelude.{◌==◌, slice_get, unwrap_or, codes}
+use Rattle.std.proofs.Common.{◌≡◌, ◌<◌, ℕ, zero, suc, ◌+◌, ◌-◌, Bool, true, false, not, if◌then◌else◌, nat_lt, List, [], ◌∷◌, ◌++◌, length, take, drop, Option, Some, None, Result, Ok, Err, refl, sym, ◌∙◌, ap, subst, arith, take-add}
+use Rattle.std.specs.Prelude.{◌==◌, slice_get, codes}
 use Rattle.std.proofs.Math.Seq.{take-append_seam}
 use Rattle.sw_text.specs.Places.{mark_length}
 use Rattle.sw_text_scan.specs.declared.signs.TheConstants.{END}
 use Rattle.sw_text_scan.specs.declared.runs.Class.TheVariants as classes
-use Rattle.sw_text_scan.specs.Bytes.{sign, byte, opens_at, begins_loud, ends_loud}
+use Rattle.sw_text_scan.specs.Bytes.{sign, byte, begins_loud, ends_loud}
 use Rattle.sw_text_scan.specs.Runs.{next, run_end}
 use Rattle.sw_text_scan.proofs.Bounds.{if_true, if_false, and_left, and_right, or_right, run_step, run_stop}
 use Rattle.sw_text_locality.proofs.Lexical.{equal}
@@ -15,12 +15,11 @@ use Rattle.sw_tokens.specs.declared.pieces.Change.{Change}
 use Rattle.sw_tokens.specs.declared.pieces.Change.TheVariants as changes
 use Rattle.sw_tokens.specs.declared.pieces.Piece.{Piece}
 use Rattle.sw_tokens.specs.declared.scan.Opened.{Opened}
-use Rattle.sw_tokens.specs.declared.skips.Inside.{Inside}
 use Rattle.sw_tokens.specs.declared.token.Syntax.TheVariants as syntaxes
 use Rattle.sw_tokens.specs.declared.token.Token.{Token}
 use Rattle.sw_tokens.specs.declared.token.TokenKind.{TokenKind}
 use Rattle.sw_tokens.specs.declared.token.TokenKind.TheVariants as kinds
-use Rattle.sw_tokens.specs.Ends.{opens, reaching, reached, tokens_by, tokens_in, tokens_of}
+use Rattle.sw_tokens.specs.Ends.{opens, reached, tokens_by, tokens_in, tokens_of}
 use Rattle.sw_tokens.specs.Pieces.{piece}
 use Rattle.sw_tokens.specs.Tokens.{inside_of, top, changed, before_of, last_start, kept_by, kept, behind, finished, walk, rest, pieces_of}
 use Rattle.sw_parse_grammar.specs.Grammar.{member}
@@ -49,7 +48,7 @@ use Rattle.sw_convert_texts.specs.Comments.{ends_at, is_comment_text}
 use Rattle.sw_convert_texts.proofs.CommentPieces.{is_css, pushes_css, is_loud, Loud, Good, GoodIn, piece_good}
 use Rattle.sw_convert_texts.proofs.CommentTokens.{ends_there}
 use Rattle.sw_convert_texts.proofs.LexemePairs.{plains_in, comes_at}
-use Rattle.sw_convert_texts.proofs.OldPieces.{old_piece, Whole, whole_bytes}
+use Rattle.sw_convert_texts.proofs.OldPieces.{old_piece, whole_bytes}
 use Rattle.sw_convert_texts.specs.RawKinds.{is_at}
 use Rattle.sw_convert_texts.proofs.TerminalChoices.{comes, is_whole_comment}
 use Rattle.sw_convert_texts.proofs.TokenPairs.{at_yes}

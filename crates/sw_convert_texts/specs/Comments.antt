@@ -1,5 +1,5 @@
 -- Loud comments that were read: what is written of them is their tokens.
-use Rattle.std.specs.Prelude.{◌≡◌, ℕ, suc, ◌-◌, Bool, true, false, not, ◌&&◌, ◌||◌, ◌==◌, List, [], ◌∷◌, ◌++◌, bytes_eq, codes}
+use Rattle.std.specs.Prelude.{◌≡◌, ℕ, suc, ◌-◌, Bool, true, false, not, ◌&&◌, ◌||◌, ◌==◌, List, [], ◌∷◌, bytes_eq, codes}
 use Rattle.sw_text_scan.specs.declared.signs.TheConstants.{END}
 use Rattle.sw_text_scan.specs.Bytes.{sign, byte}
 use Rattle.sw_tree.specs.declared.text.Text.{Text}

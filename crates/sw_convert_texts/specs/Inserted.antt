@@ -11,6 +11,7 @@ use Rattle.sw_convert_again.specs.Spells as spells
 use Rattle.sw_convert_again.specs.RawTexts.{SpellsRawItem, SpellsRawText, raw_token, raw_insert, raw_brackets, raw_end, raw_more}
 use Rattle.sw_convert_again.specs.Statements.{SpellsName, SpellsAtName, name_row, at_word, at_insert, at_minus}
 use Rattle.sw_convert_tokens.specs.Written.{AsRow, WrittenAs}
+use Rattle.sw_convert_texts.specs.InText.{InText, is_digits, value_fits}
 
 -- in what a word, a name or a url goes on with
 abbrev pub RowHasValues : {source : Source} {part opening : Terminal} {extra i j count : ℕ} {inserts : List Part}
@@ -61,7 +62,8 @@ abbrev mutual
   ItemHasValues (spells.item_token old) = Unit {0}
   ItemHasValues (spells.item_insert {value = value} {tokens = tokens} opens inner close) =
       WrittenAs AsRow (expr_text value) tokens
-  ItemHasValues (spells.item_value {value = value} {tokens = tokens} inner) = WrittenAs AsRow (expr_text value) tokens
+  ItemHasValues (spells.item_value {value = value} {tokens = tokens} inner) =
+      WrittenAs (InText (is_digits inner) (value_fits inner)) (expr_text value) tokens
   ItemHasValues (spells.item_parens opens text close) = TextHasValues text
   ItemHasValues (spells.item_brackets opens text close) = TextHasValues text
 

@@ -1,4 +1,5 @@
 pub mod Adjoining
+pub mod InText
 pub mod Inserted
 pub mod Names
 pub mod RawTexts

@@ -68,8 +68,8 @@ pub fn comments_are_written()
     ensures { CommentsAreWritten }
 {}
 
-/// A law: what is written of a special function in whose parentheses names, commas and further parentheses stand is its
-/// tokens.
+/// A law: what is written of a special function in whose parentheses names, commas, operators, strings, values and further
+/// brackets stand is its tokens, where this is so of the values in it.
 pub fn specials_are_written()
     ensures { SpecialsAreWritten }
 {}

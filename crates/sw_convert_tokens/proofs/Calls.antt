@@ -12,6 +12,7 @@ use Rattle.sw_tokens.specs.Tokens.{is_spaced}
 use Rattle.sw_parse_terminals.specs.declared.terminal.Terminal.{Terminal}
 use Rattle.sw_parse_terminals.specs.declared.terminal.Terminal.TheVariants as terminals
 use Rattle.sw_parse_terminals.specs.Numbers.{just}
+use Rattle.sw_parse_lexemes.specs.declared.sort.Sort.{Sort}
 use Rattle.sw_parse_lexemes.specs.declared.sort.Sort.TheVariants as sorts
 use Rattle.sw_parse_lexemes.specs.declared.state.Mode.{Mode}
 use Rattle.sw_parse_lexemes.specs.Classes.{is_name, is_reserved}
@@ -33,14 +34,14 @@ use Rattle.sw_convert_written.specs.Pieces.{pieces_text}
 use Rattle.sw_convert_written.specs.Expressions.{is_url, ends_in_url, space_text, with_commas, call_text, parts_written, expr_text, of_argument, argument_text}
 use Rattle.sw_convert_written.proofs.Unrolled as unrolled
 use Rattle.sw_convert_passing.specs.Kinds.{ends_bound}
-use Rattle.sw_convert_passing.specs.Written.{Written, direct}
-use Rattle.sw_convert_passing.specs.Values.{Word, call, owned_call, named, no_part}
+use Rattle.sw_convert_passing.specs.Written.{Written, written, direct}
+use Rattle.sw_convert_passing.specs.Values.{Word, Call, call, owned_call, named, no_part}
 use Rattle.sw_convert_again.specs.Tokens.{Tok, tok, Bytes, Old}
 use Rattle.sw_convert_again.specs.Tokens as again
 use Rattle.sw_convert_again.specs.Spells.{from_start, call_tokens}
 use Rattle.sw_convert_again.proofs.Tokens.{one_byte}
 use Rattle.sw_convert_tokens.specs.Joints.{Segment}
-use Rattle.sw_convert_tokens.specs.Written.{is_calm, gap_of, is_bounded, AsValue, WrittenAs}
+use Rattle.sw_convert_tokens.specs.Written.{is_calm, gap_of, is_bounded, Shape, AsValue, WrittenAs}
 use Rattle.sw_convert_tokens.specs.Values.{WasRead}
 use Rattle.sw_convert_tokens.specs.Calls.{is_unspecial}
 use Rattle.sw_convert_tokens.proofs.Joins.{join, as_text, as_behind}
@@ -56,17 +57,35 @@ use Rattle.sw_convert_tokens.proofs.Variables.{only_owner, Begins, dot_parts}
 
 -- ---- names of calls
 
--- the name of a call, behind a namespace or not, where its `(` stands behind it
-pub record IsCallee (owned : Bool) (text : List ℕ) (tokens : List Tok) (before : Before) (spaced : Bool) : Type 0 where
+-- the name of a call as it is to be told, where its `(` stands behind it
+pub record IsCallee (shape : Shape) (text : List ℕ) (tokens : List Tok) (before : Before) (spaced : Bool) : Type 0 where
   pub passed : List Written
   pub segment : Segment before (gap_of spaced ++ text) tokens passed befores.Other (Begins (sign "("))
-  pub told : (mode : Mode) → is_bounded mode ≡ false
-      → Word mode (is_spaced (behind_gap before (gap_of spaced))) owned true passed
+  pub told : (mode : Mode) → is_bounded mode ≡ false → shape mode (is_spaced (behind_gap before (gap_of spaced))) passed
+
+abbrev pub CalleeAs : Shape → List ℕ → List Tok → Type 0
+CalleeAs shape text tokens =
+    (before : Before) (spaced : Bool) → is_calm (behind_gap before (gap_of spaced)) ≡ true
+    → IsCallee shape text tokens before spaced
+
+-- a word, behind a namespace or not
+abbrev pub AsCallee : Bool → Shape
+AsCallee owned mode spaced passed = Word mode spaced owned true passed
 
 abbrev pub Callee : Bool → List ℕ → List Tok → Type 0
-Callee owned text tokens =
-    (before : Before) (spaced : Bool) → is_calm (behind_gap before (gap_of spaced)) ≡ true
-    → IsCallee owned text tokens before spaced
+Callee owned text tokens = CalleeAs (AsCallee owned) text tokens
+
+-- what a call with a name told so is to be told as, by itself and behind a namespace
+abbrev pub Calling : Shape → Shape → Type 0
+Calling callee shape =
+    (mode : Mode) (spaced : Bool) (name args : List Written) → callee mode spaced name → Call args
+    → shape mode spaced (name ++ args)
+
+abbrev pub OwnedCalling : Shape → Shape → Type 0
+OwnedCalling callee shape =
+    (mode : Mode) (spaced : Bool) (owner : Sort) (name args : List Written) → is_name owner ≡ true
+    → callee mode false name → Call args
+    → shape mode spaced (written owner spaced terminals.Owner ∷ direct sorts.Dot terminals.OwnerDot ∷ (name ++ args))
 
 -- a `.` may stand before it
 abbrev pub Dotted : List ℕ → Type 0
@@ -87,23 +106,30 @@ called {text} {args} name it =
     (λ after f. (after, refl))) (λ after f. tt))
     (λ after f. ((args ++ codes ")") ++ after, refl))
 
-pub call_written : {text args : List ℕ} {tokens others : List Tok} → Callee false text tokens → IsItems args others
-    → WrittenAs (AsValue false) (text ++ (codes "(" ++ (args ++ codes ")"))) (tokens ++ call_tokens others)
-call_written {text} {args} name it before spaced calm =
+pub call_as : {callee shape : Shape} → Calling callee shape → {text args : List ℕ} {tokens others : List Tok}
+    → CalleeAs callee text tokens → IsItems args others
+    → WrittenAs shape (text ++ (codes "(" ++ (args ++ codes ")"))) (tokens ++ call_tokens others)
+call_as says {text} {args} name it before spaced calm =
     let first = name before spaced calm in record {
       passed = _;
       segment = as_behind (λ after f. tt)
           (as_text (append_assoc (gap_of spaced) text (codes "(" ++ (args ++ codes ")"))) (called first.segment it));
-      told = λ mode free. call (first.told mode free) it.told;
+      told = λ mode free.
+          says mode (is_spaced (behind_gap before (gap_of spaced))) first.passed _ (first.told mode free) it.told;
     }
 
+pub call_written : {text args : List ℕ} {tokens others : List Tok} → Callee false text tokens → IsItems args others
+    → WrittenAs (AsValue false) (text ++ (codes "(" ++ (args ++ codes ")"))) (tokens ++ call_tokens others)
+call_written name it = call_as (λ mode spaced word args w c. call w c) name it
+
 -- the same behind a namespace
-pub owned_call_written : (source : Source) (i : ℕ) → WasRead source → Old source i (just terminals.Owner)
-    → {text args : List ℕ} {tokens others : List Tok} → Callee true text tokens → Dotted text → IsItems args others
-    → WrittenAs (AsValue false) (((bytes_at source i ++ codes ".") ++ text) ++ (codes "(" ++ (args ++ codes ")")))
+pub owned_call_as : {callee shape : Shape} → OwnedCalling callee shape → (source : Source) (i : ℕ) → WasRead source
+    → Old source i (just terminals.Owner) → {text args : List ℕ} {tokens others : List Tok} → CalleeAs callee text tokens
+    → Dotted text → IsItems args others
+    → WrittenAs shape (((bytes_at source i ++ codes ".") ++ text) ++ (codes "(" ++ (args ++ codes ")")))
     (tok terminals.Owner (Bytes 1 (bytes_at source i)) ∷ again.sign terminals.OwnerDot ∷ (tokens ++ call_tokens others))
 unfolding byte
-owned_call_written source i was owner {text} {args} {tokens} name dotted args_written before spaced calm =
+owned_call_as says source i was owner {text} {args} {tokens} name dotted args_written before spaced calm =
     let it = old_token source was i owner.lexeme owner.there in
     let sort = sort_of it.kind it.text in
     let n : is_name sort ≡ true =
@@ -132,8 +158,16 @@ owned_call_written source i was owner {text} {args} {tokens} name dotted args_wr
             append_assoc text (codes "(" ++ (args ++ codes ")")) after,
           )))
           (λ after f. ((text ++ (codes "(" ++ (args ++ codes ")"))) ++ after, refl))));
-      told = λ mode b. owned_call sort n (callee.told mode b) args_written.told;
+      told = λ mode b.
+          says mode (is_spaced (behind_gap before (gap_of spaced))) sort callee.passed _ n (callee.told mode b) args_written.told;
     }
+
+pub owned_call_written : (source : Source) (i : ℕ) → WasRead source → Old source i (just terminals.Owner)
+    → {text args : List ℕ} {tokens others : List Tok} → Callee true text tokens → Dotted text → IsItems args others
+    → WrittenAs (AsValue false) (((bytes_at source i ++ codes ".") ++ text) ++ (codes "(" ++ (args ++ codes ")")))
+    (tok terminals.Owner (Bytes 1 (bytes_at source i)) ∷ again.sign terminals.OwnerDot ∷ (tokens ++ call_tokens others))
+owned_call_written source i was owner name dotted it =
+    owned_call_as (λ mode spaced owner word args n w c. owned_call owner n w c) source i was owner name dotted it
 
 -- ---- names that were read
 
@@ -158,18 +192,16 @@ dot_fits bs start =
     ap (λ (x : Bool). not (x || false) && true)
     (names.neither (is_digit (byte bs 0)) _ start.digit (names.left_no (byte bs 0 == sign ".") _ start.dot))
 
--- a name whose sort is neither a constant nor an operator
-pub name_called : (source : Source) (i : ℕ) (old : Old source i (just terminals.Word))
-    (it : OldToken source i old.lexeme) (owned : Bool) → is_reserved (sort_of it.kind it.text) ≡ false
-    → is_unspecial owned (bytes_at source i) ≡ true → is_url (bytes_at source i) ≡ false
-    → Callee owned (bytes_at source i) (tok terminals.Word (from_start source i [] 1) ∷ [])
-name_called source i old it owned reserved free no_url before spaced calm =
-    let sort = sort_of it.kind it.text in
-    let n : is_name sort ≡ true =
-    ap (λ (t : Terminal). fits t sort) (sym (only_word old.lexeme.terminal old.kind)) ∙ it.fit in
-    let k = kind_of_name it.kind it.text n in
+-- a name before its `(`, told by its sort
+pub name_called_as : {shape : Shape} (source : Source) (i : ℕ) (old : Old source i (just terminals.Word))
+    (it : OldToken source i old.lexeme) → is_url (bytes_at source i) ≡ false
+    → ((mode : Mode) (spaced : Bool) → is_bounded mode ≡ false → is_name (sort_of it.kind it.text) ≡ true
+    → shape mode spaced (written (sort_of it.kind it.text) spaced terminals.Word ∷ []))
+    → CalleeAs shape (bytes_at source i) (tok terminals.Word (from_start source i [] 1) ∷ [])
+name_called_as source i old it no_url says before spaced calm =
+    let n : is_name (sort_of it.kind it.text) ≡ true =
+    ap (λ (t : Terminal). fits t (sort_of it.kind it.text)) (sym (only_word old.lexeme.terminal old.kind)) ∙ it.fit in
     let bytes_are = copied_bytes source i old.lexeme it n in
-    let unspecial = special_sort owned it.kind it.text k (ap (is_unspecial owned) (sym bytes_are) ∙ free) in
     let url = ap is_url (sym bytes_are) ∙ no_url in record {
       passed = _;
       segment = as_text (ap (λ (t : List ℕ). gap_of spaced ++ t) (sym bytes_are))
@@ -177,11 +209,24 @@ name_called source i old it owned reserved free no_url before spaced calm =
           (Begins (sign "("))
           (λ after b. subst (Behind it.text) (sym b.1) (paren_behind it.text b.0 url))
           (λ new at same. said_is new at ∙ ap (λ (t : List ℕ). record { first = t; rest = [] }) same ∙ sym (said_is source i)));
-      told = λ mode b. named sort n
-          (names.both (not (is_reserved sort)) _ (ap not reserved)
-          (names.both (not (ends_bound mode sort)) _ (ap not (unbounded mode sort b))
-          unspecial)) no_part;
+      told = λ mode b. says mode (is_spaced (behind_gap before (gap_of spaced))) b n;
     }
+
+-- a name whose sort is neither a constant nor an operator
+pub name_called : (source : Source) (i : ℕ) (old : Old source i (just terminals.Word))
+    (it : OldToken source i old.lexeme) (owned : Bool) → is_reserved (sort_of it.kind it.text) ≡ false
+    → is_unspecial owned (bytes_at source i) ≡ true → is_url (bytes_at source i) ≡ false
+    → Callee owned (bytes_at source i) (tok terminals.Word (from_start source i [] 1) ∷ [])
+name_called source i old it owned reserved free no_url =
+    name_called_as source i old it no_url
+    (λ mode spaced b n.
+    let sort = sort_of it.kind it.text in
+    let bytes_are = copied_bytes source i old.lexeme it n in
+    let unspecial = special_sort owned it.kind it.text (kind_of_name it.kind it.text n)
+    (ap (is_unspecial owned) (sym bytes_are) ∙ free) in
+    named sort n
+    (names.both (not (is_reserved sort)) _ (ap not reserved)
+    (names.both (not (ends_bound mode sort)) _ (ap not (unbounded mode sort b)) unspecial)) no_part)
 
 pub name_dotted : (source : Source) (i : ℕ) → WasRead source → Old source i (just terminals.Word)
     → Dotted (bytes_at source i)

@@ -21,6 +21,10 @@ use Rattle.sw_tokens.specs.declared.token.TokenKind.TheVariants as kinds
 use Rattle.sw_tokens.specs.Pieces.{made, piece, number_kind, number_piece, after_hash, is_hex_form, in_interpolation, word_piece, code_piece}
 use Rattle.sw_tokens.specs.Tokens.{is_spaced}
 use Rattle.sw_parse_terminals.specs.declared.terminal.Terminal.TheVariants as terminals
+use Rattle.sw_parse_lexemes.specs.declared.sort.Sort.{Sort}
+use Rattle.sw_parse_lexemes.specs.declared.sort.Sort.TheVariants as sorts
+use Rattle.sw_parse_lexemes.specs.declared.state.Mode.{Mode}
+use Rattle.sw_parse_lexemes.specs.Classes.{is_number}
 use Rattle.sw_parse_lexemes.specs.Sorts.{sort_of}
 use Rattle.sw_parse_table.specs.Sources.{bytes_between}
 use Rattle.sw_convert_spelling.specs.Spelt.{is_sheet_code, behind_gap}
@@ -29,12 +33,11 @@ use Rattle.sw_convert_spelling.proofs.MovedRuns as moved
 use Rattle.sw_convert_spelling.proofs.Choices.{left_no, both, neither}
 use Rattle.sw_convert_written.specs.Escapes.{ends_unclosed}
 use Rattle.sw_convert_passing.specs.Written.{written, direct}
-use Rattle.sw_convert_passing.specs.Values.{number, negative, positive}
 use Rattle.sw_convert_again.specs.Tokens.{Bytes, tok}
 use Rattle.sw_convert_again.specs.Tokens as again
 use Rattle.sw_convert_again.proofs.Tokens.{one_byte}
 use Rattle.sw_convert_tokens.specs.Joints.{Segment}
-use Rattle.sw_convert_tokens.specs.Written.{Follows, begins_white, stops, gap_of, AsValue, WrittenAs}
+use Rattle.sw_convert_tokens.specs.Written.{Follows, begins_white, stops, gap_of, Shape, WrittenAs}
 use Rattle.sw_convert_tokens.proofs.Stops.{Dark, stopped}
 use Rattle.sw_convert_tokens.proofs.Unclosed.{follows_end, Ends}
 use Rattle.sw_convert_tokens.proofs.Signs.{Fits, token_segment, sign_token}
@@ -50,6 +53,17 @@ is_counted text =
     begins_number text 0
     && ((unit_end text (unit_start text 0) == length text)
     && list_all (λ b. not (b == sign "\\")) (take (unit_start text 0) text))
+
+-- what a number is to be told as, by itself and behind its sign
+abbrev pub Numbered : Shape → Type 0
+Numbered shape =
+    (mode : Mode) (spaced : Bool) (sort : Sort) → is_number sort ≡ true
+    → shape mode spaced (written sort spaced terminals.Number ∷ [])
+
+abbrev pub Signed : Sort → Shape → Type 0
+Signed own shape =
+    (mode : Mode) (spaced : Bool) (sort : Sort) → is_number sort ≡ true
+    → shape mode spaced (written own spaced terminals.Sign ∷ direct sort terminals.Number ∷ [])
 
 -- the same behind a `-`
 abbrev pub is_minus_counted : List ℕ → Bool
@@ -346,8 +360,8 @@ module _ (w : List ℕ) (counts : is_counted w ≡ true) where
       no_dash : (b : ℕ) → (is_digit b || (b == sign ".")) ≡ true → (b == sign "-") ≡ false
       no_dash b e = grind (arith, nat_tests)
 
-  pub number_stays : WrittenAs (AsValue false) w (tok terminals.Number (Bytes 1 w) ∷ [])
-  number_stays before spaced calm = record {
+  pub number_stays : {shape : Shape} → Numbered shape → WrittenAs shape w (tok terminals.Number (Bytes 1 w) ∷ [])
+  number_stays says before spaced calm = record {
     passed = _;
     segment = subst
         (λ (end : Before). Segment before (gap_of spaced ++ w) (tok terminals.Number (Bytes 1 w) ∷ []) (written (sort_of kind w) (is_spaced (behind_gap before (gap_of spaced))) terminals.Number ∷ []) end (Follows w))
@@ -358,13 +372,13 @@ module _ (w : List ℕ) (counts : is_counted w ≡ true) where
         (λ inside after code f.
         counted_token after f.stop (unit_closed after f) inside (behind_gap before (gap_of spaced)) code
         (calm_hash (behind_gap before (gap_of spaced)) calm)));
-    told = λ mode free. number (sort_of kind w) (numeric_sort kind w numeric);
+    told = λ mode free. says mode (is_spaced (behind_gap before (gap_of spaced))) (sort_of kind w) (numeric_sort kind w numeric);
   }
 
-  signed_stays : WrittenAs (AsValue false) (codes "-" ++ w)
-      (tok terminals.Sign (Bytes 2 (codes "-" ++ w)) ∷ again.sign terminals.Number ∷ [])
+  signed_stays : {shape : Shape} → Signed sorts.Minus shape
+      → WrittenAs shape (codes "-" ++ w) (tok terminals.Sign (Bytes 2 (codes "-" ++ w)) ∷ again.sign terminals.Number ∷ [])
   unfolding byte
-  signed_stays before spaced calm =
+  signed_stays says before spaced calm =
       let text = codes "-" ++ w in record {
         passed = _;
         segment = subst
@@ -378,13 +392,13 @@ module _ (w : List ℕ) (counts : is_counted w ≡ true) where
             (λ inside after code f.
             let g = follows_end [] w (sign "-") minus_ends after f in
             counted_token after g.stop (unit_closed after g) inside befores.Other code refl));
-        told = λ mode free. negative (sort_of kind w) (numeric_sort kind w numeric);
+        told = λ mode free. says mode (is_spaced (behind_gap before (gap_of spaced))) (sort_of kind w) (numeric_sort kind w numeric);
       }
 
-  positive_stays : WrittenAs (AsValue true) (codes "+" ++ w)
-      (tok terminals.Sign (Bytes 2 (codes "+" ++ w)) ∷ again.sign terminals.Number ∷ [])
+  positive_stays : {shape : Shape} → Signed sorts.Plus shape
+      → WrittenAs shape (codes "+" ++ w) (tok terminals.Sign (Bytes 2 (codes "+" ++ w)) ∷ again.sign terminals.Number ∷ [])
   unfolding byte
-  positive_stays before spaced calm =
+  positive_stays says before spaced calm =
       let text = codes "+" ++ w in record {
         passed = _;
         segment = subst
@@ -398,27 +412,27 @@ module _ (w : List ℕ) (counts : is_counted w ≡ true) where
             (λ inside after code f.
             let g = follows_end [] w (sign "+") plus_ends after f in
             counted_token after g.stop (unit_closed after g) inside befores.Other code refl));
-        told = λ mode free. positive (sort_of kind w) (numeric_sort kind w numeric);
+        told = λ mode free. says mode (is_spaced (behind_gap before (gap_of spaced))) (sort_of kind w) (numeric_sort kind w numeric);
       }
 
-pub minus_stays : (text : List ℕ) → is_minus_counted text ≡ true
-    → WrittenAs (AsValue false) text (tok terminals.Sign (Bytes 2 text) ∷ again.sign terminals.Number ∷ [])
-minus_stays [] e = absurd (cc)
-minus_stays (b ∷ w) e =
+pub minus_stays : {shape : Shape} → Signed sorts.Minus shape → (text : List ℕ) → is_minus_counted text ≡ true
+    → WrittenAs shape text (tok terminals.Sign (Bytes 2 text) ∷ again.sign terminals.Number ∷ [])
+minus_stays says [] e = absurd (cc)
+minus_stays {shape} says (b ∷ w) e =
     subst
-    (λ (x : ℕ). WrittenAs (AsValue false) (x ∷ w) (tok terminals.Sign (Bytes 2 (x ∷ w)) ∷ again.sign terminals.Number ∷ []))
-    (is_minus b (and_left (b == sign "-") _ e)) (signed_stays w (and_right (b == sign "-") _ e))
+    (λ (x : ℕ). WrittenAs shape (x ∷ w) (tok terminals.Sign (Bytes 2 (x ∷ w)) ∷ again.sign terminals.Number ∷ []))
+    (is_minus b (and_left (b == sign "-") _ e)) (signed_stays w (and_right (b == sign "-") _ e) says)
   where
     is_minus : (c : ℕ) → (c == sign "-") ≡ true → sign "-" ≡ c
     is_minus c f = grind (arith, nat_tests)
 
-pub plus_stays : (text : List ℕ) → is_plus_counted text ≡ true
-    → WrittenAs (AsValue true) text (tok terminals.Sign (Bytes 2 text) ∷ again.sign terminals.Number ∷ [])
-plus_stays [] e = absurd (cc)
-plus_stays (b ∷ w) e =
+pub plus_stays : {shape : Shape} → Signed sorts.Plus shape → (text : List ℕ) → is_plus_counted text ≡ true
+    → WrittenAs shape text (tok terminals.Sign (Bytes 2 text) ∷ again.sign terminals.Number ∷ [])
+plus_stays says [] e = absurd (cc)
+plus_stays {shape} says (b ∷ w) e =
     subst
-    (λ (x : ℕ). WrittenAs (AsValue true) (x ∷ w) (tok terminals.Sign (Bytes 2 (x ∷ w)) ∷ again.sign terminals.Number ∷ []))
-    (is_plus b (and_left (b == sign "+") _ e)) (positive_stays w (and_right (b == sign "+") _ e))
+    (λ (x : ℕ). WrittenAs shape (x ∷ w) (tok terminals.Sign (Bytes 2 (x ∷ w)) ∷ again.sign terminals.Number ∷ []))
+    (is_plus b (and_left (b == sign "+") _ e)) (positive_stays w (and_right (b == sign "+") _ e) says)
   where
     is_plus : (c : ℕ) → (c == sign "+") ≡ true → sign "+" ≡ c
     is_plus c f = grind (arith, nat_tests)

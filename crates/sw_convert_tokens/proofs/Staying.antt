@@ -1,5 +1,5 @@
 -- Numbers that were read and stay as they stood.
-use Rattle.std.proofs.Common.{◌≡◌, ◌⊎◌, ℕ, suc, ◌+◌, true, false, not, ◌&&◌, List, [], ◌∷◌, ◌++◌, length, append-nil, inl, inr, refl, sym, ◌∙◌, ap, subst, arith, length-append}
+use Rattle.std.proofs.Common.{◌≡◌, ◌⊎◌, ℕ, suc, ◌+◌, true, not, ◌&&◌, List, [], ◌∷◌, ◌++◌, length, append-nil, inl, inr, refl, sym, ◌∙◌, ap, subst, arith, length-append}
 use Rattle.std.specs.Prelude.{◌==◌, codes}
 use Rattle.std.proofs.lemmas.Bool.Decides.{nat_tests}
 use Rattle.sw_text_scan.specs.Bytes.{sign, byte, is_digit}
@@ -8,6 +8,7 @@ use Rattle.sw_text_scan.proofs.Bounds.{and_right}
 use Rattle.sw_parse_terminals.specs.declared.terminal.Terminal.{Terminal}
 use Rattle.sw_parse_terminals.specs.declared.terminal.Terminal.TheVariants as terminals
 use Rattle.sw_parse_terminals.specs.Numbers.{just}
+use Rattle.sw_parse_lexemes.specs.declared.sort.Sort.TheVariants as sorts
 use Rattle.sw_parse_lexemes.specs.Sorts.{sort_of}
 use Rattle.sw_parse_table.specs.declared.source.Source.{Source}
 use Rattle.sw_parse_table.specs.Sources.{bytes_at, bytes_between}
@@ -16,8 +17,8 @@ use Rattle.sw_convert_spelling.proofs.Choices.{both}
 use Rattle.sw_convert_again.specs.Tokens.{Bytes, tok, Old}
 use Rattle.sw_convert_again.specs.Tokens as again
 use Rattle.sw_convert_tokens.specs.Values.{WasRead}
-use Rattle.sw_convert_tokens.specs.Written.{AsValue, WrittenAs}
-use Rattle.sw_convert_tokens.proofs.Counted.{is_counted, is_minus_counted, is_plus_counted, number_stays, minus_stays, plus_stays}
+use Rattle.sw_convert_tokens.specs.Written.{Shape, WrittenAs}
+use Rattle.sw_convert_tokens.proofs.Counted.{is_counted, Numbered, Signed, is_minus_counted, is_plus_counted, number_stays, minus_stays, plus_stays}
 use Rattle.sw_convert_tokens.proofs.CountedBytes.{quiet_front, begins_alone}
 use Rattle.sw_convert_tokens.proofs.NumberEnds.{unit_ends}
 use Rattle.sw_convert_tokens.proofs.NumberPieces.{number_in, OldUnit, old_unit}
@@ -65,11 +66,11 @@ module _ (source : Source) (was : WasRead source) where
       (both (unit_end it.text (unit_start it.text 0) == length it.text) _
       (same_is _ _ (unit_alone it.text (old_unit it.text own.after here.ends))) (quiet_front it.text)))
 
-  pub number_kept : (i : ℕ) → Old source i (just terminals.Number)
-      → WrittenAs (AsValue false) (bytes_between source i (suc i)) (tok terminals.Number (Bytes 1 (bytes_between source i (suc i))) ∷ [])
-  number_kept i old =
+  pub number_kept : {shape : Shape} → Numbered shape → (i : ℕ) → Old source i (just terminals.Number)
+      → WrittenAs shape (bytes_between source i (suc i)) (tok terminals.Number (Bytes 1 (bytes_between source i (suc i))) ∷ [])
+  number_kept says i old =
       number_stays (bytes_between source i (suc i))
-      (subst (λ (t : List ℕ). is_counted t ≡ true) (sym (own_bytes source i)) (old_counted i old))
+      (subst (λ (t : List ℕ). is_counted t ≡ true) (sym (own_bytes source i)) (old_counted i old)) says
 
   -- its sign
   pub sign_bytes : (i : ℕ) → Old source i (just terminals.Sign)
@@ -84,22 +85,22 @@ module _ (source : Source) (was : WasRead source) where
       go it (inl e) = inl (it.is ∙ ap (λ (b : ℕ). b ∷ []) e)
       go it (inr e) = inr (it.is ∙ ap (λ (b : ℕ). b ∷ []) e)
 
-  pub minus_kept : (i : ℕ) → Old source i (just terminals.Sign) → Old source (suc i) (just terminals.Number)
+  pub minus_kept : {shape : Shape} → Signed sorts.Minus shape → (i : ℕ) → Old source i (just terminals.Sign) → Old source (suc i) (just terminals.Number)
       → bytes_at source i ≡ codes "-"
-      → WrittenAs (AsValue false) (bytes_between source i (suc (suc i)))
+      → WrittenAs shape (bytes_between source i (suc (suc i)))
       (tok terminals.Sign (Bytes 2 (bytes_between source i (suc (suc i)))) ∷ again.sign terminals.Number ∷ [])
-  minus_kept i one two dash =
-      minus_stays (bytes_between source i (suc (suc i)))
+  minus_kept says i one two dash =
+      minus_stays says (bytes_between source i (suc (suc i)))
       (subst (λ (t : List ℕ). is_minus_counted t ≡ true)
       (sym (signed_bytes source was i one two ∙ ap (λ (t : List ℕ). t ++ bytes_at source (suc i)) dash))
       (old_counted (suc i) two))
 
-  pub plus_kept : (i : ℕ) → Old source i (just terminals.Sign) → Old source (suc i) (just terminals.Number)
+  pub plus_kept : {shape : Shape} → Signed sorts.Plus shape → (i : ℕ) → Old source i (just terminals.Sign) → Old source (suc i) (just terminals.Number)
       → bytes_at source i ≡ codes "+"
-      → WrittenAs (AsValue true) (bytes_between source i (suc (suc i)))
+      → WrittenAs shape (bytes_between source i (suc (suc i)))
       (tok terminals.Sign (Bytes 2 (bytes_between source i (suc (suc i)))) ∷ again.sign terminals.Number ∷ [])
-  plus_kept i one two plus =
-      plus_stays (bytes_between source i (suc (suc i)))
+  plus_kept says i one two plus =
+      plus_stays says (bytes_between source i (suc (suc i)))
       (subst (λ (t : List ℕ). is_plus_counted t ≡ true)
       (sym (signed_bytes source was i one two ∙ ap (λ (t : List ℕ). t ++ bytes_at source (suc i)) plus))
       (old_counted (suc i) two))

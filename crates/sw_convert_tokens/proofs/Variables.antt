@@ -14,6 +14,7 @@ use Rattle.sw_parse_terminals.specs.Numbers.{number_of, just}
 use Rattle.sw_parse_lexemes.specs.declared.sort.Sort.{Sort}
 use Rattle.sw_tokens.specs.Tokens.{is_spaced}
 use Rattle.sw_parse_lexemes.specs.declared.sort.Sort.TheVariants as sorts
+use Rattle.sw_parse_lexemes.specs.declared.state.Mode.{Mode}
 use Rattle.sw_parse_lexemes.specs.Classes.{is_name}
 use Rattle.sw_parse_lexemes.specs.Sorts.{sort_of}
 use Rattle.sw_parse_table.specs.declared.source.Source.{Source}
@@ -24,14 +25,15 @@ use Rattle.sw_convert_spelling.proofs.MovedRuns.{first_byte}
 use Rattle.sw_convert_written.specs.Names.{name_text, dollar_name}
 use Rattle.sw_convert_written.specs.Expressions.{qualified_text}
 use Rattle.sw_convert_written.proofs.Unrolled as unrolled
-use Rattle.sw_convert_passing.specs.Written.{direct}
-use Rattle.sw_convert_passing.specs.Values.{variable, owned_variable}
+use Rattle.sw_convert_passing.specs.Written.{written, direct}
+use Rattle.sw_convert_passing.specs.Values.{variable}
+use Rattle.sw_convert_passing.specs.Values.{dollar as passed_dollar}
 use Rattle.sw_convert_again.specs.Tokens.{tok, Old, Bytes, Dashed}
 use Rattle.sw_convert_again.specs.Tokens as again
 use Rattle.sw_convert_again.specs.Spells.{dollar}
 use Rattle.sw_convert_again.proofs.Tokens.{one_byte}
 use Rattle.sw_convert_tokens.specs.Joints.{Segment}
-use Rattle.sw_convert_tokens.specs.Written.{Follows, is_calm, gap_of, AsValue, WrittenAs}
+use Rattle.sw_convert_tokens.specs.Written.{Follows, is_calm, gap_of, Shape, AsValue, WrittenAs}
 use Rattle.sw_convert_tokens.specs.Values.{WasRead}
 use Rattle.sw_convert_tokens.specs.Variables.{VariablesAreWritten}
 use Rattle.sw_convert_tokens.proofs.Joins.{join, as_text, as_behind}
@@ -112,14 +114,28 @@ variable_segment source i name ts before spaced calm =
     (λ inside after code ok. sign_token kinds.Dollar after inside (behind_gap before (gap_of spaced)) refl code calm refl))
     name.segment (λ after f. tt)))
 
-pub variable_written : (source : Source) (i : ℕ) → WasRead source → Old source i (just terminals.VariableName)
-    → WrittenAs (AsValue false) (dollar_name (dashed (bytes_at source i)))
+-- what a variable is to be told as, by itself and behind a namespace
+abbrev pub Named : Shape → Type 0
+Named shape =
+    (mode : Mode) (spaced : Bool) (name : Sort) → is_name name ≡ true
+    → shape mode spaced (passed_dollar spaced ∷ direct name terminals.VariableName ∷ [])
+
+abbrev pub OwnedNamed : Shape → Type 0
+OwnedNamed shape =
+    (mode : Mode) (spaced : Bool) (owner name : Sort) → is_name owner ≡ true → is_name name ≡ true
+    → shape mode spaced
+    (written owner spaced terminals.Owner ∷ direct sorts.Dot terminals.OwnerDot
+    ∷ direct sorts.Dollar terminals.OwnerDollar ∷ direct name terminals.VariableName ∷ [])
+
+pub variable_written : {shape : Shape} → Named shape → (source : Source) (i : ℕ) → WasRead source
+    → Old source i (just terminals.VariableName)
+    → WrittenAs shape (dollar_name (dashed (bytes_at source i)))
     (dollar ∷ tok terminals.VariableName (Dashed (dashed (bytes_at source i))) ∷ [])
-variable_written source i was old before spaced calm =
+variable_written says source i was old before spaced calm =
     let name = variable_name source i was old in record {
       passed = _;
       segment = variable_segment source i name (terminals.Dollar ∷ terminals.DollarNamed ∷ []) before spaced calm;
-      told = λ mode b. variable name.sort name.is;
+      told = λ mode b. says mode (is_spaced (behind_gap before (gap_of spaced))) name.sort name.is;
     }
 
 -- this sign stands behind
@@ -134,13 +150,13 @@ dot_parts value after b =
     })
 
 -- a variable behind a namespace
-pub qualified_written : (source : Source) (i : ℕ) → WasRead source → Old source i (just terminals.Owner)
-    → Old source (suc (suc (suc i))) (just terminals.VariableName)
-    → WrittenAs (AsValue false) (qualified_text (qualified_of source i (suc (suc (suc i)))))
+pub qualified_written : {shape : Shape} → OwnedNamed shape → (source : Source) (i : ℕ) → WasRead source
+    → Old source i (just terminals.Owner) → Old source (suc (suc (suc i))) (just terminals.VariableName)
+    → WrittenAs shape (qualified_text (qualified_of source i (suc (suc (suc i)))))
     (tok terminals.Owner (Bytes 1 (bytes_at source i)) ∷ again.sign terminals.OwnerDot ∷ again.sign terminals.OwnerDollar
     ∷ tok terminals.VariableName (Dashed (dashed (bytes_at source (suc (suc (suc i)))))) ∷ [])
 unfolding byte
-qualified_written source i was owner old before spaced calm =
+qualified_written says source i was owner old before spaced calm =
     let it = old_token source was i owner.lexeme owner.there in
     let sort = sort_of it.kind it.text in
     let n : is_name sort ≡ true =
@@ -166,10 +182,10 @@ qualified_written source i was owner old before spaced calm =
           (join first
           (join dot (join sign_dollar name.segment (λ after f. tt)) (λ after f. (text ++ after, refl)))
           (λ after f. (codes "$" ++ (text ++ after), refl))));
-      told = λ mode b. owned_variable sort name.sort n name.is;
+      told = λ mode b. says mode (is_spaced (behind_gap before (gap_of spaced))) sort name.sort n name.is;
     }
 
 pub variables_written : VariablesAreWritten
 variables_written source i span was old =
     subst (λ (t : List ℕ). WrittenAs (AsValue false) t (dollar ∷ tok terminals.VariableName (Dashed (dashed (bytes_at source i))) ∷ []))
-    (sym (unrolled.variable_is (dashed (bytes_at source i)))) (variable_written source i was old)
+    (sym (unrolled.variable_is (dashed (bytes_at source i)))) (variable_written (λ mode spaced name n. variable name n) source i was old)

@@ -7,6 +7,7 @@ pub mod Stops
 mod ReservedWords
 pub mod Reserved
 mod Called
+mod InTexts
 mod Single
 mod Strings
 pub mod Values

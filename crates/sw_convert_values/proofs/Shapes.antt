@@ -32,19 +32,22 @@ use Rattle.sw_convert_written.specs.Expressions.{kind_shown, expr_text, is_divid
 use Rattle.sw_convert_written.proofs.Unrolled as unrolled
 use Rattle.sw_convert_again.specs.Tokens.{Tok}
 use Rattle.sw_convert_again.specs.Spells.{is_empty}
-use Rattle.sw_convert_tokens.specs.Written.{AsValue, AsRow, WrittenAs}
+use Rattle.sw_convert_tokens.specs.Written.{Shape, AsValue, AsRow, WrittenAs}
 use Rattle.sw_convert_tokens.proofs.Between.{is_binary}
 use Rattle.sw_convert_tokens.proofs.Variables.{Begins}
 
 -- the same text and tokens
+pub same_as : {shape : Shape} {xs ys : List ℕ} {ks ls : List Tok} → xs ≡ ys → ks ≡ ls → WrittenAs shape xs ks
+    → WrittenAs shape ys ls
+same_as {shape} {xs} {ys} {ks} {ls} e f a =
+    subst (λ (t : List Tok). WrittenAs shape ys t) f (subst (λ (t : List ℕ). WrittenAs shape t ks) e a)
+
 pub same : {signed : Bool} {xs ys : List ℕ} {ks ls : List Tok} → xs ≡ ys → ks ≡ ls → WrittenAs (AsValue signed) xs ks
     → WrittenAs (AsValue signed) ys ls
-same {signed} {xs} {ys} {ks} {ls} e f a =
-    subst (λ (t : List Tok). WrittenAs (AsValue signed) ys t) f (subst (λ (t : List ℕ). WrittenAs (AsValue signed) t ks) e a)
+same e f a = same_as e f a
 
 pub same_row : {xs ys : List ℕ} {ks ls : List Tok} → xs ≡ ys → ks ≡ ls → WrittenAs AsRow xs ks → WrittenAs AsRow ys ls
-same_row {xs} {ys} {ks} {ls} e f a =
-    subst (λ (t : List Tok). WrittenAs AsRow ys t) f (subst (λ (t : List ℕ). WrittenAs AsRow t ks) e a)
+same_row e f a = same_as e f a
 
 -- ---- texts of lists in brackets
 

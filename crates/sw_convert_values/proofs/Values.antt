@@ -37,9 +37,10 @@ use Rattle.sw_convert_written.specs.Signs.{operator_text, sign_text}
 use Rattle.sw_convert_written.specs.Expressions.{ShownLink, expr_text, expr_shown, link_shown, links_text, is_quotient, is_divide, is_number, items_behind, signs_text, pair_text, with_commas, quoted_text, of_argument, argument_text, piece_written}
 use Rattle.sw_convert_written.proofs.Unrolled as unrolled
 use Rattle.sw_convert_passing.specs.Standing.{is_prefix_sign, is_number_sign}
-use Rattle.sw_convert_again.specs.Tokens.{Tok, tok}
+use Rattle.sw_convert_passing.specs.Values as passing
+use Rattle.sw_convert_again.specs.Tokens.{Tok, tok, Extent}
 use Rattle.sw_convert_again.specs.Tokens as again
-use Rattle.sw_convert_again.specs.Spells.{undollared, Spells, SpellsWord, SpellsPlain, SpellsLinks, SpellsItems, SpellsCommas, SpellsPairs, SpellsSigns, SpellsArgument, SpellsMore, SpellsArguments, SpellsPieces, SpellsRow, unlisted, no_links, more_links, no_items, more_items, no_commas, more_commas, no_pairs, more_pairs, no_signs, more_signs, within, paren}
+use Rattle.sw_convert_again.specs.Spells.{undollared, Spells, SpellsWord, SpellsItem, SpellsText, SpellsPlain, SpellsLinks, SpellsItems, SpellsCommas, SpellsPairs, SpellsSigns, SpellsArgument, SpellsMore, SpellsArguments, SpellsPieces, SpellsRow, unlisted, no_links, more_links, no_items, more_items, no_commas, more_commas, no_pairs, more_pairs, no_signs, more_signs, within, paren}
 use Rattle.sw_convert_again.specs.Spells as spells
 use Rattle.sw_convert_tokens.specs.Written.{AsValue, AsRow, WrittenAs}
 use Rattle.sw_convert_tokens.specs.Values.{WasRead, IsValueWritten}
@@ -56,10 +57,13 @@ use Rattle.sw_convert_texts.proofs.OldHashes.{hash_written}
 use Rattle.sw_convert_tokens.proofs.Undollared.{placed_argument, spaced_argument}
 use Rattle.sw_convert_tokens.proofs.Arguments.{IsItems, AreArguments, ArgumentsBehind, value_argument, name_argument, first_argument, further_argument, colon_argument, dots_behind, no_arguments_written, arguments_written, guarded_written}
 use Rattle.sw_convert_tokens.proofs.Templates.{IsText, nothing_more, text_more, insert_more, template_written}
-use Rattle.sw_convert_texts.specs.Inserted.{RowHasValues, WordHasValues}
-use Rattle.sw_convert_texts.specs.Specials.{special_known}
+use Rattle.sw_convert_texts.specs.Inserted.{ItemHasValues, TextHasValues, RowHasValues, WordHasValues}
+use Rattle.sw_convert_texts.specs.InText.{InText, is_digits, value_fits}
+use Rattle.sw_convert_texts.specs.RawKinds.{gap_before}
+use Rattle.sw_convert_texts.specs.Specials.{is_alone, item_known, text_known, special_known}
 use Rattle.sw_convert_texts.specs.Urls.{is_unbroken}
-use Rattle.sw_convert_texts.proofs.SpecialWritten.{specials_written}
+use Rattle.sw_convert_texts.proofs.SpecialOlds.{text_told, enclosed_told}
+use Rattle.sw_convert_texts.proofs.SpecialWritten.{told_of, specials_written}
 use Rattle.sw_convert_texts.proofs.Urls.{urls_written}
 use Rattle.sw_convert_tokens.proofs.OldNumbers.{only_sign, plus_sort, numbers_written}
 use Rattle.sw_convert_tokens.proofs.Variables.{variable_written, qualified_written}
@@ -70,6 +74,7 @@ use Rattle.sw_convert_tokens.proofs.Decodings.{decoded_there}
 use Rattle.sw_convert_values.proofs.Shapes.{same, same_row, stays_as, list_around, bare_text, pieces_more, quoted_is, text_some, text_none, is_divided, again_behind, three, tokens_behind, parens_text, brackets_text}
 use Rattle.sw_convert_values.proofs.Starts.{is_clear, behind_old, behind_operator, behind_value, behind_signs}
 use Rattle.sw_convert_values.proofs.Stops.{before_old, before_links, before_items, before_commas, before_pairs, before_more, before_end}
+use Rattle.sw_convert_values.proofs.InTexts.{kept_number, kept_signed, kept_variable, kept_owned, call_alone, owned_call_alone}
 use Rattle.sw_convert_values.proofs.Called.{called_in, owned_in, arguments_as, named_text}
 use Rattle.sw_convert_values.proofs.Single.{unsigned, retold, constant_is, Either, row_in, plain_in, single, name_in, mixed_in}
 use Rattle.sw_convert_values.proofs.Firsts.{value_begun, IsBegun, begun_more}
@@ -104,10 +109,11 @@ module _ (source : Source) (was : WasRead source) (known : SinglesAreWritten sou
         inl (single source was known led ended (spells.url_template span opens inner close) refl)
     either led ended (spells.special {i} {k} {inserts} {tokens} {extents} span name opens inner close) =
         inl (by_test (IsWritten _ _ _) (special_known source name inner)
-        (λ e. unsigned (specials_written source i k span inserts tokens extents was name inner e))
+        (λ e. unsigned (specials_written source i k span inserts tokens extents was name inner e
+        (text_values inner false (bytes_at source i ++ codes "(") (gap_before source k ++ codes ")") (told_of source name inner e).known)))
         (λ e. single source was known led ended (spells.special span name opens inner close) (ap not e)))
     either led ended (spells.stays_number {i} span old) =
-        inl (unsigned (same (sym (stays_as (bytes_between source i (suc i)) span)) refl (number_kept source was i old)))
+        inl (unsigned (same (sym (stays_as (bytes_between source i (suc i)) span)) refl (number_kept source was (λ mode spaced sort n. passing.number sort n) i old)))
     either led ended (spells.stays_signed {i} span one two) = inl (by_sign (sign_bytes source was i one))
       where
         by_sign : (bytes_at source i ≡ codes "+") ⊎ (bytes_at source i ≡ codes "-")
@@ -115,7 +121,7 @@ module _ (source : Source) (was : WasRead source) (known : SinglesAreWritten sou
             (tok terminals.Sign (again.Bytes 2 (bytes_between source i (suc (suc i)))) ∷ again.sign terminals.Number ∷ [])
         by_sign (inl e) = record {
           signed = true;
-          written = same (sym (stays_as (bytes_between source i (suc (suc i))) span)) refl (plus_kept source was i one two e);
+          written = same (sym (stays_as (bytes_between source i (suc (suc i))) span)) refl (plus_kept source was (λ mode spaced sort n. passing.positive sort n) i one two e);
           sign = λ s. record {
             lexeme = one.lexeme;
             there = one.there;
@@ -123,13 +129,13 @@ module _ (source : Source) (was : WasRead source) (known : SinglesAreWritten sou
           };
         }
         by_sign (inr e) =
-            unsigned (same (sym (stays_as (bytes_between source i (suc (suc i))) span)) refl (minus_kept source was i one two e))
+            unsigned (same (sym (stays_as (bytes_between source i (suc (suc i))) span)) refl (minus_kept source was (λ mode spaced sort n. passing.negative sort n) i one two e))
     either led ended (spells.variable {i} span one two) =
         inl (unsigned (same (sym (unrolled.variable_is (dashed (bytes_at source (suc i))))) refl
-        (variable_written source (suc i) was two)))
+        (variable_written (λ mode spaced name n. passing.variable name n) source (suc i) was two)))
     either led ended (spells.owned_variable {i} span one two third four) =
         inl (unsigned (same (sym (unrolled.qualified_is (qualified_of source i (suc (suc (suc i)))))) refl
-        (qualified_written source i was one four)))
+        (qualified_written (λ mode spaced owner name o n. passing.owned_variable owner name o n) source i was one four)))
     either led ended (spells.range {i} span old) = inl (unsigned (range_written source i span was old))
     either led ended (spells.word span (spells.named old spells.row_end)) = inl (name_in source was known led ended span old)
     either led ended (spells.word span (spells.named old (spells.row_part one more))) =
@@ -343,6 +349,39 @@ module _ (source : Source) (was : WasRead source) (known : SinglesAreWritten sou
     word_values (spells.begun {value = value} opens inner close row) = (row_in value (either (behind_old opens refl) (before_old close refl) inner), row_values refl row)
     word_values (spells.begun_minus {value = value} minus opens inner close row) =
         (row_in value (either (behind_old opens refl) (before_old close refl) inner), row_values refl row)
+
+    -- values in the text of a special function
+    alone_in : {i k : ℕ} {value : Expr} {tokens : List Tok} → (inner : Spells source i k value tokens) → is_alone inner ≡ true
+        → WrittenAs (InText (is_digits inner) (value_fits inner)) (expr_text value) tokens
+    alone_in (spells.stays_number span old) e = kept_number source was span old
+    alone_in (spells.stays_signed span one two) e = kept_signed source was span one two
+    alone_in (spells.variable span one two) e = kept_variable source was span two
+    alone_in (spells.owned_variable span one two third four) e = kept_owned source was span one four
+    alone_in (spells.call {args = args} span name_span name opens inner close) e =
+        call_alone source was args span name_span name e (arguments_in (behind_old opens refl) (before_old close refl) inner)
+    alone_in (spells.owned_call {args = args} span name_span owner dot name opens inner close) e =
+        owned_call_alone source was args span name_span owner name e (arguments_in (behind_old opens refl) (before_old close refl) inner)
+    alone_in _ e = absurd (cc)
+
+    item_values : {i k : ℕ} {parts : List Part} {tokens : List Tok} {extents : List Extent}
+        (item : SpellsItem source i k parts tokens extents) (ended parens digits : Bool) (front behind : List ℕ)
+        → item_known source item ended parens digits front behind ≡ true → ItemHasValues item
+    item_values (spells.item_token old) ended parens digits front behind e = tt
+    item_values (spells.item_insert {value = value} opens inner close) ended parens digits front behind e =
+        row_in value (either (behind_old opens refl) (before_old close refl) inner)
+    item_values (spells.item_value inner) ended parens digits front behind e = alone_in inner (and_left (is_alone inner) _ e)
+    item_values (spells.item_parens opens inner close) ended parens digits front behind e =
+        text_values inner false _ _ (enclosed_told source was inner (codes "(") (codes ")") front behind e).inside
+    item_values (spells.item_brackets opens inner close) ended parens digits front behind e =
+        text_values inner false _ _ (enclosed_told source was inner (codes "[") (codes "]") front behind e).inside
+
+    text_values : {i j : ℕ} {parts : List Part} {tokens : List Tok} {extents : List Extent}
+        (text : SpellsText source i j parts tokens extents) (ended : Bool) (front behind : List ℕ)
+        → text_known source text ended front behind ≡ true → TextHasValues text
+    text_values spells.text_end ended front behind e = tt
+    text_values (spells.text_more item text) ended front behind e =
+        let told = text_told source was item text ended front behind e in
+        (item_values item ended _ _ _ _ told.one, text_values text _ _ behind told.rest)
 
     -- text and values in a string, behind a text or not
     pieces_in : (behind : Bool) → {i j : ℕ} {texts : List Piece} {tokens : List Tok} → (behind ≡ true → TextBefore source i)
