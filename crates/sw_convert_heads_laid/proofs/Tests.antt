@@ -130,7 +130,7 @@ left_so insides.Interpolation n e = absurd (cc)
 left_so _ n e = refl
 
 -- outside strings, urls and `#{}`
-ground_count : (change : Change) → leaves insides.Sheet change ≡ true → inserts (opened [] change) ≡ 0
+pub ground_count : (change : Change) → leaves insides.Sheet change ≡ true → inserts (opened [] change) ≡ 0
 ground_count changes.Keep l = refl
 ground_count (changes.Push x) l = left_so x 0 l
 ground_count changes.Pop l = refl
@@ -140,12 +140,12 @@ keep_is changes.Keep e = refl
 keep_is (changes.Push x) e = absurd (cc)
 keep_is changes.Pop e = absurd (cc)
 
-pop_is : (change : Change) → pops change ≡ true → change ≡ changes.Pop
+pub pop_is : (change : Change) → pops change ≡ true → change ≡ changes.Pop
 pop_is changes.Pop e = refl
 pop_is changes.Keep e = absurd (cc)
 pop_is (changes.Push x) e = absurd (cc)
 
-insert_is : (change : Change) → opens_insert change ≡ true → change ≡ changes.Push insides.Interpolation
+pub insert_is : (change : Change) → opens_insert change ≡ true → change ≡ changes.Push insides.Interpolation
 insert_is (changes.Push insides.Interpolation) e = refl
 insert_is changes.Keep e = absurd (cc)
 insert_is changes.Pop e = absurd (cc)
@@ -184,7 +184,7 @@ inner_plain custom (suc n) bs kinds.CommentEnd t = refl
 inner_plain custom (suc n) bs _ t = absurd (cc)
 
 -- the count stays where no `#{}` is opened or closed
-count_stays : (inside : Inside) (outer : List Inside) (change : Change) → leaves inside change ≡ true
+pub count_stays : (inside : Inside) (outer : List Inside) (change : Change) → leaves inside change ≡ true
     → inserts (opened (inside ∷ outer) change) ≡ inserts (inside ∷ outer)
 count_stays inside outer changes.Keep l = refl
 count_stays inside outer (changes.Push x) l = left_so x (with_one inside (inserts outer)) l

@@ -4,4 +4,4 @@
 
 mod laws;
 
-pub use laws::fronts_are_lines;
+pub use laws::{fronts_are_lines, held_texts_hold};
