@@ -33,32 +33,45 @@ abbrev pub begins_some : List Piece → Bool
 begins_some list = is_begun (map piece_written list)
 
 -- what ends a value, but for a `(`
-abbrev is_near : ℕ → Bool
-is_near b = is_mild b || ((b == sign "]") || (b == sign "/"))
+abbrev pub is_near : ℕ → Bool
+is_near b = is_mild b || ((b == sign "]") || ((b == sign "/") || (b == sign "*")))
+
+-- it is no white space but a space
+near_white : (b : ℕ) (t : Bool) → is_near b ≡ true → ((b == sign " ") && t) ≡ false → (is_white b && t) ≡ false
+near_white b t e f = go (is_white b) refl
+  where
+    space : (b : ℕ) → is_near b ≡ true → is_white b ≡ true → (b == sign " ") ≡ true
+    space b e f = grind (arith, nat_tests)
+
+    go : (w : Bool) → is_white b ≡ w → (w && t) ≡ false
+    go false i = refl
+    go true i = sym (ap (λ (x : Bool). x && t) (space b e i)) ∙ f
+
+-- what is told where a value ends
+pub record Ends (value : List ℕ) (b : ℕ) : Type 0 where
+  pub near : is_near b ≡ true
+  pub opened : (b == sign "(") ≡ false
+  pub closed : (is_white b && ends_unclosed value) ≡ false
+
+pub value_ended : (value : List ℕ) (b : ℕ) → value_ends value b ≡ true → Ends value b
+value_ended value b e =
+    let spaceless = not ((b == sign " ") && ends_unclosed value) in
+    let near = and_left (is_near b) (not (b == sign "(") && spaceless) e in
+    let rest = and_right (is_near b) (not (b == sign "(") && spaceless) e in record {
+      near = near;
+      opened = not_true (b == sign "(") (and_left (not (b == sign "(")) spaceless rest);
+      closed = near_white b (ends_unclosed value) near
+          (not_true ((b == sign " ") && ends_unclosed value) (and_right (not (b == sign "(")) spaceless rest));
+    }
 
 ends_so : (value : List ℕ) (b : ℕ) → value_ends value b ≡ true
     → (not (is_loose_start b) || (is_white b && ends_unclosed value)) ≡ false
 ends_so value b e =
-    let spaceless = not ((b == sign " ") && ends_unclosed value) in
-    let rest = and_right (is_near b) (not (b == sign "(") && spaceless) e in
-    let first = and_left (is_near b) (not (b == sign "(") && spaceless) e in
-    let closed = not_true ((b == sign " ") && ends_unclosed value) (and_right (not (b == sign "(")) spaceless rest) in
-    let opened = not_true (b == sign "(") (and_left (not (b == sign "(")) spaceless rest) in
-    neither (not (is_loose_start b)) (is_white b && ends_unclosed value) (ap not (loose b first opened))
-    (white b (ends_unclosed value) first closed)
+    let it = value_ended value b e in
+    neither (not (is_loose_start b)) (is_white b && ends_unclosed value) (ap not (loose b it.near it.opened)) it.closed
   where
     loose : (b : ℕ) → is_near b ≡ true → (b == sign "(") ≡ false → is_loose_start b ≡ true
     loose b e f = grind (arith, nat_tests)
-
-    space : (b : ℕ) → is_near b ≡ true → is_white b ≡ true → (b == sign " ") ≡ true
-    space b e f = grind (arith, nat_tests)
-
-    white : (b : ℕ) (t : Bool) → is_near b ≡ true → ((b == sign " ") && t) ≡ false → (is_white b && t) ≡ false
-    white b t e f = go (is_white b) refl
-      where
-        go : (w : Bool) → is_white b ≡ w → (w && t) ≡ false
-        go false i = refl
-        go true i = sym (ap (λ (x : Bool). x && t) (space b e i)) ∙ f
 
 -- a value before others
 value_then : (value : List ℕ) (list : List Written) → is_loose list ≡ true → is_begun list ≡ true

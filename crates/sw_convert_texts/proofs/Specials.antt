@@ -47,6 +47,7 @@ use Rattle.sw_convert_tokens.proofs.Signs.{lone_token, calm_piece}
 use Rattle.sw_convert_texts.specs.RawKinds.{gap_before, sort_there, is_some}
 use Rattle.sw_convert_texts.specs.Specials.{item_text, special_text, is_mild, name_ends, is_parens, is_number_item, begins_parens, begins_digits, is_text, is_comma, value_ends, ends_value}
 use Rattle.sw_convert_texts.proofs.AroundTexts.{CutFrom, cut_token}
+use Rattle.sw_convert_texts.proofs.JoinedPieces.{is_near, Ends, value_ended}
 use Rattle.sw_convert_texts.proofs.NameTokens.{Quiet, Settled}
 use Rattle.sw_convert_texts.proofs.RawNames.{RawToken}
 use Rattle.sw_convert_texts.proofs.RawRows.{Placed}
@@ -103,39 +104,19 @@ one_same x xs ys = first_byte x xs ∙ sym (first_byte x ys)
 pub value_follows : (value after : List ℕ) → value_ends value (byte after 0) ≡ true → Follows value after
 value_follows value [] e = record { stop = refl; closed = refl }
 value_follows value (b ∷ after) e = record {
-  stop = either (is_stop b) (is_dots (b ∷ after)) (stop b first opened);
-  closed = closed b (ends_unclosed value) first (not_true ((b == sign " ") && ends_unclosed value) (and_right (not (b == sign "(")) _ rest));
+  stop = either (is_stop b) (is_dots (b ∷ after)) (stop b it.near it.opened);
+  closed = it.closed;
 }
   where
-    here : value_ends value b ≡ true
-    here = ap (value_ends value) (sym (first_byte b after)) ∙ e
-
-    first : (is_mild b || ((b == sign "]") || (b == sign "/"))) ≡ true
-    first = and_left (is_mild b || _) _ here
-
-    rest : (not (b == sign "(") && not ((b == sign " ") && ends_unclosed value)) ≡ true
-    rest = and_right (is_mild b || _) _ here
-
-    opened : (b == sign "(") ≡ false
-    opened = not_true (b == sign "(") (and_left (not (b == sign "(")) _ rest)
+    it : Ends value b
+    it = value_ended value b (ap (value_ends value) (sym (first_byte b after)) ∙ e)
 
     either : (t u : Bool) → t ≡ true → (t || u) ≡ true
     either true u f = refl
     either false u f = absurd (cc)
 
-    stop : (b : ℕ) → (is_mild b || ((b == sign "]") || (b == sign "/"))) ≡ true → (b == sign "(") ≡ false → is_stop b ≡ true
+    stop : (b : ℕ) → is_near b ≡ true → (b == sign "(") ≡ false → is_stop b ≡ true
     stop b f o = grind (arith, nat_tests)
-
-    space : (b : ℕ) → (is_mild b || ((b == sign "]") || (b == sign "/"))) ≡ true → is_white b ≡ true → (b == sign " ") ≡ true
-    space b f w = grind (arith, nat_tests)
-
-    closed : (b : ℕ) (t : Bool) → (is_mild b || ((b == sign "]") || (b == sign "/"))) ≡ true → ((b == sign " ") && t) ≡ false
-        → (is_white b && t) ≡ false
-    closed b t f g = go (is_white b) refl
-      where
-        go : (w : Bool) → is_white b ≡ w → (w && t) ≡ false
-        go false i = refl
-        go true i = sym (ap (λ (x : Bool). x && t) (space b f i)) ∙ g
 
 -- ---- sorts
 

@@ -168,7 +168,7 @@ is_alone _ = false
 -- a byte that neither goes on with a value nor belongs to an escape at its end
 abbrev pub value_ends : List ℕ → ℕ → Bool
 value_ends value b =
-    (is_mild b || ((b == sign "]") || (b == sign "/")))
+    (is_mild b || ((b == sign "]") || ((b == sign "/") || (b == sign "*"))))
     && (not (b == sign "(") && not ((b == sign " ") && ends_unclosed value))
 
 -- ---- what is told of the text

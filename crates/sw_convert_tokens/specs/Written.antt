@@ -28,7 +28,7 @@ abbrev pub is_stop : ℕ → Bool
 is_stop b =
     (b == sign " ")
     || ((b == sign ")") || ((b == sign "]") || ((b == sign "}") || ((b == sign "{") || ((b == sign ",")
-    || ((b == sign ":") || ((b == sign ";") || (b == sign "/"))))))))
+    || ((b == sign ":") || ((b == sign ";") || ((b == sign "/") || (b == sign "*")))))))))
 
 abbrev pub is_dots : List ℕ → Bool
 is_dots (a ∷ b ∷ c ∷ rest) = (a == sign ".") && ((b == sign ".") && (c == sign "."))
