@@ -70,6 +70,7 @@ fn call_given_up<W: World, B: Below<W>>(
 
 /// The value of an expression, as `value_one` gives it, with which a variable gives up what it holds: where a built-in
 /// function makes its first argument grow, the variable gives it up before that. `docs/LANGUAGE.md`, "Evaluation".
+#[inline(never)]
 pub fn value_given_up<W: World, B: Below<W>>(
     walk: &mut Walk,
     level: Level<B>,

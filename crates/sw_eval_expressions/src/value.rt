@@ -202,6 +202,7 @@ fn map<W: World, B: Below<W>>(
 
 /// The value of an expression, over what evaluates the level below it, or the first fault. `docs/LANGUAGE.md`,
 /// "Evaluation".
+#[inline(always)]
 pub fn value_one<W: World, B: Below<W>>(
     walk: &mut Walk,
     level: Level<B>,
