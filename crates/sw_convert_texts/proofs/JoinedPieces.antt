@@ -32,15 +32,11 @@ is_begun _ = true
 abbrev pub begins_some : List Piece → Bool
 begins_some list = is_begun (map piece_written list)
 
--- what ends a value, but for a `(`
-abbrev pub is_near : ℕ → Bool
-is_near b = is_mild b || ((b == sign "]") || ((b == sign "/") || (b == sign "*")))
-
--- it is no white space but a space
-near_white : (b : ℕ) (t : Bool) → is_near b ≡ true → ((b == sign " ") && t) ≡ false → (is_white b && t) ≡ false
+-- what ends a name or a value is no white space but a space
+near_white : (b : ℕ) (t : Bool) → is_mild b ≡ true → ((b == sign " ") && t) ≡ false → (is_white b && t) ≡ false
 near_white b t e f = go (is_white b) refl
   where
-    space : (b : ℕ) → is_near b ≡ true → is_white b ≡ true → (b == sign " ") ≡ true
+    space : (b : ℕ) → is_mild b ≡ true → is_white b ≡ true → (b == sign " ") ≡ true
     space b e f = grind (arith, nat_tests)
 
     go : (w : Bool) → is_white b ≡ w → (w && t) ≡ false
@@ -49,15 +45,15 @@ near_white b t e f = go (is_white b) refl
 
 -- what is told where a value ends
 pub record Ends (value : List ℕ) (b : ℕ) : Type 0 where
-  pub near : is_near b ≡ true
+  pub near : is_mild b ≡ true
   pub opened : (b == sign "(") ≡ false
   pub closed : (is_white b && ends_unclosed value) ≡ false
 
 pub value_ended : (value : List ℕ) (b : ℕ) → value_ends value b ≡ true → Ends value b
 value_ended value b e =
     let spaceless = not ((b == sign " ") && ends_unclosed value) in
-    let near = and_left (is_near b) (not (b == sign "(") && spaceless) e in
-    let rest = and_right (is_near b) (not (b == sign "(") && spaceless) e in record {
+    let near = and_left (is_mild b) (not (b == sign "(") && spaceless) e in
+    let rest = and_right (is_mild b) (not (b == sign "(") && spaceless) e in record {
       near = near;
       opened = not_true (b == sign "(") (and_left (not (b == sign "(")) spaceless rest);
       closed = near_white b (ends_unclosed value) near
@@ -70,7 +66,7 @@ ends_so value b e =
     let it = value_ended value b e in
     neither (not (is_loose_start b)) (is_white b && ends_unclosed value) (ap not (loose b it.near it.opened)) it.closed
   where
-    loose : (b : ℕ) → is_near b ≡ true → (b == sign "(") ≡ false → is_loose_start b ≡ true
+    loose : (b : ℕ) → is_mild b ≡ true → (b == sign "(") ≡ false → is_loose_start b ≡ true
     loose b e f = grind (arith, nat_tests)
 
 -- a value before others

@@ -47,7 +47,7 @@ use Rattle.sw_convert_tokens.proofs.Signs.{lone_token, calm_piece}
 use Rattle.sw_convert_texts.specs.RawKinds.{gap_before, sort_there, is_some}
 use Rattle.sw_convert_texts.specs.Specials.{item_text, special_text, is_mild, name_ends, is_parens, is_number_item, begins_parens, begins_digits, is_text, is_comma, value_ends, ends_value}
 use Rattle.sw_convert_texts.proofs.AroundTexts.{CutFrom, cut_token}
-use Rattle.sw_convert_texts.proofs.JoinedPieces.{is_near, Ends, value_ended}
+use Rattle.sw_convert_texts.proofs.JoinedPieces.{Ends, value_ended}
 use Rattle.sw_convert_texts.proofs.NameTokens.{Quiet, Settled}
 use Rattle.sw_convert_texts.proofs.RawNames.{RawToken}
 use Rattle.sw_convert_texts.proofs.RawRows.{Placed}
@@ -115,7 +115,7 @@ value_follows value (b ∷ after) e = record {
     either true u f = refl
     either false u f = absurd (cc)
 
-    stop : (b : ℕ) → is_near b ≡ true → (b == sign "(") ≡ false → is_stop b ≡ true
+    stop : (b : ℕ) → is_mild b ≡ true → (b == sign "(") ≡ false → is_stop b ≡ true
     stop b f o = grind (arith, nat_tests)
 
 -- ---- sorts

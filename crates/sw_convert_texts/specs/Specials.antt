@@ -79,9 +79,11 @@ abbrev mutual
 
 -- ---- what is told of tokens
 
--- a space, a comma or a parenthesis
+-- a space, a comma, a parenthesis, a closing bracket, a `/` or a `*`
 abbrev pub is_mild : ℕ → Bool
-is_mild b = (b == sign " ") || ((b == sign ",") || ((b == sign "(") || (b == sign ")")))
+is_mild b =
+    (b == sign " ")
+    || ((b == sign ",") || ((b == sign "(") || ((b == sign ")") || ((b == sign "]") || ((b == sign "/") || (b == sign "*"))))))
 
 -- a name at whose end no escape is open, before such a byte with which it begins no url
 abbrev pub name_ends : List ℕ → ℕ → Bool
@@ -165,11 +167,9 @@ is_alone {source} (spells.call span name_span name opens inner close) = is_plain
 is_alone {source} (spells.owned_call span name_span owner dot name opens inner close) = is_plainly_called source true name
 is_alone _ = false
 
--- a byte that neither goes on with a value nor belongs to an escape at its end
+-- such a byte but a `(`, and no space that belongs to an escape at the end of a value
 abbrev pub value_ends : List ℕ → ℕ → Bool
-value_ends value b =
-    (is_mild b || ((b == sign "]") || ((b == sign "/") || (b == sign "*"))))
-    && (not (b == sign "(") && not ((b == sign " ") && ends_unclosed value))
+value_ends value b = is_mild b && (not (b == sign "(") && not ((b == sign " ") && ends_unclosed value))
 
 -- ---- what is told of the text
 
