@@ -1,9 +1,7 @@
-use Rattle.std.proofs.Common.{◌≡◌, ◌↔◌, List, Some, IsTrue, slice_get, sym, ◌∙◌, ap, subst}
+use Rattle.std.proofs.Common.{◌≡◌, List, Some, slice_get, sym, ◌∙◌, ap, subst}
 use Rattle.std.specs.Option.{option_copied}
 use Rattle.std.proofs.lemmas.Option.{slice_get_within}
-use Rattle.sw_world.specs.declared.question.Question.{Question}
 use Rattle.sw_world.specs.Body.{Pair}
-use Rattle.sw_world.specs.Questions.{IsLoad}
 use Rattle.sw_keeper.proofs.Replays.{at_load}
 use Rattle.sw_keeper.proofs.loading.are_at_load.Goals as goal
 
@@ -16,4 +14,4 @@ returns-in-Some-get g c =
     at_load g.E.Engine.body c.args.going.now.runs.now c.args.going.now.alive c.args.going.now.at c.in-Some.near c.get-run.result.now c.in-Some-get.field-0.now c.is_load.result c.requires c.in-Some.ensures.marked
     (c.run_at.ensures ∙ ap Some (sym c.get-run.ensures))
     (subst (λ (l : List Pair). slice_get l c.args.going.now.at ≡ Some c.in-Some-get.field-0.now) c.seen.ensures.seen (sym c.get.ensures ∙ ap option_copied c.in-Some-get.is))
-    (subst (λ (q : Question). IsTrue c.is_load.result ↔ IsLoad q) (ap (λ (p : Pair). p.0) (sym c.in-Some-get.field-0-is)) c.is_load.ensures)
+    c.is_load.ensures
